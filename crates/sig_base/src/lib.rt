@@ -13,6 +13,7 @@ pub use refusal::{Detail, Fault, Place, Refusal};
 pub use shelf::Shelf;
 pub use streams::{Sink, Source};
 pub use text::Text;
+pub use texts::Texts;
 
 mod bytes;
 mod code;
@@ -26,3 +27,4 @@ mod refusal;
 mod shelf;
 mod streams;
 mod text;
+mod texts;
