@@ -1,0 +1,6 @@
+mod Machine
+mod Complete
+mod Scanned
+mod Characters
+mod Read
+mod Stops

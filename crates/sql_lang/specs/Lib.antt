@@ -1,0 +1,9 @@
+pub mod Tokens
+pub mod Grammar
+pub mod Schema
+pub mod Expression
+pub mod Faults
+pub mod Reading
+pub mod Meaning
+pub mod Layout
+pub mod SameText
