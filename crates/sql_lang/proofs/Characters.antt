@@ -1,11 +1,10 @@
 -- The text of a query is made of characters.
 use Rattle.std.proofs.Common.{ℕ, ◌≡◌, refl, Bool, true, false, List, [], ◌∷◌, ◌++◌, codes, arith, inl, inr}
-use Rattle.std.specs.Prelude.{not}
 use Rattle.std.specs.List.{list_all}
 use Rattle.std.specs.Str.{all_scalars}
 use Rattle.std.proofs.Math.Utf8.{scalar}
 use Rattle.std.proofs.lemmas.Bool.Decides.{eqb_tells, nat_tests}
-use Rattle.sql_lang.specs.Tokens.{Keyword, SELECT, FROM, WHERE, OR, AND, NOT, IS, NULL, LIKE, ESCAPE, GLOB, REGEXP, IN, BETWEEN, COLLATE, NOCASE, BINARY, Op, Eq, Ne, Lt, Lte, Gt, Gte, Sort, Word, Name, Text, Number, Opening, Closing, Comma, Star, Semicolon, Compares, Unclosed, Other, is_digit, are_digits, unsigned, has_null_character}
+use Rattle.sql_lang.specs.Tokens.{Keyword, SELECT, FROM, WHERE, OR, AND, NOT, IS, NULL, LIKE, ESCAPE, GLOB, REGEXP, IN, BETWEEN, COLLATE, NOCASE, BINARY, Op, Eq, Ne, Lt, Lte, Gt, Gte, Sort, Word, Name, Text, Number, Opening, Closing, Comma, Star, Semicolon, Compares, Unclosed, Other, is_digit, are_digits, unsigned, is_plain}
 use Rattle.sql_lang.specs.Grammar.{Ors, last_and, and_or, Ands, last_not, not_and, Nots, not_not, a_test, enclosed, Query, spell_test, spell_or, spell_and, spell_nots, spell_head, spell_end}
 use Rattle.sql_lang.specs.Layout.{doubled, in_quotes, keyword_text, op_text, token_text, has_text, spaced, text_or, text_and, text_not, text_end, text_query, is_writable}
 use Rattle.sql_lang.proofs.Scanned.{both_true, texts_parted, number_digits, minus_or}
@@ -77,7 +76,7 @@ number_scalars (c ∷ v) all = elim (minus_or c v all)
 token_scalars : (t : Sort) → has_text t ≡ true → all_scalars (token_text t) ≡ true
 token_scalars (Word k) has = keyword_scalars k
 token_scalars (Name n) has = quoted_scalars 34 n refl has
-token_scalars (Text t) has = quoted_scalars 39 t refl (both_true (all_scalars t) (not (has_null_character t)) has).0
+token_scalars (Text t) has = quoted_scalars 39 t refl (both_true (all_scalars t) (is_plain t) has).0
 token_scalars (Number w) has = number_scalars w (number_digits w has)
 token_scalars Opening has = refl
 token_scalars Closing has = refl

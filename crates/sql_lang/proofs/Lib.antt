@@ -4,3 +4,4 @@ mod Scanned
 mod Characters
 mod Read
 mod Stops
+mod Laid

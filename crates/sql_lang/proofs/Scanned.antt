@@ -1,11 +1,11 @@
 -- The text of a query is scanned as the query's spelling.
 use Rattle.std.proofs.Common.{ℕ, ◌≡◌, refl, sym, ◌∙◌, ap, Bool, true, false, List, [], ◌∷◌, ◌++◌, codes, append_assoc, append-nil, ◌&&◌, arith, ◌⊎◌, inl, inr, subst}
-use Rattle.std.specs.Prelude.{not, ◌==◌, if◌then◌else◌}
+use Rattle.std.specs.Prelude.{◌==◌, if◌then◌else◌}
 use Rattle.std.specs.List.{list_all}
 use Rattle.std.specs.Str.{all_scalars}
 use Rattle.std.proofs.lemmas.List.Folds.{list_all-append}
 use Rattle.std.proofs.lemmas.Bool.Decides.{eqb_tells, nat_tests}
-use Rattle.sql_lang.specs.Tokens.{At, Keyword, SELECT, FROM, WHERE, OR, AND, NOT, IS, NULL, LIKE, ESCAPE, GLOB, REGEXP, IN, BETWEEN, COLLATE, NOCASE, BINARY, Op, Eq, Ne, Lt, Lte, Gt, Gte, Sort, Word, Name, Text, Number, Opening, Closing, Comma, Star, Semicolon, Compares, Unclosed, Other, Mode, Outside, Whole, InRun, InQuotes, AfterQuotes, start, after, scan, tokens, origin, sorts, run_sort, text_sort, quoted_sort, is_run_char, is_digit, is_number, are_digits, unsigned, has_null_character}
+use Rattle.sql_lang.specs.Tokens.{At, Keyword, SELECT, FROM, WHERE, OR, AND, NOT, IS, NULL, LIKE, ESCAPE, GLOB, REGEXP, IN, BETWEEN, COLLATE, NOCASE, BINARY, Op, Eq, Ne, Lt, Lte, Gt, Gte, Sort, Word, Name, Text, Number, Opening, Closing, Comma, Star, Semicolon, Compares, Unclosed, Other, Mode, Outside, Whole, InRun, InQuotes, AfterQuotes, start, after, scan, tokens, origin, sorts, run_sort, text_sort, quoted_sort, is_run_char, is_digit, is_number, are_digits, unsigned, is_plain}
 use Rattle.sql_lang.specs.Grammar.{Ors, last_and, and_or, Ands, last_not, not_and, Nots, not_not, a_test, enclosed, Query, spell_test, spell_or, spell_and, spell_nots, spell_head, spell_end, spell_query}
 use Rattle.sql_lang.specs.Layout.{doubled, in_quotes, keyword_text, op_text, token_text, has_text, spaced, text_or, text_and, text_not, text_end, text_query, is_writable}
 
@@ -244,8 +244,8 @@ scans_name n p rest parts = quoted 34 (inl refl) n [] p (after p 34) rest parts
 plain_text : (t : List ℕ) → has_text (Text t) ≡ true → text_sort t ≡ Text t
 unfolding text_sort
 plain_text t has =
-    elim (has_null_character t) as (λ b. not b ≡ true → (if b then Other else Text t) ≡ Text t) [ true ↦ λ h. absurd cc | false ↦ λ h. refl ]
-    (both_true (all_scalars t) (not (has_null_character t)) has).1
+    elim (is_plain t) as (λ b. b ≡ true → (if b then Text t else Other) ≡ Text t) [ true ↦ λ h. refl | false ↦ λ h. absurd cc ]
+    (both_true (all_scalars t) (is_plain t) has).1
 
 scans_text : (t : List ℕ) → has_text (Text t) ≡ true → Scans (in_quotes 39 t) (Text t ∷ [])
 unfolding scan

@@ -2,7 +2,8 @@
 use Rattle.std.specs.Prelude.{ℕ, ◌+◌, max, Bool, List, [], ◌∷◌, Option, Some, None, ℤ}
 use Rattle.sql_lang.specs.Tokens.{Op, number_of}
 use Rattle.sql_lang.specs.Grammar.{Collate, Unsaid, NoCase, Binary, Literal, a_text, a_number, Right, a_name, a_literal, Leaf, constant, is_null, compares, like, glob, one_of, between, Ors, last_and, and_or, Ands, last_not, not_and, Nots, not_not, a_test, enclosed}
-use Rattle.sql_lang.specs.Schema.{Column, column_of}
+use Rattle.event_schema.specs.declared.schema.Field.{Field}
+use Rattle.sql_lang.specs.Names.{column_of}
 
 pub data Operand : Type 0 where
   ColumnAt : ℕ → Operand
@@ -47,10 +48,10 @@ escape_of (Some []) = None
 escape_of (Some (c ∷ [])) = Some c
 escape_of (Some (c ∷ d ∷ cs)) = None
 
-module _ (columns : List Column) where
+module _ (fields : List Field) where
   -- a name that is no column's is a fault
   abbrev pub number_at : List ℕ → ℕ
-  number_at name = or_zero (column_of columns name)
+  number_at name = or_zero (column_of fields name)
 
   abbrev pub literal_operand : Literal → Operand
   literal_operand (a_text t) = Text t

@@ -3,7 +3,11 @@ use Rattle.std.specs.Prelude.{ℕ, zero, suc, ◌+◌, Bool, true, false, not, �
 use Rattle.std.specs.List.{list_any}
 use Rattle.sql_lang.specs.Tokens.{At, origin, Op, Eq, Ne}
 use Rattle.sql_lang.specs.Grammar.{Collate, Unsaid, NoCase, Binary, Literal, a_text, a_number, Right, a_name, a_literal, Leaf, constant, is_null, compares, like, glob, one_of, between, spell_collate, spell_not, spell_and, spell_nots, Ors, last_and, and_or, Ands, last_not, not_and, Nots, not_not, a_test, enclosed, Query}
-use Rattle.sql_lang.specs.Schema.{Kind, Text, Whole, Address, Column, Schema, is_named, kind_of}
+use Rattle.event_schema.specs.declared.schema.Field.{Field}
+use Rattle.event_schema.specs.declared.schema.FieldKind.{FieldKind}
+use Rattle.event_schema.specs.declared.schema.FieldKind.TheVariants as kinds
+use Rattle.event_schema.specs.declared.schema.Schema.{Schema}
+use Rattle.sql_lang.specs.Names.{is_named, kind_of}
 
 -- a refusal: its number and its place
 pub record Fault : Type 0 where
@@ -43,19 +47,19 @@ is_bad_glob (c ∷ d ∷ x ∷ xs) =
 
 -- ---- kinds: a name that is no column's is of no kind
 
-abbrev pub is_whole : Option Kind → Bool
-is_whole (Some Whole) = true
-is_whole (Some Text) = false
-is_whole (Some Address) = false
+abbrev pub is_whole : Option FieldKind → Bool
+is_whole (Some kinds.Whole) = true
+is_whole (Some kinds.Text) = false
+is_whole (Some kinds.Address) = false
 is_whole None = false
 
-abbrev pub is_not_whole : Option Kind → Bool
-is_not_whole (Some Whole) = false
-is_not_whole (Some Text) = true
-is_not_whole (Some Address) = true
+abbrev pub is_not_whole : Option FieldKind → Bool
+is_not_whole (Some kinds.Whole) = false
+is_not_whole (Some kinds.Text) = true
+is_not_whole (Some kinds.Address) = true
 is_not_whole None = false
 
-abbrev pub is_unknown : Option Kind → Bool
+abbrev pub is_unknown : Option FieldKind → Bool
 is_unknown None = true
 is_unknown (Some k) = false
 
@@ -73,15 +77,15 @@ abbrev pub is_text : Literal → Bool
 is_text (a_text t) = true
 is_text (a_number w) = false
 
-module _ (columns : List Column) where
+module _ (fields : List Field) where
   abbrev pub whole : List ℕ → Bool
-  whole n = is_whole (kind_of columns n)
+  whole n = is_whole (kind_of fields n)
 
   abbrev pub not_whole : List ℕ → Bool
-  not_whole n = is_not_whole (kind_of columns n)
+  not_whole n = is_not_whole (kind_of fields n)
 
   abbrev pub unknown : List ℕ → Bool
-  unknown n = is_unknown (kind_of columns n)
+  unknown n = is_unknown (kind_of fields n)
 
   -- a text against a whole column, a number against another one
   abbrev pub is_ill_literal : List ℕ → Literal → Bool
@@ -155,4 +159,4 @@ module _ (columns : List Column) where
 -- of a query whose tokens stand at these places: by place, and at one place 122 before 123 before 125
 abbrev pub query_faults : Schema → Query → List At → List Fault
 query_faults schema q ps =
-    fault_if (not (is_named q.table schema.table)) 122 (nth ps 3) ++ or_faults schema.columns q.condition (drop 5 ps)
+    fault_if (not (is_named q.table schema.table)) 122 (nth ps 3) ++ or_faults schema.fields q.condition (drop 5 ps)

@@ -1,8 +1,8 @@
 -- The text of a query: one space between tokens, and none inside parentheses.
-use Rattle.std.specs.Prelude.{ℕ, Bool, true, false, not, ◌&&◌, ◌==◌, if◌then◌else◌, List, [], ◌∷◌, ◌++◌, codes}
+use Rattle.std.specs.Prelude.{ℕ, Bool, true, false, ◌&&◌, ◌==◌, if◌then◌else◌, List, [], ◌∷◌, ◌++◌, codes}
 use Rattle.std.specs.List.{list_all}
 use Rattle.std.specs.Str.{all_scalars}
-use Rattle.sql_lang.specs.Tokens.{Keyword, SELECT, FROM, WHERE, OR, AND, NOT, IS, NULL, LIKE, ESCAPE, GLOB, REGEXP, IN, BETWEEN, COLLATE, NOCASE, BINARY, Op, Eq, Ne, Lt, Lte, Gt, Gte, Sort, Word, Name, Text, Number, Opening, Closing, Comma, Star, Semicolon, Compares, Unclosed, Other, is_number, has_null_character}
+use Rattle.sql_lang.specs.Tokens.{Keyword, SELECT, FROM, WHERE, OR, AND, NOT, IS, NULL, LIKE, ESCAPE, GLOB, REGEXP, IN, BETWEEN, COLLATE, NOCASE, BINARY, Op, Eq, Ne, Lt, Lte, Gt, Gte, Sort, Word, Name, Text, Number, Opening, Closing, Comma, Star, Semicolon, Compares, Unclosed, Other, is_number, is_plain}
 use Rattle.sql_lang.specs.Grammar.{Ors, last_and, and_or, Ands, last_not, not_and, Nots, not_not, a_test, enclosed, Query, spell_test, spell_head, spell_query}
 
 -- ---- tokens
@@ -60,7 +60,7 @@ token_text Other = []
 -- a name and a text of characters, the text without U+0000, a number that is one, and every other token of the language
 abbrev pub has_text : Sort → Bool
 has_text (Name n) = all_scalars n
-has_text (Text t) = all_scalars t && not (has_null_character t)
+has_text (Text t) = all_scalars t && is_plain t
 has_text (Number w) = is_number w
 has_text Unclosed = false
 has_text Other = false

@@ -3,16 +3,14 @@ use Rattle.std.specs.Prelude.{ℕ, zero, suc, ◌≡◌, Bool, true, false, not,
 use Rattle.std.specs.Fmt.{signed_decimal}
 use Rattle.std.specs.Char.{to_ascii_lowercase}
 use Rattle.std.specs.Str.{bytes_eq}
+use Rattle.event_schema.specs.declared.value.Value.{Value}
+use Rattle.event_schema.specs.declared.value.Value.TheVariants as values
 use Rattle.sql_lang.specs.Tokens.{Op, Eq, Ne, Lt, Lte, Gt, Gte, folded}
 use Rattle.sql_lang.specs.Grammar.{Collate, Unsaid, NoCase, Binary}
 use Rattle.sql_lang.specs.Expression.{Operand, Side, SqlTest, Constant, IsNull, Compare, Like, Glob, OneOf, Between, Expr, Or, And, Not, Test, Exprs, no_exprs, an_expr}
 use Rattle.sql_lang.specs.Expression as expression
 
--- A row has one value or none for each column, in their order.
-pub data Value : Type 0 where
-  Text : List ℕ → Value
-  Whole : ℤ → Value
-
+-- the value of column k in a row, which has one value or none for each column, in their order
 abbrev pub value_at : List (Option Value) → ℕ → Option Value
 value_at [] k = None
 value_at (v ∷ vs) zero = v
@@ -20,8 +18,8 @@ value_at (v ∷ vs) (suc k) = value_at vs k
 
 -- a text, or a number's decimal
 abbrev pub text_of : Value → List ℕ
-text_of (Text t) = t
-text_of (Whole z) = signed_decimal z
+text_of (values.Text t) = t
+text_of (values.Whole z) = signed_decimal z
 
 -- ---- three values
 
@@ -155,10 +153,10 @@ texts_are c Ne a b = not (texts_equal c a b)
 texts_are c op a b = false
 
 abbrev pub values_are : Collate → Op → Value → Value → Bool
-values_are c op (Text a) (Text b) = texts_are c op a b
-values_are c op (Whole a) (Whole b) = wholes_are op a b
-values_are c op (Text a) (Whole b) = false
-values_are c op (Whole a) (Text b) = false
+values_are c op (values.Text a) (values.Text b) = texts_are c op a b
+values_are c op (values.Whole a) (values.Whole b) = wholes_are op a b
+values_are c op (values.Text a) (values.Whole b) = false
+values_are c op (values.Whole a) (values.Text b) = false
 
 -- unknown where a side has no value
 abbrev pub compared : Collate → Op → Option Value → Option Value → Truth
@@ -173,7 +171,7 @@ among c v (w ∷ ws) = either (compared c Eq v w) (among c v ws)
 
 -- the AND of >= and <=
 abbrev pub within : Collate → Option Value → ℤ → ℤ → Truth
-within c v low high = both (compared c Gte v (Some (Whole low))) (compared c Lte v (Some (Whole high)))
+within c v low high = both (compared c Gte v (Some (values.Whole low))) (compared c Lte v (Some (values.Whole high)))
 
 -- ---- tests and expressions
 
@@ -188,8 +186,8 @@ is_absent (Some v) = false
 
 abbrev pub operand_value : List (Option Value) → Operand → Option Value
 operand_value row (expression.ColumnAt k) = value_at row k
-operand_value row (expression.Text t) = Some (Text t)
-operand_value row (expression.Whole z) = Some (Whole z)
+operand_value row (expression.Text t) = Some (values.Text t)
+operand_value row (expression.Whole z) = Some (values.Whole z)
 
 abbrev pub test_value : SqlTest → List (Option Value) → Truth
 test_value (Constant b) row = truth b

@@ -1,22 +1,10 @@
--- What a query is read under: a table, and the names and kinds of its columns.
+-- The names of a query: the table's and the columns', which are those of a schema, letters of either case taken for equal.
 use Rattle.std.specs.Prelude.{ℕ, suc, if◌then◌else◌, Bool, List, [], ◌∷◌, Option, Some, None}
 use Rattle.std.specs.Str.{bytes_eq}
+use Rattle.event_schema.specs.declared.schema.Field.{Field}
+use Rattle.event_schema.specs.declared.schema.FieldKind.{FieldKind}
 use Rattle.sql_lang.specs.Tokens.{folded}
 
-pub data Kind : Type 0 where
-  Text : Kind
-  Whole : Kind
-  Address : Kind
-
-pub record Column : Type 0 where
-  pub name : List ℕ
-  pub kind : Kind
-
-pub record Schema : Type 0 where
-  pub table : List ℕ
-  pub columns : List Column
-
--- names are the same after folding
 abbrev pub is_named : List ℕ → List ℕ → Bool
 is_named a b = bytes_eq (folded a) (folded b)
 
@@ -24,12 +12,12 @@ abbrev pub next : Option ℕ → Option ℕ
 next None = None
 next (Some k) = Some (suc k)
 
--- the place of the first column of this name, counted from 0
-abbrev pub column_of : List Column → List ℕ → Option ℕ
+-- the place of the first field of this name, counted from 0
+abbrev pub column_of : List Field → List ℕ → Option ℕ
 column_of [] name = None
-column_of (c ∷ cs) name = if is_named c.name name then Some 0 else next (column_of cs name)
+column_of (field ∷ fields) name = if is_named field.name name then Some 0 else next (column_of fields name)
 
--- the kind of the first column of this name
-abbrev pub kind_of : List Column → List ℕ → Option Kind
+-- its kind
+abbrev pub kind_of : List Field → List ℕ → Option FieldKind
 kind_of [] name = None
-kind_of (c ∷ cs) name = if is_named c.name name then Some c.kind else kind_of cs name
+kind_of (field ∷ fields) name = if is_named field.name name then Some field.kind else kind_of fields name

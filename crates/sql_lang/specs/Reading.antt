@@ -3,7 +3,7 @@ use Rattle.std.specs.Prelude.{ℕ, zero, suc, ◌≡◌, ◌≤◌, ◌<◌, ◌
 use Rattle.std.specs.Str.{all_scalars}
 use Rattle.sql_lang.specs.Tokens.{At, Token, Sort, Word, Opening, Closing, Other, NOT, origin, place_after, tokens, sorts, places}
 use Rattle.sql_lang.specs.Grammar.{Query, spell_query, StopsAt}
-use Rattle.sql_lang.specs.Schema.{Schema}
+use Rattle.event_schema.specs.declared.schema.Schema.{Schema}
 use Rattle.sql_lang.specs.Expression.{Expr, or_expr, depth}
 use Rattle.sql_lang.specs.Faults.{Fault, fault, query_faults}
 
@@ -13,7 +13,7 @@ pub record SqlReads (schema : Schema) (characters : List ℕ) (e : Expr) : Type 
   pub query : Query
   pub spelled : spell_query query ≡ sorts (tokens characters)
   pub faultless : query_faults schema query (places (tokens characters)) ≡ []
-  pub means : e ≡ or_expr schema.columns query.condition
+  pub means : e ≡ or_expr schema.fields query.condition
 
 -- these bytes are UTF-8 characters whose tokens are a query of this schema with this expression
 pub record Reads (schema : Schema) (bytes : List ℕ) (e : Expr) : Type 0 where
@@ -71,8 +71,8 @@ pub data Refuses (limit : ℕ) (schema : Schema) (cs : List ℕ) (f : Fault) : T
   stopped : (front rest : List Sort) → first_other (tokens cs) ≡ None → nests_too_far limit (sorts (tokens cs)) ≡ false
       → StopsAt (sorts (tokens cs)) front rest → f ≡ fault 120 (place_of cs (tokens cs) (length front)) → Refuses limit schema cs f
   deep : (q : Query) → first_other (tokens cs) ≡ None → nests_too_far limit (sorts (tokens cs)) ≡ false
-      → spell_query q ≡ sorts (tokens cs) → limit < depth (or_expr schema.columns q.condition)
+      → spell_query q ≡ sorts (tokens cs) → limit < depth (or_expr schema.fields q.condition)
       → f ≡ fault 124 origin → Refuses limit schema cs f
   faulty : (q : Query) → first_other (tokens cs) ≡ None → nests_too_far limit (sorts (tokens cs)) ≡ false
-      → spell_query q ≡ sorts (tokens cs) → depth (or_expr schema.columns q.condition) ≤ limit
+      → spell_query q ≡ sorts (tokens cs) → depth (or_expr schema.fields q.condition) ≤ limit
       → (more : List Fault) → query_faults schema q (places (tokens cs)) ≡ f ∷ more → Refuses limit schema cs f

@@ -1,14 +1,9 @@
 -- The query of one test: that a field's text is this one, letters of either case taken for equal.
-use Rattle.std.specs.Prelude.{ℕ, List, [], ◌∷◌, ◌++◌, codes, false}
+use Rattle.std.specs.Prelude.{ℕ, List, ◌++◌, codes, false}
 use Rattle.sql_lang.specs.Tokens.{Eq}
 use Rattle.sql_lang.specs.Grammar.{Unsaid, NoCase, a_text, a_literal, Leaf, compares, last_and, last_not, a_test, Query}
-use Rattle.sql_lang.specs.Schema as schema
 use Rattle.sql_lang.specs.Expression.{ColumnAt, Text, SqlTest, Compare, Expr, Test}
 use Rattle.sql_lang.specs.Layout.{in_quotes}
-
--- the table events, with this one text column
-abbrev pub one_field : List ℕ → schema.Schema
-one_field field = record { table = codes "events"; columns = record { name = field; kind = schema.Text } ∷ [] }
 
 -- SELECT * FROM "events" WHERE "field" = 'value' COLLATE NOCASE, quotes doubled inside quotes
 abbrev pub query_text : List ℕ → List ℕ → List ℕ

@@ -2,7 +2,7 @@
 -- quotes and signs are SQLite's (its pages on keywords and on expressions).
 use Rattle.std.specs.Prelude.{ℕ, zero, suc, ◌+◌, ◌-◌, ◌*◌, ◌^◌, Bool, false, ◌&&◌, ◌||◌, ◌==◌, nat_lt, nat_le, if◌then◌else◌, List, [], ◌∷◌, ◌++◌, map, codes, Option, Some, None, ℤ, pos, negsuc}
 use Rattle.std.specs.Char.{to_ascii_lowercase, is_ascii_alphanumeric}
-use Rattle.std.specs.List.{list_all, list_any}
+use Rattle.std.specs.List.{list_all}
 use Rattle.std.specs.Str.{bytes_eq}
 
 -- lines and columns count from 1, columns in characters
@@ -118,12 +118,13 @@ word_or s (Some k) = Word k
 unfoldable pub run_sort : List ℕ → Sort
 run_sort w = if is_number w then Number w else word_or Other (keyword_in keywords (folded w))
 
-abbrev pub has_null_character : List ℕ → Bool
-has_null_character w = list_any (λ c. c == 0) w
+-- no character is U+0000
+abbrev pub is_plain : List ℕ → Bool
+is_plain w = list_all (λ c. nat_lt 0 c) w
 
 -- a text with U+0000 isn't a token
 unfoldable pub text_sort : List ℕ → Sort
-text_sort w = if has_null_character w then Other else Text w
+text_sort w = if is_plain w then Text w else Other
 
 -- names stand in double quotes, texts in single ones
 abbrev pub quoted_sort : ℕ → List ℕ → Sort

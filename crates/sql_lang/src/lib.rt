@@ -9,7 +9,7 @@ mod laws;
 mod query;
 
 pub use laws::{
-    no_stop_in_query, one_reading, one_stop, same_text_is_read, same_text_selects,
-    spelling_is_scanned, written_is_read,
+    layout_is_fine, layout_is_read, layout_means_tree, no_stop_in_query, one_reading, one_stop,
+    same_text_is_read, same_text_selects, spelling_is_scanned, written_is_read,
 };
 pub use query::{Collate, Expr, Operand, Select, Side, SqlOp, SqlTest};
