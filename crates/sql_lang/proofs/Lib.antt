@@ -1,0 +1,7 @@
+mod Machine
+mod Complete
+mod Scanned
+mod Characters
+mod Read
+mod Stops
+mod Laid

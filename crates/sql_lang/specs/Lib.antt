@@ -1,0 +1,10 @@
+pub mod Tokens
+pub mod Grammar
+pub mod Names
+pub mod Expression
+pub mod Faults
+pub mod Reading
+pub mod Meaning
+pub mod Layout
+pub mod Trees
+pub mod SameText
