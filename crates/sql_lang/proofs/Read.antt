@@ -5,7 +5,8 @@ use Rattle.std.specs.Str.{all_scalars}
 use Rattle.std.proofs.lemmas.Str.{chars-encodes}
 use Rattle.std.specs.Str.{chars}
 use Rattle.std.proofs.lemmas.Slice.Eq.{bytes_eq-Decides}
-use Rattle.sql_lang.specs.Tokens.{At, tokens, places, folded, is_plain}
+use Rattle.sql_lang.specs.Tokens.{At, tokens, places, is_plain}
+use Rattle.sig_base.specs.Folding.{folded}
 use Rattle.sql_lang.specs.Grammar.{Query}
 use Rattle.event_schema.specs.declared.schema.Schema.{Schema}
 use Rattle.event_schema.specs.Inferred.{text_schema}

@@ -1,11 +1,11 @@
 -- What an expression says of a row: yes, no or unknown, as SQLite's pages on expressions and on NULL have it.
 use Rattle.std.specs.Prelude.{ℕ, zero, suc, ◌≡◌, Bool, true, false, not, ◌||◌, ◌&&◌, ◌==◌, if◌then◌else◌, List, [], ◌∷◌, map, Option, None, Some, ℤ, int_lt, int_le}
 use Rattle.std.specs.Fmt.{signed_decimal}
-use Rattle.std.specs.Char.{to_ascii_lowercase}
 use Rattle.std.specs.Str.{bytes_eq}
+use Rattle.sig_base.specs.Folding.{fold, folded}
 use Rattle.event_schema.specs.declared.value.Value.{Value}
 use Rattle.event_schema.specs.declared.value.Value.TheVariants as values
-use Rattle.sql_lang.specs.Tokens.{Op, Eq, Ne, Lt, Lte, Gt, Gte, folded}
+use Rattle.sql_lang.specs.Tokens.{Op, Eq, Ne, Lt, Lte, Gt, Gte}
 use Rattle.sql_lang.specs.Grammar.{Collate, Unsaid, NoCase, Binary}
 use Rattle.sql_lang.specs.Expression.{Operand, Side, SqlTest, Constant, IsNull, Compare, Like, Glob, OneOf, Between, Expr, Or, And, Not, Test, Exprs, no_exprs, an_expr}
 use Rattle.sql_lang.specs.Expression as expression
@@ -112,7 +112,7 @@ fits_parts same (AnyOne ∷ ps) = behind_one (λ c. true) (fits_parts same ps)
 fits_parts same (Exactly d ∷ ps) = behind_one (same d) (fits_parts same ps)
 
 abbrev pub same_folded : ℕ → ℕ → Bool
-same_folded c d = to_ascii_lowercase c == to_ascii_lowercase d
+same_folded c d = fold c == fold d
 
 -- LIKE folds, GLOB doesn't
 abbrev pub like_fits : List ℕ → Option ℕ → List ℕ → Bool

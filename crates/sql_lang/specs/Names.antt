@@ -3,7 +3,7 @@ use Rattle.std.specs.Prelude.{ℕ, suc, if◌then◌else◌, Bool, List, [], ◌
 use Rattle.std.specs.Str.{bytes_eq}
 use Rattle.event_schema.specs.declared.schema.Field.{Field}
 use Rattle.event_schema.specs.declared.schema.FieldKind.{FieldKind}
-use Rattle.sql_lang.specs.Tokens.{folded}
+use Rattle.sig_base.specs.Folding.{folded}
 
 abbrev pub is_named : List ℕ → List ℕ → Bool
 is_named a b = bytes_eq (folded a) (folded b)

@@ -1,9 +1,10 @@
 -- The tokens of a query's text, from the left, with their places. Words, names in double quotes, texts in single
 -- quotes and signs are SQLite's (its pages on keywords and on expressions).
-use Rattle.std.specs.Prelude.{ℕ, zero, suc, ◌+◌, ◌-◌, ◌*◌, ◌^◌, Bool, false, ◌&&◌, ◌||◌, ◌==◌, nat_lt, nat_le, if◌then◌else◌, List, [], ◌∷◌, ◌++◌, map, codes, Option, Some, None, ℤ, pos, negsuc}
-use Rattle.std.specs.Char.{to_ascii_lowercase, is_ascii_alphanumeric}
+use Rattle.std.specs.Prelude.{ℕ, zero, suc, ◌+◌, ◌-◌, ◌*◌, ◌^◌, Bool, false, ◌&&◌, ◌||◌, ◌==◌, nat_lt, nat_le, if◌then◌else◌, List, [], ◌∷◌, ◌++◌, codes, Option, Some, None, ℤ, pos, negsuc}
+use Rattle.std.specs.Char.{is_ascii_alphanumeric}
 use Rattle.std.specs.List.{list_all}
 use Rattle.std.specs.Str.{bytes_eq}
+use Rattle.sig_base.specs.Folding.{folded}
 
 -- lines and columns count from 1, columns in characters
 pub record At : Type 0 where
@@ -62,10 +63,6 @@ pub record Token : Type 0 where
   pub place : At
 
 -- ---- words, numbers and texts
-
--- A to Z become a to z, and every other character stays
-abbrev pub folded : List ℕ → List ℕ
-folded cs = map to_ascii_lowercase cs
 
 abbrev pub keywords : List (List ℕ × Keyword)
 keywords =
