@@ -1,0 +1,6 @@
+pub mod Conditions
+pub mod Formulas
+pub mod Grammar
+pub mod Outcome
+pub mod Reader
+pub mod Words

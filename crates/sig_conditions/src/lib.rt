@@ -1,0 +1,15 @@
+//! A rule's condition: its words, the condition that they read as, and the formula over the rule's detections.
+#![tactic(auto)]
+
+pub use condition::Condition;
+pub use formula::Formula;
+pub use selector::Selector;
+
+mod condition;
+mod formula;
+mod join;
+mod look;
+mod reader;
+mod selector;
+mod stop;
+mod word;
