@@ -15,6 +15,10 @@ unfolding nesting
 nesting-append [] q = omega arith
 nesting-append (w ∷ p) q = omega (arith, nesting-append p q)
 
+pub nesting-nil : nesting [] ≡ 0
+unfolding nesting
+nesting-nil = refl
+
 pub nesting-cons : (w : Word) (ws : List Word) → nesting (w ∷ ws) ≡ nests w + nesting ws
 unfolding nesting
 nesting-cons w ws = refl

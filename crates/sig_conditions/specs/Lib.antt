@@ -3,4 +3,5 @@ pub mod Formulas
 pub mod Grammar
 pub mod Outcome
 pub mod Reader
+pub mod Refusals
 pub mod Words

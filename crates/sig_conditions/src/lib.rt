@@ -3,6 +3,7 @@
 
 pub use condition::Condition;
 pub use formula::Formula;
+pub use reading::read_condition;
 pub use selector::Selector;
 
 mod condition;
@@ -10,6 +11,8 @@ mod formula;
 mod join;
 mod look;
 mod reader;
+mod reading;
+mod scan;
 mod selector;
 mod stop;
 mod word;
