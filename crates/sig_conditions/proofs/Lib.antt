@@ -1,7 +1,10 @@
 pub mod Chains
 pub mod Complete
+pub mod Fitting
+pub mod Indexing
 pub mod Places
 pub mod Readings
+pub mod Parts
 pub mod Scans
 pub mod Sound
 pub mod Tests

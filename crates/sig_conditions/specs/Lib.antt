@@ -1,7 +1,10 @@
 pub mod Conditions
 pub mod Formulas
 pub mod Grammar
+pub mod Indexes
 pub mod Outcome
 pub mod Reader
 pub mod Refusals
+pub mod Resolved
+pub mod Taken
 pub mod Words

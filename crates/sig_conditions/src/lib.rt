@@ -4,15 +4,21 @@
 pub use condition::Condition;
 pub use formula::Formula;
 pub use reading::read_condition;
+pub use resolving::resolve_condition;
 pub use selector::Selector;
 
 mod condition;
 mod formula;
+mod index;
 mod join;
 mod look;
 mod reader;
 mod reading;
+mod resolver;
+mod resolving;
 mod scan;
 mod selector;
 mod stop;
+mod taking;
+mod unresolved;
 mod word;
