@@ -8,7 +8,7 @@ pub run_goes : (run rest : List ℕ) (c : ℕ) → is_run_character c ≡ true �
 unfolding words_from
 run_goes run rest c e = rw e refl
 
-run_stops : (run rest : List ℕ) (c : ℕ) → is_run_character c ≡ false
+pub run_stops : (run rest : List ℕ) (c : ℕ) → is_run_character c ≡ false
     → words_from run (c ∷ rest) ≡ ended run (if is_blank c then words_from [] rest else sign_of c ∷ words_from [] rest)
 unfolding words_from
 run_stops run rest c e = rw e refl
@@ -21,10 +21,10 @@ ended-append : (run : List ℕ) (ws : List Word) → ended run [] ++ ws ≡ ende
 ended-append [] ws = refl
 ended-append (c ∷ cs) ws = refl
 
-if_true : {A : Type 0} (b : Bool) (x y : A) → b ≡ true → (if b then x else y) ≡ x
+pub if_true : {A : Type 0} (b : Bool) (x y : A) → b ≡ true → (if b then x else y) ≡ x
 if_true b x y e = rw e refl
 
-if_false : {A : Type 0} (b : Bool) (x y : A) → b ≡ false → (if b then x else y) ≡ y
+pub if_false : {A : Type 0} (b : Bool) (x y : A) → b ≡ false → (if b then x else y) ≡ y
 if_false b x y e = rw e refl
 
 -- a character that goes on with the run

@@ -3,14 +3,17 @@
 
 pub use condition::Condition;
 pub use formula::Formula;
+pub use law::{one_condition, one_list_of_words, same_meaning};
 pub use reading::read_condition;
 pub use resolving::resolve_condition;
 pub use selector::Selector;
 
 mod condition;
+mod copying;
 mod formula;
 mod index;
 mod join;
+mod law;
 mod look;
 mod reader;
 mod reading;
