@@ -1,13 +1,13 @@
 -- What the grammar calls a condition is read, whatever stands behind it.
-use Rattle.std.proofs.Common.{ℕ, zero, suc, ◌≡◌, ◌<◌, ◌≤◌, ◌+◌, Bool, true, false, List, [], ◌∷◌, ◌++◌, length, refl, ap, sym, ◌∙◌, arith, append_assoc, length-append}
-use Rattle.std.specs.Prelude.{Some, None}
+use Rattle.std.proofs.Common.{ℕ, zero, suc, ◌≡◌, ◌≤◌, ◌+◌, false, List, [], ◌∷◌, ◌++◌, length, refl, ap, sym, ◌∙◌, arith, append_assoc, length-append}
+use Rattle.std.specs.Prelude.{Some}
 use Rattle.std.specs.declared.option.Option.{Option}
 use Rattle.sig_conditions.specs.declared.word.Word.{Word}
 use Rattle.sig_conditions.specs.declared.word.Word.TheVariants.{Open, Close, Or, And, Not, One, All, Of, Name}
-use Rattle.sig_conditions.specs.Conditions.{Cond, CName, COneOf, CAllOf, CNot, Conds, no_conds, put, joined_or, joined_and}
+use Rattle.sig_conditions.specs.Conditions.{Cond, CName, COneOf, CAllOf, CNot, Conds, joined_or, joined_and}
 use Rattle.sig_conditions.specs.Words.{begins, is_or, is_and, nesting, nests}
 use Rattle.sig_conditions.specs.Grammar.{selector_of, IsOr, or_chain, OrTail, or_end, or_next, IsAnd, and_chain, AndTail, and_end, and_next, IsNot, negated, plain, IsAtom, paren, named, one_of, all_of}
-use Rattle.sig_conditions.specs.Reader.{◌>>=◌, read, read_map, tail_in, chain_in, not_in, and_in, or_in, closed, chosen, selected, behind_of}
+use Rattle.sig_conditions.specs.Reader.{◌>>=◌, read, read_map, tail_in, not_in, and_in, or_in, closed}
 use Rattle.sig_conditions.proofs.Chains.{chain_at, tail_next, tail_stop}
 
 pub nesting-append : (p q : List Word) → nesting (p ++ q) ≡ nesting p + nesting q
@@ -85,9 +85,9 @@ mutual
   read_or {ws} {e} (or_chain p q c cs w a t j) d rest n bo ba =
       ap (or_in d) (split_two ws p q rest w)
       ∙ (chain_at (and_in d) is_or joined_or (p ++ (q ++ rest)) (q ++ rest) rest c cs
-          (read_and a d (q ++ rest) (omega (arith, two_nest ws p q d w n)) (or_tail_front t rest ba))
-          (read_or_tail t d (length (q ++ rest)) rest (omega (arith, two_nest ws p q d w n)) (omega arith) bo ba)
-        ∙ ap (λ (x : Cond). read x rest) (sym j))
+      (read_and a d (q ++ rest) (omega (arith, two_nest ws p q d w n)) (or_tail_front t rest ba))
+      (read_or_tail t d (length (q ++ rest)) rest (omega (arith, two_nest ws p q d w n)) (omega arith) bo ba)
+      ∙ ap (λ (x : Cond). read x rest) (sym j))
 
   pub read_or_tail : {ws : List Word} {cs : Conds} → OrTail ws cs → (d k : ℕ) (rest : List Word) → nesting ws ≤ d → length (ws ++ rest) ≤ k
       → begins is_or rest ≡ false → begins is_and rest ≡ false → tail_in (and_in d) is_or k (ws ++ rest) ≡ read cs rest
@@ -97,18 +97,18 @@ mutual
   read_or_tail {ws} {cs} (or_next {c = c} {cs = ds} p q w a t) d (suc k) rest n l bo ba =
       ap (tail_in (and_in d) is_or (suc k)) (split_word Or ws p q rest w)
       ∙ tail_next (and_in d) is_or k Or (p ++ (q ++ rest)) (q ++ rest) rest c ds refl
-          (read_and a d (q ++ rest) (omega (arith, parts_nest Or ws p q d w n)) (or_tail_front t rest ba))
-          (read_or_tail t d k rest (omega (arith, parts_nest Or ws p q d w n))
-            (behind_shorter p (q ++ rest) k (longer Or (ws ++ rest) (p ++ (q ++ rest)) k (split_word Or ws p q rest w) l)) bo ba)
+      (read_and a d (q ++ rest) (omega (arith, parts_nest Or ws p q d w n)) (or_tail_front t rest ba))
+      (read_or_tail t d k rest (omega (arith, parts_nest Or ws p q d w n))
+      (behind_shorter p (q ++ rest) k (longer Or (ws ++ rest) (p ++ (q ++ rest)) k (split_word Or ws p q rest w) l)) bo ba)
 
   pub read_and : {ws : List Word} {e : Cond} → IsAnd ws e → (d : ℕ) (rest : List Word) → nesting ws ≤ d
       → begins is_and rest ≡ false → and_in d (ws ++ rest) ≡ read e rest
   read_and {ws} {e} (and_chain p q c cs w a t j) d rest n ba =
       ap (and_in d) (split_two ws p q rest w)
       ∙ (chain_at (not_in d) is_and joined_and (p ++ (q ++ rest)) (q ++ rest) rest c cs
-          (read_not a d (q ++ rest) (omega (arith, two_nest ws p q d w n)))
-          (read_and_tail t d (length (q ++ rest)) rest (omega (arith, two_nest ws p q d w n)) (omega arith) ba)
-        ∙ ap (λ (x : Cond). read x rest) (sym j))
+      (read_not a d (q ++ rest) (omega (arith, two_nest ws p q d w n)))
+      (read_and_tail t d (length (q ++ rest)) rest (omega (arith, two_nest ws p q d w n)) (omega arith) ba)
+      ∙ ap (λ (x : Cond). read x rest) (sym j))
 
   pub read_and_tail : {ws : List Word} {cs : Conds} → AndTail ws cs → (d k : ℕ) (rest : List Word) → nesting ws ≤ d → length (ws ++ rest) ≤ k
       → begins is_and rest ≡ false → tail_in (not_in d) is_and k (ws ++ rest) ≡ read cs rest
@@ -118,9 +118,9 @@ mutual
   read_and_tail {ws} {cs} (and_next {c = c} {cs = ds} p q w a t) d (suc k) rest n l ba =
       ap (tail_in (not_in d) is_and (suc k)) (split_word And ws p q rest w)
       ∙ tail_next (not_in d) is_and k And (p ++ (q ++ rest)) (q ++ rest) rest c ds refl
-          (read_not a d (q ++ rest) (omega (arith, parts_nest And ws p q d w n)))
-          (read_and_tail t d k rest (omega (arith, parts_nest And ws p q d w n))
-            (behind_shorter p (q ++ rest) k (longer And (ws ++ rest) (p ++ (q ++ rest)) k (split_word And ws p q rest w) l)) ba)
+      (read_not a d (q ++ rest) (omega (arith, parts_nest And ws p q d w n)))
+      (read_and_tail t d k rest (omega (arith, parts_nest And ws p q d w n))
+      (behind_shorter p (q ++ rest) k (longer And (ws ++ rest) (p ++ (q ++ rest)) k (split_word And ws p q rest w) l)) ba)
 
   pub read_not : {ws : List Word} {e : Cond} → IsNot ws e → (d : ℕ) (rest : List Word) → nesting ws ≤ d → not_in d (ws ++ rest) ≡ read e rest
   read_not {ws} (negated p w a) zero rest n = not_deep Not ws p w refl n
@@ -134,7 +134,7 @@ mutual
   read_atom {ws} {e} (paren p w a) (suc d) rest n =
       ap (not_in (suc d)) (split_word Open ws p (Close ∷ []) rest w)
       ∙ paren_reads d (p ++ Close ∷ rest) rest e
-          (read_or a d (Close ∷ rest) (omega (arith, parts_nest Open ws p (Close ∷ []) (suc d) w n)) refl refl)
+      (read_or a d (Close ∷ rest) (omega (arith, parts_nest Open ws p (Close ∷ []) (suc d) w n)) refl refl)
   read_atom (named n w) d rest m = ap (λ (xs : List Word). not_in d (xs ++ rest)) w ∙ name_reads d n rest
   read_atom (one_of v s w i) d rest n = ap (λ (xs : List Word). not_in d (xs ++ rest)) w ∙ one_reads d v s rest i
   read_atom (all_of v s w i) d rest n = ap (λ (xs : List Word). not_in d (xs ++ rest)) w ∙ all_reads d v s rest i

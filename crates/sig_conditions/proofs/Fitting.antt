@@ -1,11 +1,10 @@
 -- A word with stars at its front: what it fits, and what the rest of it fits.
-use Rattle.std.proofs.Common.{ℕ, ◌≡◌, ◌<◌, ◌+◌, Bool, true, false, List, [], ◌∷◌, ◌++◌, length, refl, ap, sym, ◌∙◌, subst, arith}
-use Rattle.std.specs.Prelude.{◌||◌, if◌then◌else◌}
+use Rattle.std.proofs.Common.{ℕ, ◌≡◌, ◌<◌, Bool, true, false, List, [], ◌∷◌, ◌++◌, length, refl, ap, sym, ◌∙◌, arith}
+use Rattle.std.specs.Prelude.{◌||◌}
 use Rattle.std.specs.Str.{chars}
 use Rattle.std.proofs.lemmas.Str.{chars-nil}
 use Rattle.matching.specs.Suffixes.{SuffixHolds}
-use Rattle.sig_conditions.specs.Taken.{some_suffix, fits, is_empty, is_hidden, begins_with}
-use Rattle.sig_conditions.specs.Words.{is_star}
+use Rattle.sig_conditions.specs.Taken.{some_suffix, fits, is_empty}
 
 only_empty : (text : List ℕ) → is_empty text ≡ true → text ≡ []
 only_empty [] h = refl
@@ -54,8 +53,10 @@ starred word rest c text e f = ap (λ (w : List ℕ). fits w text) (e ∙ ap (λ
 pub fits-star : (word rest : List ℕ) (c : ℕ) → word ≡ c ∷ rest → c ≡ 42
     → (length rest < length word)
     × ((text : List ℕ) → (fits word text ≡ true → SuffixHolds (λ name. fits rest name ≡ true) text) × (SuffixHolds (λ name. fits rest name ≡ true) text → fits word text ≡ true))
-fits-star word rest c e f =
-    (omega (arith, ap length e),
-     (λ text.
-       ((λ h. suffix_there (fits rest) text (sym (starred word rest c text e f) ∙ h)),
-        (λ s. starred word rest c text e f ∙ suffix_back (fits rest) text s))))
+fits-star word rest c e f = (
+  omega (arith, ap length e),
+  (λ text. (
+    (λ h. suffix_there (fits rest) text (sym (starred word rest c text e f) ∙ h)),
+    (λ s. starred word rest c text e f ∙ suffix_back (fits rest) text s),
+  )),
+)

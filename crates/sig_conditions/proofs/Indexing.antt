@@ -1,5 +1,5 @@
 -- One more name at the front of those that are indexed.
-use Rattle.std.proofs.Common.{ℕ, ◌≡◌, ◌<◌, ◌≤◌, ◌+◌, ◌-◌, Bool, true, List, ◌∷◌, length, get_or, drop, refl, ap, sym, ◌∙◌, arith}
+use Rattle.std.proofs.Common.{ℕ, ◌≡◌, ◌<◌, ◌≤◌, ◌+◌, ◌-◌, Bool, true, List, ◌∷◌, length, get_or, drop, ap, sym, ◌∙◌, arith}
 use Rattle.std.specs.Prelude.{Some, encode_utf8_all, if◌then◌else◌}
 use Rattle.std.specs.declared.option.Option.{Option}
 use Rattle.std.specs.Str.{chars, all_scalars, bytes_eq}
@@ -14,7 +14,7 @@ same_bytes : (xs ys : List ℕ) → all_scalars xs ≡ true → all_scalars ys �
 same_bytes xs ys a b =
     same_from_decides _ _
     (Decides-like _ (λ same. sym (chars-encodes xs a) ∙ (ap chars same ∙ chars-encodes ys b)) (λ same. ap encode_utf8_all same)
-      (bytes_eq-Decides (encode_utf8_all xs) (encode_utf8_all ys)))
+    (bytes_eq-Decides (encode_utf8_all xs) (encode_utf8_all ys)))
     (bytes_eq-Decides xs ys)
 
 -- what is found after the name at the place before has been put in
@@ -27,7 +27,7 @@ finds_more names at own name bytes old new p l e a b f n o =
     let next : at - 1 + 1 ≡ at = omega arith in
     n
     ∙ (ap (λ (bs : List ℕ). if bytes_eq bs (encode_utf8_all name) then Some (at - 1) else old) f
-      ∙ (ap (λ (t : Bool). if t then Some (at - 1) else old) (same_bytes own name a b)
-        ∙ (ap (λ (x : Option ℕ). if bytes_eq own name then Some (at - 1) else x) o
-          ∙ (sym (ap (λ (m : ℕ). if bytes_eq own name then Some (at - 1) else number_from m name (drop m names)) next)
-            ∙ sym (ap (number_from (at - 1) name) (drop_more names (at - 1) own before ∙ ap (λ (x : List ℕ). x ∷ drop (at - 1 + 1) names) (sym e)))))))
+    ∙ (ap (λ (t : Bool). if t then Some (at - 1) else old) (same_bytes own name a b)
+    ∙ (ap (λ (x : Option ℕ). if bytes_eq own name then Some (at - 1) else x) o
+    ∙ (sym (ap (λ (m : ℕ). if bytes_eq own name then Some (at - 1) else number_from m name (drop m names)) next)
+    ∙ sym (ap (number_from (at - 1) name) (drop_more names (at - 1) own before ∙ ap (λ (x : List ℕ). x ∷ drop (at - 1 + 1) names) (sym e)))))))

@@ -9,5 +9,5 @@ pub mod Readings
 pub mod Scans
 pub mod Sound
 pub mod SpellingLemmas
-pub mod Tests
 pub mod Turns
+pub mod WordTests

@@ -1,5 +1,5 @@
 -- A condition's formula has the value that the condition has.
-use Rattle.std.proofs.Common.{ℕ, ◌≡◌, Bool, true, false, List, [], ◌∷◌, refl, ap, sym, ◌∙◌}
+use Rattle.std.proofs.Common.{ℕ, ◌≡◌, Bool, List, [], ◌∷◌, refl, ap, sym, ◌∙◌}
 use Rattle.std.specs.Prelude.{Some, None, ◌||◌, ◌&&◌, not}
 use Rattle.std.specs.declared.option.Option.{Option}
 use Rattle.std.specs.List.{list_all, list_any}
@@ -77,7 +77,7 @@ mutual
       let b = both_of (formula_of names c) (formulas_of names cs) fs h in
       ap (all_true is_true) (sym b.makes)
       ∙ (ap (λ (x : Bool). x && all_true is_true b.rest) (means names is_true c b.first b.is)
-        ∙ ap (λ (x : Bool). holds names is_true c && x) (means_all names is_true cs b.rest b.rest_is))
+      ∙ ap (λ (x : Bool). holds names is_true c && x) (means_all names is_true cs b.rest b.rest_is))
 
   means_some : (names : List (List ℕ)) (is_true : ℕ → Bool) (cs : Conds) (fs : Forms) → formulas_of names cs ≡ Some fs → some_true is_true fs ≡ some_hold names is_true cs
   means_some names is_true no_conds fs h = ap (some_true is_true) (sym (same_forms no_forms fs h))
@@ -85,4 +85,4 @@ mutual
       let b = both_of (formula_of names c) (formulas_of names cs) fs h in
       ap (some_true is_true) (sym b.makes)
       ∙ (ap (λ (x : Bool). x || some_true is_true b.rest) (means names is_true c b.first b.is)
-        ∙ ap (λ (x : Bool). holds names is_true c || x) (means_some names is_true cs b.rest b.rest_is))
+      ∙ ap (λ (x : Bool). holds names is_true c || x) (means_some names is_true cs b.rest b.rest_is))

@@ -1,5 +1,5 @@
 -- The loop over the parts of a chain: the formulas so far and those of the parts that are left make the whole.
-use Rattle.std.proofs.Common.{ℕ, ◌≡◌, ◌<◌, ◌≤◌, ◌+◌, Bool, true, false, List, [], ◌∷◌, ◌++◌, length, get_or, drop, map, refl, ap, sym, ◌∙◌, subst, arith}
+use Rattle.std.proofs.Common.{ℕ, ◌≡◌, ◌<◌, ◌+◌, List, [], ◌∷◌, ◌++◌, length, get_or, drop, refl, ap, sym, ◌∙◌, subst}
 use Rattle.std.specs.Prelude.{Some, None, Ok, Err}
 use Rattle.std.specs.Result.{IsErrAnd}
 use Rattle.std.specs.declared.option.Option.{Option}
@@ -9,9 +9,9 @@ use Rattle.sig_conditions.specs.declared.condition.Condition.{Condition}
 use Rattle.sig_conditions.specs.declared.formula.Formula.{Formula}
 use Rattle.sig_conditions.specs.declared.unresolved.Unresolved.{Unresolved}
 use Rattle.sig_conditions.specs.declared.unresolved.Unresolved.TheVariants.{Memory, Unknown, Nothing}
-use Rattle.sig_conditions.specs.Conditions.{Cond, Conds, conds_of, cond_view, conds_view}
-use Rattle.sig_conditions.specs.Formulas.{Form, Forms, no_forms, form, form_view, forms_of, forms_view, both, formula_of, formulas_of, made, Why, unknown, nothing, faults, faults_of}
-use Rattle.sig_conditions.specs.Resolved.{FirstIs, Fails, Resolves}
+use Rattle.sig_conditions.specs.Conditions.{Conds, conds_of, cond_view, conds_view}
+use Rattle.sig_conditions.specs.Formulas.{Form, Forms, no_forms, form, form_view, forms_of, forms_view, both, formula_of, formulas_of, made, Why, faults, faults_of}
+use Rattle.sig_conditions.specs.Resolved.{Fails, Resolves}
 
 -- formulas before those that follow
 abbrev pub before : List Form → Forms → Forms
@@ -41,7 +41,6 @@ part_at F i cs c l e =
     ap (λ (ds : List Condition). F (conds_of (conds_view ds))) (drop_more cs i c l ∙ ap (λ (d : Condition). d ∷ drop (i + 1) cs) (sym e))
 
 module _ (names : List (List ℕ)) (i : ℕ) (cs : List Condition) (c : Condition) where
-
   -- one more part has a formula
   pub formula_goes : (xs ys : List Formula) (f : Formula) (whole : Option Forms) → i < length cs → c ≡ get_or cs i c
       → made (before (forms_view xs)) (formulas_of names (conds_of (conds_view (drop i cs)))) ≡ whole → formula_of names (cond_view c) ≡ Some (form_view f) → ys ≡ xs ++ f ∷ []
@@ -49,8 +48,8 @@ module _ (names : List (List ℕ)) (i : ℕ) (cs : List Condition) (c : Conditio
   formula_goes xs ys f whole l e inv p q =
       ap (λ (zs : List Formula). made (before (forms_view zs)) (formulas_of names (conds_of (conds_view (drop (i + 1) cs))))) q
       ∙ (pushed xs f (formulas_of names (conds_of (conds_view (drop (i + 1) cs))))
-        ∙ (ap (λ (o : Option Form). made (before (forms_view xs)) (both o (formulas_of names (conds_of (conds_view (drop (i + 1) cs)))))) (sym p)
-          ∙ (ap (made (before (forms_view xs))) (sym (part_at (formulas_of names) i cs c l e)) ∙ inv)))
+      ∙ (ap (λ (o : Option Form). made (before (forms_view xs)) (both o (formulas_of names (conds_of (conds_view (drop (i + 1) cs)))))) (sym p)
+      ∙ (ap (made (before (forms_view xs))) (sym (part_at (formulas_of names) i cs c l e)) ∙ inv)))
 
   -- and no fault
   pub faults_go : (whole : List Why) → i < length cs → c ≡ get_or cs i c → faults_of names (conds_of (conds_view (drop i cs))) ≡ whole → faults names (cond_view c) ≡ []
@@ -65,11 +64,11 @@ module _ (names : List (List ℕ)) (i : ℕ) (cs : List Condition) (c : Conditio
   part_fails Memory whole l e inv f = tt
   part_fails (Unknown name) whole l e inv f = record {
     later = f.later ++ faults_of names (conds_of (conds_view (drop (i + 1) cs)));
-    shape = sym inv ∙ (part_at (faults_of names) i cs c l e ∙ ap (λ (ws : List Why). ws ++ faults_of names (conds_of (conds_view (drop (i + 1) cs)))) f.shape)
+    shape = sym inv ∙ (part_at (faults_of names) i cs c l e ∙ ap (λ (ws : List Why). ws ++ faults_of names (conds_of (conds_view (drop (i + 1) cs)))) f.shape);
   }
   part_fails Nothing whole l e inv f = record {
     later = f.later ++ faults_of names (conds_of (conds_view (drop (i + 1) cs)));
-    shape = sym inv ∙ (part_at (faults_of names) i cs c l e ∙ ap (λ (ws : List Why). ws ++ faults_of names (conds_of (conds_view (drop (i + 1) cs)))) f.shape)
+    shape = sym inv ∙ (part_at (faults_of names) i cs c l e ∙ ap (λ (ws : List Why). ws ++ faults_of names (conds_of (conds_view (drop (i + 1) cs)))) f.shape);
   }
 
 -- all parts have formulas
@@ -78,7 +77,7 @@ pub formulas_end : (names : List (List ℕ)) (cs : List Condition) (xs : List Fo
 formulas_end names cs xs whole e inv =
     sym inv
     ∙ (ap (λ (ds : List Condition). made (before (forms_view xs)) (formulas_of names (conds_of (conds_view ds)))) e
-      ∙ ap Some (before-end (forms_view xs)))
+    ∙ ap Some (before-end (forms_view xs)))
 
 -- no part has a fault
 pub faults_end : (names : List (List ℕ)) (cs : List Condition) (whole : List Why) → cs ≡ [] → faults_of names (conds_of (conds_view cs)) ≡ whole → whole ≡ []

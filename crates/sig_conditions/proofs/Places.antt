@@ -1,6 +1,6 @@
 -- What the code's readers answer, from what stands at their place.
-use Rattle.std.proofs.Common.{ℕ, zero, suc, ◌≡◌, ◌<◌, ◌≤◌, ◌+◌, ◌-◌, Bool, true, false, List, [], ◌∷◌, ◌++◌, length, drop, refl, ap, sym, ◌∙◌, subst, arith, length-drop}
-use Rattle.std.specs.Prelude.{Some, None, Ok, Err}
+use Rattle.std.proofs.Common.{ℕ, zero, suc, ◌≡◌, ◌<◌, ◌+◌, true, false, List, [], ◌∷◌, length, drop, refl, ap, sym, ◌∙◌, subst, arith, length-drop}
+use Rattle.std.specs.Prelude.{None, Ok, Err}
 use Rattle.std.specs.Result.{IsErrAnd}
 use Rattle.std.specs.declared.option.Option.{Option}
 use Rattle.std.specs.declared.result.Result.{Result}
@@ -12,9 +12,9 @@ use Rattle.sig_conditions.specs.declared.word.Word.TheVariants.{Open, Close, Or,
 use Rattle.sig_conditions.specs.Conditions.{Cond, CNot}
 use Rattle.sig_conditions.specs.Outcome.{Fails, Reads, Gives}
 use Rattle.sig_conditions.specs.Words.{begins, is_not, is_close}
-use Rattle.sig_conditions.specs.Reader.{◌>>=◌, read, read_map, not_in, or_in, atom_in, atom_of, not_at, no_more, inner_or, closed, alone, condition_in}
-use Rattle.sig_conditions.proofs.Tests.{not_word, close_word}
-use Rattle.sig_conditions.proofs.Turns.{Standing, front_of}
+use Rattle.sig_conditions.specs.Reader.{◌>>=◌, read, read_map, not_in, or_in, atom_in, atom_of, not_at, no_more, closed, alone, condition_in}
+use Rattle.sig_conditions.proofs.WordTests.{not_word, close_word}
+use Rattle.sig_conditions.proofs.Turns.{front_of}
 
 -- a fault that a `?` hands on
 pub fails_read : (words : List Word) (r : Result (Condition × ℕ) Stop) (e : Stop) (Q : Stop → Type 0) (o : Option (Cond × List Word))
@@ -77,7 +77,7 @@ pub paren_step : (d k : ℕ) (words : List Word) (at end : ℕ) (w : Word) (c : 
 paren_step d k words at end w c z e f r b =
     ap (λ (n : ℕ). atom_in n (drop at words)) z
     ∙ (ap (atom_in (suc k)) (stands w Open words at e f)
-      ∙ (ap (λ (o : Option (Cond × List Word)). o >>= (λ r. closed r.0 r.1)) r ∙ ap (closed c) (close_stands words end b)))
+    ∙ (ap (λ (o : Option (Cond × List Word)). o >>= (λ r. closed r.0 r.1)) r ∙ ap (closed c) (close_stands words end b)))
 
 alone_none : (c : Cond) (ws : List Word) → 0 < length ws → alone (c, ws) ≡ None
 alone_none c [] h = absurd (omega (arith, h))

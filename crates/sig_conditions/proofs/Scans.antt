@@ -1,8 +1,8 @@
 -- One more character: what the words so far and the run before the rest make.
-use Rattle.std.proofs.Common.{ℕ, ◌≡◌, ◌<◌, ◌≤◌, ◌+◌, Bool, true, false, List, [], ◌∷◌, ◌++◌, length, drop, refl, ap, sym, ◌∙◌, arith, append_assoc}
+use Rattle.std.proofs.Common.{ℕ, ◌≡◌, Bool, true, false, List, [], ◌∷◌, ◌++◌, refl, ap, sym, ◌∙◌, append_assoc}
 use Rattle.std.specs.Prelude.{if◌then◌else◌}
 use Rattle.sig_conditions.specs.declared.word.Word.{Word}
-use Rattle.sig_conditions.specs.Words.{ended, is_blank, is_run_character, sign_of, word_of, words, words_from}
+use Rattle.sig_conditions.specs.Words.{ended, is_blank, is_run_character, sign_of, words_from}
 
 pub run_goes : (run rest : List ℕ) (c : ℕ) → is_run_character c ≡ true → words_from run (c ∷ rest) ≡ words_from (run ++ c ∷ []) rest
 unfolding words_from
@@ -40,10 +40,10 @@ pub blank_taken : (old now : List Word) (run after rest : List ℕ) (c : ℕ) �
 blank_taken old now run after rest c e f r b =
     ap (λ (ws : List Word). ws ++ words_from after rest) e
     ∙ (ap (λ (cs : List ℕ). (old ++ ended run []) ++ words_from cs rest) f
-      ∙ (append_assoc old (ended run []) (words_from [] rest)
-        ∙ ap (λ (ws : List Word). old ++ ws)
-            (ended-append run (words_from [] rest)
-            ∙ (ap (ended run) (sym (if_true (is_blank c) (words_from [] rest) (sign_of c ∷ words_from [] rest) b)) ∙ sym (run_stops run rest c r)))))
+    ∙ (append_assoc old (ended run []) (words_from [] rest)
+    ∙ ap (λ (ws : List Word). old ++ ws)
+    (ended-append run (words_from [] rest)
+    ∙ (ap (ended run) (sym (if_true (is_blank c) (words_from [] rest) (sign_of c ∷ words_from [] rest) b)) ∙ sym (run_stops run rest c r)))))
 
 -- a character that is a word by itself
 pub sign_taken : (old between now : List Word) (run after rest : List ℕ) (c : ℕ) (w : Word) → between ≡ old ++ ended run [] → after ≡ [] → now ≡ between ++ w ∷ [] → w ≡ sign_of c
@@ -51,9 +51,9 @@ pub sign_taken : (old between now : List Word) (run after rest : List ℕ) (c : 
 sign_taken old between now run after rest c w e f g s r b =
     ap (λ (ws : List Word). ws ++ words_from after rest) (g ∙ ap (λ (v : Word). between ++ v ∷ []) s)
     ∙ (ap (λ (cs : List ℕ). (between ++ sign_of c ∷ []) ++ words_from cs rest) f
-      ∙ (append_assoc between (sign_of c ∷ []) (words_from [] rest)
-        ∙ (ap (λ (ws : List Word). ws ++ (sign_of c ∷ words_from [] rest)) e
-          ∙ (append_assoc old (ended run []) (sign_of c ∷ words_from [] rest)
-            ∙ ap (λ (ws : List Word). old ++ ws)
-                (ended-append run (sign_of c ∷ words_from [] rest)
-                ∙ (ap (ended run) (sym (if_false (is_blank c) (words_from [] rest) (sign_of c ∷ words_from [] rest) b)) ∙ sym (run_stops run rest c r)))))))
+    ∙ (append_assoc between (sign_of c ∷ []) (words_from [] rest)
+    ∙ (ap (λ (ws : List Word). ws ++ (sign_of c ∷ words_from [] rest)) e
+    ∙ (append_assoc old (ended run []) (sign_of c ∷ words_from [] rest)
+    ∙ ap (λ (ws : List Word). old ++ ws)
+    (ended-append run (sign_of c ∷ words_from [] rest)
+    ∙ (ap (ended run) (sym (if_false (is_blank c) (words_from [] rest) (sign_of c ∷ words_from [] rest) b)) ∙ sym (run_stops run rest c r)))))))

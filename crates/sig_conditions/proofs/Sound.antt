@@ -1,17 +1,17 @@
 -- What a reader answers at the front of the words is a condition by the grammar.
-use Rattle.std.proofs.Common.{ℕ, zero, suc, ◌≡◌, ◌<◌, ◌≤◌, ◌+◌, Bool, true, false, List, [], ◌∷◌, ◌++◌, length, refl, ap, sym, ◌∙◌, subst, arith, append_assoc}
+use Rattle.std.proofs.Common.{ℕ, zero, suc, ◌≡◌, ◌≤◌, Bool, List, [], ◌∷◌, ◌++◌, length, refl, ap, sym, ◌∙◌, subst, arith, append_assoc}
 use Rattle.std.specs.Prelude.{Some, None}
 use Rattle.std.specs.declared.option.Option.{Option}
 use Rattle.sig_conditions.specs.declared.selector.Selector.{Selector}
 use Rattle.sig_conditions.specs.declared.word.Word.{Word}
 use Rattle.sig_conditions.specs.declared.word.Word.TheVariants.{Open, Close, Or, And, Not, One, All, Of, Them, Name, Pattern, Bad}
 use Rattle.sig_conditions.specs.Conditions.{Cond, CName, COneOf, CAllOf, CNot, Conds, no_conds, put, joined_or, joined_and}
-use Rattle.sig_conditions.specs.Words.{begins, is_or, is_and, is_of, nesting, nests}
-use Rattle.sig_conditions.specs.Grammar.{selector_of, IsOr, or_chain, OrTail, or_end, or_next, IsAnd, and_chain, AndTail, and_end, and_next, IsNot, negated, plain, IsAtom, paren, named, one_of, all_of}
+use Rattle.sig_conditions.specs.Words.{is_or, is_and, nesting}
+use Rattle.sig_conditions.specs.Grammar.{selector_of, IsOr, or_chain, OrTail, or_end, or_next, IsAnd, and_chain, AndTail, and_end, and_next, IsNot, negated, plain, paren, named, one_of, all_of}
 use Rattle.sig_conditions.specs.Reader.{◌>>=◌, read, read_map, tail_in, chain_in, not_in, and_in, or_in, closed, chosen, selected, behind_of, atom_at, not_at, no_more, alone, condition_in}
-use Rattle.sig_conditions.proofs.Chains.{same_read, Mapped, read_map_some, Bound, bind_some, Chained, chain_case, Tail, stops, goes, tail_case}
+use Rattle.sig_conditions.proofs.Chains.{same_read, read_map_some, bind_some, chain_case, stops, goes, tail_case}
 use Rattle.sig_conditions.proofs.Complete.{read_or}
-use Rattle.sig_conditions.proofs.Tests.{or_word, and_word}
+use Rattle.sig_conditions.proofs.WordTests.{or_word, and_word}
 
 -- a front of the words is this by the grammar, and these stand behind
 pub record Front {C : Type 0} (R : List Word → C → Type 0) (ws : List Word) (c : C) (rest : List Word) : Type 0 where
@@ -42,7 +42,7 @@ or_goes : (w : Word) (ws behind rest : List Word) (c : Cond) (ds cs : Conds) →
 or_goes w ws behind rest c ds cs j e a b = record {
   front = Or ∷ (a.front ++ b.front);
   shape = rejoin w Or ws behind rest a.front b.front j a.shape b.shape;
-  holds = subst (λ (x : Conds). OrTail (Or ∷ (a.front ++ b.front)) x) e (or_next a.front b.front refl a.holds b.holds)
+  holds = subst (λ (x : Conds). OrTail (Or ∷ (a.front ++ b.front)) x) e (or_next a.front b.front refl a.holds b.holds);
 }
 
 and_goes : (w : Word) (ws behind rest : List Word) (c : Cond) (ds cs : Conds) → w ≡ And → put c ds ≡ cs
@@ -50,7 +50,7 @@ and_goes : (w : Word) (ws behind rest : List Word) (c : Cond) (ds cs : Conds) �
 and_goes w ws behind rest c ds cs j e a b = record {
   front = And ∷ (a.front ++ b.front);
   shape = rejoin w And ws behind rest a.front b.front j a.shape b.shape;
-  holds = subst (λ (x : Conds). AndTail (And ∷ (a.front ++ b.front)) x) e (and_next a.front b.front refl a.holds b.holds)
+  holds = subst (λ (x : Conds). AndTail (And ∷ (a.front ++ b.front)) x) e (and_next a.front b.front refl a.holds b.holds);
 }
 
 tail_zero : (part : List Word → Option (Cond × List Word)) (joins : Word → Bool) (ws rest : List Word) (cs : Conds)
@@ -70,9 +70,9 @@ mutual
   or_tail_sound part s (suc k) [] cs rest h = let e = tail_empty part is_or k rest cs h in or_stops [] rest cs e.0 e.1
   or_tail_sound part s (suc k) (w ∷ ws) cs rest h =
       elim (tail_case part is_or k w ws rest cs h) as (λ _. Front OrTail (w ∷ ws) cs rest) [
-        stops e f ↦ or_stops (w ∷ ws) rest cs e f
-      | goes c behind ds j p t e ↦
-          or_goes w ws behind rest c ds cs (or_word w j) e (s.sound ws c behind p) (or_tail_sound part s k behind ds rest t)
+        | stops e f ↦ or_stops (w ∷ ws) rest cs e f
+        | goes c behind ds j p t e ↦
+            or_goes w ws behind rest c ds cs (or_word w j) e (s.sound ws c behind p) (or_tail_sound part s k behind ds rest t)
       ]
 
 mutual
@@ -82,35 +82,35 @@ mutual
   and_tail_sound part s (suc k) [] cs rest h = let e = tail_empty part is_and k rest cs h in and_stops [] rest cs e.0 e.1
   and_tail_sound part s (suc k) (w ∷ ws) cs rest h =
       elim (tail_case part is_and k w ws rest cs h) as (λ _. Front AndTail (w ∷ ws) cs rest) [
-        stops e f ↦ and_stops (w ∷ ws) rest cs e f
-      | goes c behind ds j p t e ↦
-          and_goes w ws behind rest c ds cs (and_word w j) e (s.sound ws c behind p) (and_tail_sound part s k behind ds rest t)
+        | stops e f ↦ and_stops (w ∷ ws) rest cs e f
+        | goes c behind ds j p t e ↦
+            and_goes w ws behind rest c ds cs (and_word w j) e (s.sound ws c behind p) (and_tail_sound part s k behind ds rest t)
       ]
 
 or_sound : (part : List Word → Option (Cond × List Word)) → Sound IsAnd part → Sound IsOr (chain_in part is_or joined_or)
 or_sound part s = record {
   sound = λ ws c rest h.
-    let g = chain_case part is_or joined_or ws rest c h in
-    let a = s.sound ws g.first g.behind g.reads in
-    let t = or_tail_sound part s (length g.behind) g.behind g.parts rest g.tail in
-    record {
-      front = a.front ++ t.front;
-      shape = rejoin_two ws g.behind rest a.front t.front a.shape t.shape;
-      holds = or_chain a.front t.front g.first g.parts refl a.holds t.holds (sym g.made)
-    }
+      let g = chain_case part is_or joined_or ws rest c h in
+      let a = s.sound ws g.first g.behind g.reads in
+      let t = or_tail_sound part s (length g.behind) g.behind g.parts rest g.tail in
+      record {
+        front = a.front ++ t.front;
+        shape = rejoin_two ws g.behind rest a.front t.front a.shape t.shape;
+        holds = or_chain a.front t.front g.first g.parts refl a.holds t.holds (sym g.made);
+      };
 }
 
 and_sound : (part : List Word → Option (Cond × List Word)) → Sound IsNot part → Sound IsAnd (chain_in part is_and joined_and)
 and_sound part s = record {
   sound = λ ws c rest h.
-    let g = chain_case part is_and joined_and ws rest c h in
-    let a = s.sound ws g.first g.behind g.reads in
-    let t = and_tail_sound part s (length g.behind) g.behind g.parts rest g.tail in
-    record {
-      front = a.front ++ t.front;
-      shape = rejoin_two ws g.behind rest a.front t.front a.shape t.shape;
-      holds = and_chain a.front t.front g.first g.parts refl a.holds t.holds (sym g.made)
-    }
+      let g = chain_case part is_and joined_and ws rest c h in
+      let a = s.sound ws g.first g.behind g.reads in
+      let t = and_tail_sound part s (length g.behind) g.behind g.parts rest g.tail in
+      record {
+        front = a.front ++ t.front;
+        shape = rejoin_two ws g.behind rest a.front t.front a.shape t.shape;
+        holds = and_chain a.front t.front g.first g.parts refl a.holds t.holds (sym g.made);
+      };
 }
 
 -- a closing parenthesis stands there
@@ -172,7 +172,7 @@ paren_sound o s ws c rest h =
     record {
       front = Open ∷ (f.front ++ Close ∷ []);
       shape = ap (λ (xs : List Word). Open ∷ xs) (f.shape ∙ (ap (λ (xs : List Word). f.front ++ xs) e.1 ∙ sym (append_assoc f.front (Close ∷ []) rest)));
-      holds = subst (λ (x : Cond). IsNot (Open ∷ (f.front ++ Close ∷ [])) x) e.0 (plain (paren f.front refl f.holds))
+      holds = subst (λ (x : Cond). IsNot (Open ∷ (f.front ++ Close ∷ [])) x) e.0 (plain (paren f.front refl f.holds));
     }
 
 one_sound : (ws : List Word) (c : Cond) (rest : List Word) → selected COneOf ws ≡ read c rest → Front IsNot (One ∷ ws) c rest
@@ -181,7 +181,7 @@ one_sound ws c rest h =
     record {
       front = One ∷ Of ∷ f.word ∷ [];
       shape = ap (λ (xs : List Word). One ∷ xs) f.shape;
-      holds = subst (λ (x : Cond). IsNot (One ∷ Of ∷ f.word ∷ []) x) f.made (plain (one_of f.word f.selector refl f.selects))
+      holds = subst (λ (x : Cond). IsNot (One ∷ Of ∷ f.word ∷ []) x) f.made (plain (one_of f.word f.selector refl f.selects));
     }
 
 all_sound : (ws : List Word) (c : Cond) (rest : List Word) → selected CAllOf ws ≡ read c rest → Front IsNot (All ∷ ws) c rest
@@ -190,7 +190,7 @@ all_sound ws c rest h =
     record {
       front = All ∷ Of ∷ f.word ∷ [];
       shape = ap (λ (xs : List Word). All ∷ xs) f.shape;
-      holds = subst (λ (x : Cond). IsNot (All ∷ Of ∷ f.word ∷ []) x) f.made (plain (all_of f.word f.selector refl f.selects))
+      holds = subst (λ (x : Cond). IsNot (All ∷ Of ∷ f.word ∷ []) x) f.made (plain (all_of f.word f.selector refl f.selects));
     }
 
 name_sound : (n : List ℕ) (ws : List Word) (c : Cond) (rest : List Word) → read (CName n) ws ≡ read c rest → Front IsNot (Name n ∷ ws) c rest
@@ -199,7 +199,7 @@ name_sound n ws c rest h =
     record {
       front = Name n ∷ [];
       shape = ap (λ (xs : List Word). Name n ∷ xs) e.1;
-      holds = subst (λ (x : Cond). IsNot (Name n ∷ []) x) e.0 (plain (named n refl))
+      holds = subst (λ (x : Cond). IsNot (Name n ∷ []) x) e.0 (plain (named n refl));
     }
 
 negated_sound : (n : List Word → Option (Cond × List Word)) → Sound IsNot n → (ws : List Word) (c : Cond) (rest : List Word)
@@ -210,7 +210,7 @@ negated_sound n s ws c rest h =
     record {
       front = Not ∷ f.front;
       shape = ap (λ (xs : List Word). Not ∷ xs) f.shape;
-      holds = subst (λ (x : Cond). IsNot (Not ∷ f.front) x) m.made (negated f.front refl f.holds)
+      holds = subst (λ (x : Cond). IsNot (Not ∷ f.front) x) m.made (negated f.front refl f.holds);
     }
 
 not_cases : (n o : List Word → Option (Cond × List Word)) → Sound IsNot n → Sound IsOr o → (ws : List Word) (c : Cond) (rest : List Word)
@@ -237,7 +237,7 @@ unfolding not_in
 not_in_sound zero = record { sound = not_cases no_more no_more (nothing_sound IsNot) (nothing_sound IsOr) }
 not_in_sound (suc d) = record {
   sound = not_cases (not_in d) (chain_in (chain_in (not_in d) is_and joined_and) is_or joined_or) (not_in_sound d)
-    (or_sound (chain_in (not_in d) is_and joined_and) (and_sound (not_in d) (not_in_sound d)))
+      (or_sound (chain_in (not_in d) is_and joined_and) (and_sound (not_in d) (not_in_sound d)));
 }
 
 pub or_in_sound : (d : ℕ) → Sound IsOr (or_in d)

@@ -1,5 +1,5 @@
 -- A text has the words that are scanned, and no others.
-use Rattle.std.proofs.Common.{ℕ, ◌≡◌, ◌<◌, ◌≤◌, ◌+◌, Bool, true, false, List, [], ◌∷◌, ◌++◌, length, refl, ap, sym, ◌∙◌, subst, arith, append_assoc}
+use Rattle.std.proofs.Common.{ℕ, ◌≡◌, ◌≤◌, Bool, true, false, List, [], ◌∷◌, ◌++◌, length, refl, ap, sym, ◌∙◌, subst, arith, append_assoc}
 use Rattle.std.specs.Prelude.{◌&&◌, if◌then◌else◌}
 use Rattle.std.specs.List.{list_all}
 use Rattle.std.proofs.lemmas.Bool.Decides.{nat_tests}
@@ -38,10 +38,10 @@ step_spelled : (front : List ℕ) (c : ℕ) (cs : List ℕ) (b : Bool) → is_ru
     → ((more : List ℕ) → list_all is_run_character more ≡ true → AreWords (more ++ cs) (words_from more cs)) → AreWords (front ++ c ∷ cs) (words_from front (c ∷ cs))
 step_spelled front c cs true r a h =
     subst (λ (ws : List Word). AreWords (front ++ c ∷ cs) ws) (sym (run_goes front cs c r))
-      (subst (λ (xs : List ℕ). AreWords xs (words_from (front ++ c ∷ []) cs)) (append_assoc front (c ∷ []) cs) (h (front ++ c ∷ []) (all_push front c a r)))
+    (subst (λ (xs : List ℕ). AreWords xs (words_from (front ++ c ∷ []) cs)) (append_assoc front (c ∷ []) cs) (h (front ++ c ∷ []) (all_push front c a r)))
 step_spelled front c cs false r a h =
     subst (λ (ws : List Word). AreWords (front ++ c ∷ cs) ws) (sym (run_stops front cs c r))
-      (run_spelled front (c ∷ cs) (if is_blank c then words_from [] cs else sign_of c ∷ words_from [] cs) a r (behind_run c cs (is_blank c) refl r (h [] refl)))
+    (run_spelled front (c ∷ cs) (if is_blank c then words_from [] cs else sign_of c ∷ words_from [] cs) a r (behind_run c cs (is_blank c) refl r (h [] refl)))
 
 spelled_from : (text front : List ℕ) → list_all is_run_character front ≡ true → AreWords (front ++ text) (words_from front text)
 spelled_from [] front a = subst (λ (ws : List Word). AreWords (front ++ []) ws) (sym (run_ends front)) (run_spelled front [] [] a refl (no_word refl))
@@ -82,4 +82,4 @@ only_spelled (sign c rest e b r h) = ap (λ (ws : List Word). sign_of c ∷ ws) 
 only_spelled (run front rest e l a b h) =
     ap (λ (ws : List Word). word_of front ∷ ws) (only_spelled h)
     ∙ (sym (word_ended front (words_from [] rest) l)
-      ∙ (sym (stops_there front rest b) ∙ (sym (through front rest [] a) ∙ sym (ap words e))))
+    ∙ (sym (stops_there front rest b) ∙ (sym (through front rest [] a) ∙ sym (ap words e))))

@@ -1,17 +1,13 @@
 -- The loop over a chain: what has been read and the tail that is left make the whole tail.
-use Rattle.std.proofs.Common.{ℕ, zero, suc, ◌≡◌, ◌<◌, ◌≤◌, ◌+◌, ◌-◌, Bool, true, false, List, [], ◌∷◌, ◌++◌, length, drop, map, refl, ap, sym, ◌∙◌, subst, arith, length-drop}
-use Rattle.std.specs.Prelude.{Some, None, Ok, Err}
+use Rattle.std.proofs.Common.{ℕ, zero, suc, ◌≡◌, ◌<◌, ◌≤◌, ◌+◌, ◌-◌, Bool, true, false, List, [], ◌∷◌, ◌++◌, length, drop, refl, ap, sym, ◌∙◌, arith}
+use Rattle.std.specs.Prelude.{Some, None}
 use Rattle.std.specs.declared.option.Option.{Option}
-use Rattle.std.specs.declared.result.Result.{Result}
 use Rattle.sig_conditions.specs.declared.condition.Condition.{Condition}
-use Rattle.sig_conditions.specs.declared.stop.Stop.{Stop}
-use Rattle.sig_conditions.specs.declared.stop.Stop.TheVariants.{Memory, Unread}
 use Rattle.sig_conditions.specs.declared.word.Word.{Word}
 use Rattle.sig_conditions.specs.Conditions.{Cond, Conds, no_conds, put, conds_of, cond_view, conds_view}
-use Rattle.sig_conditions.specs.Outcome.{Fails, Reads}
 use Rattle.sig_conditions.specs.Words.{begins}
 use Rattle.sig_conditions.specs.Reader.{◌>>=◌, read, read_map, tail_in, chain_in}
-use Rattle.sig_conditions.proofs.Chains.{chain_at, tail_stop}
+use Rattle.sig_conditions.proofs.Chains.{tail_stop}
 
 -- a list before the parts that follow
 abbrev pub prepend : List Cond → Conds → Conds
@@ -46,9 +42,10 @@ front_of joins (w ∷ ws) (suc at) b =
     let f = front_of joins ws at b in
     let e : suc at + 1 ≡ suc (at + 1) = omega arith in
     record {
-      word = f.word; passes = f.passes;
+      word = f.word;
+      passes = f.passes;
       shape = f.shape ∙ ap (λ (n : ℕ). f.word ∷ drop n (w ∷ ws)) (sym e);
-      within = omega (arith, f.within)
+      within = omega (arith, f.within);
     }
 
 -- one turn of the tail
@@ -66,14 +63,13 @@ read_map_twice xs c None = refl
 read_map_twice xs c (Some (cs, ws)) = ap (λ (x : Conds). read x ws) (sym (prepend-push xs c cs))
 
 module _ (part : List Word → Option (Cond × List Word)) (joins : Word → Bool) (words : List Word) (fuel at : ℕ) (xs : List Condition) (whole : Option (Conds × List Word)) where
-
   -- the part that stands at the place, and then the rest of the tail
   turn : read_map (prepend (conds_view xs)) (tail_in part joins fuel (drop at words)) ≡ whole → begins joins (drop at words) ≡ true → length words ≤ fuel + at
       → read_map (prepend (conds_view xs)) (part (drop (at + 1) words) >>= (λ r. read_map (put r.0) (tail_in part joins (fuel - 1) r.1))) ≡ whole
   turn inv b l =
       let f = front_of joins words at b in
       sym (ap (λ (k : ℕ). read_map (prepend (conds_view xs)) (tail_in part joins k (drop at words))) (fuel_left fuel at (length words) l f.within)
-        ∙ ap (read_map (prepend (conds_view xs))) (tail_turn part joins (fuel - 1) (drop at words) (drop (at + 1) words) f.word f.shape f.passes)) ∙ inv
+      ∙ ap (read_map (prepend (conds_view xs))) (tail_turn part joins (fuel - 1) (drop at words) (drop (at + 1) words) f.word f.shape f.passes)) ∙ inv
 
   pub turned : (behind : ℕ) (c : Condition) (ys : List Condition)
       → read_map (prepend (conds_view xs)) (tail_in part joins fuel (drop at words)) ≡ whole → begins joins (drop at words) ≡ true → length words ≤ fuel + at
@@ -82,8 +78,8 @@ module _ (part : List Word → Option (Cond × List Word)) (joins : Word → Boo
   turned behind c ys inv b l p e =
       ap (λ (zs : List Condition). read_map (prepend (conds_view zs)) (tail_in part joins (fuel - 1) (drop behind words))) e
       ∙ (sym (read_map_twice xs c (tail_in part joins (fuel - 1) (drop behind words)))
-        ∙ (sym (ap (λ (o : Option (Cond × List Word)). read_map (prepend (conds_view xs)) (o >>= (λ r. read_map (put r.0) (tail_in part joins (fuel - 1) r.1)))) p)
-          ∙ turn inv b l))
+      ∙ (sym (ap (λ (o : Option (Cond × List Word)). read_map (prepend (conds_view xs)) (o >>= (λ r. read_map (put r.0) (tail_in part joins (fuel - 1) r.1)))) p)
+      ∙ turn inv b l))
 
   -- a part that isn't read ends it all
   pub later_none : read_map (prepend (conds_view xs)) (tail_in part joins fuel (drop at words)) ≡ whole → begins joins (drop at words) ≡ true → length words ≤ fuel + at
@@ -98,7 +94,7 @@ module _ (part : List Word → Option (Cond × List Word)) (joins : Word → Boo
   tail_ended inv b =
       sym inv
       ∙ (ap (read_map (prepend (conds_view xs))) (tail_stop part joins fuel (drop at words) b)
-        ∙ ap (λ (x : Conds). read x (drop at words)) (prepend-end (conds_view xs)))
+      ∙ ap (λ (x : Conds). read x (drop at words)) (prepend-end (conds_view xs)))
 
 pub chain_none : (part : List Word → Option (Cond × List Word)) (joins : Word → Bool) (join : Cond → Conds → Cond) (ws : List Word)
     → part ws ≡ None → chain_in part joins join ws ≡ None

@@ -13,6 +13,7 @@ mutual
     CNot : (part : Cond) → Cond
     CAnd : (parts : Conds) → Cond
     COr : (parts : Conds) → Cond
+
   pub data Conds : Type 0 where
     no_conds : Conds
     put : (first : Cond) → (rest : Conds) → Conds

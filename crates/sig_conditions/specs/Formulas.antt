@@ -13,6 +13,7 @@ mutual
     FNot : (part : Form) → Form
     FAnd : (parts : Forms) → Form
     FOr : (parts : Forms) → Form
+
   pub data Forms : Type 0 where
     no_forms : Forms
     form : (first : Form) → (rest : Forms) → Forms

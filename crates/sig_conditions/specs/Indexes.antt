@@ -1,7 +1,6 @@
 -- The numbers of a rule's names, looked up by the bytes of a name.
 use Rattle.std.specs.Prelude.{ℕ, ◌≡◌, true, List, encode_utf8_all, String}
 use Rattle.std.specs.Str.{all_scalars}
-
 use Rattle.std.specs.BTreeMap.{BTreeMap, get_by_text}
 use Rattle.sig_conditions.specs.Taken.{number_of}
 

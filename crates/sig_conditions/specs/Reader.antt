@@ -1,5 +1,5 @@
 -- A reader of words from the left: the condition at the front and the words behind it, if there is one.
-use Rattle.std.specs.Prelude.{ℕ, zero, suc, ◌≡◌, Bool, true, false, List, [], ◌∷◌, ◌++◌, length, Some, None, if◌then◌else◌}
+use Rattle.std.specs.Prelude.{ℕ, zero, suc, Bool, List, [], ◌∷◌, length, Some, None, if◌then◌else◌}
 use Rattle.std.specs.declared.option.Option.{Option}
 use Rattle.sig_conditions.specs.declared.selector.Selector.{Selector}
 use Rattle.sig_conditions.specs.declared.word.Word.{Word}

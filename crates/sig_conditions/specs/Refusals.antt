@@ -1,7 +1,6 @@
 -- Which condition a text is, and why a text is none.
-use Rattle.std.specs.Prelude.{ℕ, ◌≡◌, ◌<◌, ◌≤◌, Bool, true, false, List, ◌∷◌}
+use Rattle.std.specs.Prelude.{ℕ, ◌≡◌, ◌<◌, ◌≤◌, true, false, List, ◌∷◌}
 use Rattle.sig_base.specs.declared.refusal.Place.{Place}
-use Rattle.sig_base.specs.declared.refusal.Detail.{Detail}
 use Rattle.sig_base.specs.declared.refusal.Detail.TheVariants as detail
 use Rattle.sig_base.specs.declared.refusal.Refusal.{Refusal}
 use Rattle.sig_base.specs.declared.refusal.Fault.{Fault}

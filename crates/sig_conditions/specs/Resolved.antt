@@ -1,5 +1,5 @@
 -- What a resolver of the code answers beside the formula and the faults of a condition.
-use Rattle.std.specs.Prelude.{ℕ, ◌≡◌, List, [], ◌∷◌, Some, None, Ok, Err}
+use Rattle.std.specs.Prelude.{ℕ, ◌≡◌, List, [], ◌∷◌, Some, Ok, Err}
 use Rattle.std.specs.declared.option.Option.{Option}
 use Rattle.std.specs.declared.result.Result.{Result}
 use Rattle.sig_conditions.specs.declared.unresolved.Unresolved.{Unresolved}

@@ -23,14 +23,14 @@ is_star c = c == 42
 -- the keywords, all lower or all upper case
 abbrev pub keywords : List (List ℕ × Word)
 keywords =
-  (codes "or", Or) ∷ (codes "OR", Or) ∷
-  (codes "and", And) ∷ (codes "AND", And) ∷
-  (codes "not", Not) ∷ (codes "NOT", Not) ∷
-  (codes "1", One) ∷ (codes "any", One) ∷ (codes "ANY", One) ∷
-  (codes "all", All) ∷ (codes "ALL", All) ∷
-  (codes "of", Of) ∷ (codes "OF", Of) ∷
-  (codes "them", Them) ∷ (codes "THEM", Them) ∷
-  []
+    (codes "or", Or) ∷ (codes "OR", Or) ∷
+    (codes "and", And) ∷ (codes "AND", And) ∷
+    (codes "not", Not) ∷ (codes "NOT", Not) ∷
+    (codes "1", One) ∷ (codes "any", One) ∷ (codes "ANY", One) ∷
+    (codes "all", All) ∷ (codes "ALL", All) ∷
+    (codes "of", Of) ∷ (codes "OF", Of) ∷
+    (codes "them", Them) ∷ (codes "THEM", Them) ∷
+    []
 
 -- the keyword that a run is, or the name
 abbrev pub keyword_in : List (List ℕ × Word) → List ℕ → Word

@@ -13,17 +13,14 @@ ghost use Rattle.sig_conditions.specs.declared.word.Word.{Word};
 pub fn one_list_of_words()
     ensures some { (text : List ℕ) → AreWords text (words text) }
     ensures one { (text : List ℕ) (ws : List Word) → AreWords text ws → ws ≡ words text }
-{
-}
+{}
 
 /// Words are one condition, if any.
 pub fn one_condition()
     ensures { (ws : List Word) (c d : Cond) → ConditionReads ws c → ConditionReads ws d → c ≡ d }
-{
-}
+{}
 
 /// The formula of a condition is true exactly where the condition holds of the detections.
 pub fn same_meaning()
     ensures { (names : List (List ℕ)) (is_true : ℕ → Bool) (c : Cond) (f : Form) → formula_of names c ≡ Some f → value is_true f ≡ holds names is_true c }
-{
-}
+{}

@@ -23,5 +23,7 @@ mod scan;
 mod selector;
 mod stop;
 mod taking;
+#[cfg(test)]
+mod tests;
 mod unresolved;
 mod word;

@@ -43,7 +43,12 @@ fn read_selector(alloc: Global, words: &[Word], at: usize) -> Result<Selector, S
 
 /// Parts with the word `or` between.
 #[cycle(reader)]
-fn read_or(alloc: Global, depth: usize, words: &[Word], at: usize) -> Result<(Condition, usize), Stop>
+fn read_or(
+    alloc: Global,
+    depth: usize,
+    words: &[Word],
+    at: usize,
+) -> Result<(Condition, usize), Stop>
     requires { at ≤ length words.now }
     ensures reads { Reads words.now result (or_in depth (drop at words.now)) }
     ensures later { IfOk result (λ p. at < p.1) }
@@ -62,7 +67,12 @@ fn read_or(alloc: Global, depth: usize, words: &[Word], at: usize) -> Result<(Co
 
 /// Parts with the word `and` between.
 #[cycle(reader)]
-fn read_and(alloc: Global, depth: usize, words: &[Word], at: usize) -> Result<(Condition, usize), Stop>
+fn read_and(
+    alloc: Global,
+    depth: usize,
+    words: &[Word],
+    at: usize,
+) -> Result<(Condition, usize), Stop>
     requires { at ≤ length words.now }
     ensures reads { Reads words.now result (and_in depth (drop at words.now)) }
     ensures later { IfOk result (λ p. at < p.1) }
@@ -81,7 +91,12 @@ fn read_and(alloc: Global, depth: usize, words: &[Word], at: usize) -> Result<(C
 
 /// Any number of the word `not`, and an atom.
 #[cycle(reader)]
-fn read_not(alloc: Global, depth: usize, words: &[Word], at: usize) -> Result<(Condition, usize), Stop>
+fn read_not(
+    alloc: Global,
+    depth: usize,
+    words: &[Word],
+    at: usize,
+) -> Result<(Condition, usize), Stop>
     requires { at ≤ length words.now }
     ensures reads { Reads words.now result (not_in depth (drop at words.now)) }
     ensures later { IfOk result (λ p. at < p.1) }
@@ -99,7 +114,12 @@ fn read_not(alloc: Global, depth: usize, words: &[Word], at: usize) -> Result<(C
 
 /// A name, a choice, or a condition in parentheses.
 #[cycle(reader)]
-fn read_atom(alloc: Global, depth: usize, words: &[Word], at: usize) -> Result<(Condition, usize), Stop>
+fn read_atom(
+    alloc: Global,
+    depth: usize,
+    words: &[Word],
+    at: usize,
+) -> Result<(Condition, usize), Stop>
     requires { at ≤ length words.now }
     ensures reads { Reads words.now result (atom_in depth (drop at words.now)) }
     ensures later { IfOk result (λ p. at < p.1) }
@@ -117,8 +137,14 @@ fn read_atom(alloc: Global, depth: usize, words: &[Word], at: usize) -> Result<(
             Ok((inner, end + 1))
         }
         Some(Word::Name(name)) => Ok((Condition::Name(name_of(alloc, name)?), at + 1)),
-        Some(Word::One) => Ok((Condition::OneOf(read_selector(alloc, words, at + 1)?), at + 3)),
-        Some(Word::All) => Ok((Condition::AllOf(read_selector(alloc, words, at + 1)?), at + 3)),
+        Some(Word::One) => Ok((
+            Condition::OneOf(read_selector(alloc, words, at + 1)?),
+            at + 3,
+        )),
+        Some(Word::All) => Ok((
+            Condition::AllOf(read_selector(alloc, words, at + 1)?),
+            at + 3,
+        )),
         _ => Err(Stop::Unread),
     }
 }

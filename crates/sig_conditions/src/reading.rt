@@ -50,7 +50,12 @@ fn refused(code: Code, place: Place) -> Fault
 
 /// Reads a condition, whose names may be any: `OldAggregation` at a `|`, `ConditionDepth` past so many words `(` and
 /// `not`, and then `ConditionSyntax` where the words have no reading.
-pub fn read_condition(alloc: Global, limits: &Limits, text: &str, place: Place) -> Result<Condition, Fault>
+pub fn read_condition(
+    alloc: Global,
+    limits: &Limits,
+    text: &str,
+    place: Place,
+) -> Result<Condition, Fault>
     ensures read { IfOk result (λ c. IsRead limits.now.condition_words (chars text.now) (cond_view c)) }
     ensures refused { IfErr result (λ e. IsUnread limits.now.condition_words (chars text.now) place e) }
 {

@@ -28,7 +28,12 @@ fn unknown(alloc: Global, name: &Text) -> Unresolved
 }
 
 /// The detection of a name.
-fn resolve_name(alloc: Global, name: &Text, names: &[Text], index: &BTreeMap<String, u32>) -> Result<Formula, Unresolved>
+fn resolve_name(
+    alloc: Global,
+    name: &Text,
+    names: &[Text],
+    index: &BTreeMap<String, u32>,
+) -> Result<Formula, Unresolved>
     requires { Indexes names.now index.now }
     ensures { Resolves form_view result (named (number_of name.now names.now)) (none_named name.now (number_of name.now names.now)) }
 {
@@ -64,7 +69,12 @@ fn resolve_each(alloc: Global, selector: &Selector, names: &[Text]) -> Result<Fo
 
 /// The formula of a condition.
 #[cycle(resolver)]
-pub fn resolve(alloc: Global, condition: &Condition, names: &[Text], index: &BTreeMap<String, u32>) -> Result<Formula, Unresolved>
+pub fn resolve(
+    alloc: Global,
+    condition: &Condition,
+    names: &[Text],
+    index: &BTreeMap<String, u32>,
+) -> Result<Formula, Unresolved>
     requires few { length names.now < 2 ^ 32 }
     requires indexed { Indexes names.now index.now }
     ensures { Resolves form_view result (formula_of names.now (cond_view condition.now)) (faults names.now (cond_view condition.now)) }
@@ -90,7 +100,12 @@ pub fn resolve(alloc: Global, condition: &Condition, names: &[Text], index: &BTr
 
 /// The formulas of the parts of a chain.
 #[cycle(resolver)]
-fn resolve_all(alloc: Global, parts: &[Condition], names: &[Text], index: &BTreeMap<String, u32>) -> Result<Vec<Formula>, Unresolved>
+fn resolve_all(
+    alloc: Global,
+    parts: &[Condition],
+    names: &[Text],
+    index: &BTreeMap<String, u32>,
+) -> Result<Vec<Formula>, Unresolved>
     requires few { length names.now < 2 ^ 32 }
     requires indexed { Indexes names.now index.now }
     ensures { Resolves (λ all. forms_of (forms_view all.items)) result (formulas_of names.now (conds_of (conds_view parts.now))) (faults_of names.now (conds_of (conds_view parts.now))) }

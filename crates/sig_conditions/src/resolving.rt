@@ -16,7 +16,12 @@ use std::alloc::Global;
 /// Puts the numbers of a rule's detections in place of their names, where `names` has the names in the rule's order. Of
 /// the names and selectors that have no detection, the first in the text is refused: `UnknownName` with the name, or
 /// `NothingTaken`. More than 2^32 - 1 detections can't be numbered, which is want of memory.
-pub fn resolve_condition(alloc: Global, condition: &Condition, names: &[Text], place: Place) -> Result<Formula, Fault>
+pub fn resolve_condition(
+    alloc: Global,
+    condition: &Condition,
+    names: &[Text],
+    place: Place,
+) -> Result<Formula, Fault>
     ensures formula { IfOk result (λ f. formula_of names.now (cond_view condition.now) ≡ Some (form_view f)) }
     ensures refused { IfErr result (λ e. IsUnresolved names.now (cond_view condition.now) place e) }
 {

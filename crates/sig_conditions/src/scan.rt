@@ -21,7 +21,12 @@ pub fn has_character(text: &str, wanted: char) -> bool
 fn can_run(c: char) -> bool
     ensures { result ≡ is_run_character c }
 {
-    c.is_ascii_lowercase() || c.is_ascii_uppercase() || c.is_ascii_digit() || c == '_' || c == '*' || c == '-'
+    c.is_ascii_lowercase()
+        || c.is_ascii_uppercase()
+        || c.is_ascii_digit()
+        || c == '_'
+        || c == '*'
+        || c == '-'
 }
 
 /// Whether this character only stands between words.

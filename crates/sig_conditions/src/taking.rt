@@ -19,9 +19,7 @@ struct Rest<'a> {
 
 impl<'a> Cursor for Rest<'a> {
     ghost use Rattle.std.specs.Prelude.{◌≡◌, true, length};
-
     ghost use Rattle.std.specs.Str.{chars};
-
     ghost use Rattle.sig_conditions.specs.Taken.{fits};
 
     ghost holds = { λ at name. fits (chars at.word.now) name ≡ true };
@@ -71,7 +69,11 @@ fn does_take(selector: &Selector, name: &Text) -> bool
 }
 
 /// The detections that a selector takes, in the rule's order.
-pub fn take_names(alloc: Global, selector: &Selector, names: &[Text]) -> Result<Vec<Formula>, AllocError>
+pub fn take_names(
+    alloc: Global,
+    selector: &Selector,
+    names: &[Text],
+) -> Result<Vec<Formula>, AllocError>
     requires { length names.now < 2 ^ 32 }
     ensures { IfOk result (λ all. forms_view all.items ≡ numbered (taken selector.now names.now)) }
 {

@@ -8,7 +8,7 @@ use Rattle.sig_conditions.proofs.index.index_names.Given as goal
 abbrev pub invariant-loop-at : goal.invariant-loop-at
 invariant-loop-at l = record {
   within : l.at ≤ length l.names;
-  finds : (name : List ℕ) → all_scalars name ≡ true → get_by_text l.index (encode_utf8_all name) ≡ number_from l.at name (drop l.at l.names)
+  finds : (name : List ℕ) → all_scalars name ≡ true → get_by_text l.index (encode_utf8_all name) ≡ number_from l.at name (drop l.at l.names);
 }
 
 abbrev pub decreases-loop-at : goal.decreases-loop-at

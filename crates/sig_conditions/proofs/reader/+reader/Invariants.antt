@@ -1,4 +1,4 @@
-use Rattle.std.proofs.Common.{◌≡◌, ◌<◌, ◌≤◌, ◌+◌, ◌-◌, ◌*◌, ℕ, length, drop}
+use Rattle.std.proofs.Common.{◌≡◌, ◌≤◌, ◌+◌, ◌-◌, ◌*◌, ℕ, length, drop}
 use Rattle.sig_conditions.specs.Conditions.{conds_view}
 use Rattle.sig_conditions.specs.Words.{is_and, is_or}
 use Rattle.sig_conditions.specs.Reader.{and_in, not_in, read_map, tail_in}
@@ -25,7 +25,7 @@ invariant-read_or-parts l = record {
   fuel : ℕ;
   enough : length l.words ≤ fuel + l.end;
   tail : read_map (prepend (conds_view l.more.items)) (tail_in (and_in l.depth) is_or fuel (drop l.end l.words))
-    ≡ tail_in (and_in l.depth) is_or (length (drop l.initial.end l.words)) (drop l.initial.end l.words)
+      ≡ tail_in (and_in l.depth) is_or (length (drop l.initial.end l.words)) (drop l.initial.end l.words);
 }
 
 abbrev pub decreases-read_or-parts : goal.decreases-read_or-parts
@@ -39,7 +39,7 @@ invariant-read_and-parts l = record {
   fuel : ℕ;
   enough : length l.words ≤ fuel + l.end;
   tail : read_map (prepend (conds_view l.more.items)) (tail_in (not_in l.depth) is_and fuel (drop l.end l.words))
-    ≡ tail_in (not_in l.depth) is_and (length (drop l.initial.end l.words)) (drop l.initial.end l.words)
+      ≡ tail_in (not_in l.depth) is_and (length (drop l.initial.end l.words)) (drop l.initial.end l.words);
 }
 
 abbrev pub decreases-read_and-parts : goal.decreases-read_and-parts

@@ -1,4 +1,3 @@
-use Rattle.sig_conditions.specs.Conditions.{cond_view}
 use Rattle.sig_conditions.proofs.Places.{words_left}
 use Rattle.sig_conditions.proofs.reader.read_words.Goals as goal
 

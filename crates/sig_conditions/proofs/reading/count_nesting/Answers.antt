@@ -1,4 +1,4 @@
-use Rattle.std.proofs.Common.{◌≡◌, ◌<◌, ◌≤◌, ◌+◌, ℕ, List, ◌∷◌, length, drop, get_or, ap, sym, ◌∙◌, arith}
+use Rattle.std.proofs.Common.{◌≡◌, ◌<◌, ◌+◌, ℕ, List, ◌∷◌, length, drop, get_or, ap, sym, ◌∙◌, arith}
 use Rattle.std.proofs.lemmas.List.{at_drop_all, drop_more}
 use Rattle.sig_conditions.specs.declared.word.Word.{Word}
 use Rattle.sig_conditions.specs.Words.{nesting, nests}
@@ -12,7 +12,7 @@ nesting_at ws i w l e =
 pub loop-word-preserved : goal.loop-word-preserved
 loop-word-preserved c = record {
   small = omega arith;
-  sum = omega (arith, nesting_at c.args.words.now c.loop-word.word-index c.word-item.result c.loop-word-test.true c.word-item.is)
+  sum = omega (arith, nesting_at c.args.words.now c.loop-word.word-index c.word-item.result c.loop-word-test.true c.word-item.is);
 }
 
 pub returns : goal.returns

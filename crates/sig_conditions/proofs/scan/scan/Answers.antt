@@ -1,11 +1,11 @@
-use Rattle.std.proofs.Common.{◌≡◌, ℕ, ◌+◌, ◌<◌, List, [], ◌∷◌, ◌++◌, length, get_or, drop, sym, ap, ◌∙◌, arith}
+use Rattle.std.proofs.Common.{◌≡◌, ℕ, ◌+◌, ◌<◌, List, [], ◌∷◌, ◌++◌, length, get_or, drop, sym, ap, ◌∙◌}
 use Rattle.std.proofs.lemmas.Iterator.{YieldsList-from_chars}
 use Rattle.std.proofs.lemmas.List.{drop_more, length_push}
 use Rattle.std.proofs.lemmas.Iterator.Consumers.{YieldsList-turn, YieldsList-end}
 use Rattle.std.proofs.Math.Seq.{drop-length}
 use Rattle.std.specs.Str.{chars}
 use Rattle.sig_conditions.specs.declared.word.Word.{Word}
-use Rattle.sig_conditions.specs.Words.{ended, words, words_from}
+use Rattle.sig_conditions.specs.Words.{words_from}
 use Rattle.sig_conditions.proofs.Scans.{run_ends}
 use Rattle.sig_conditions.proofs.scan.scan.Goals as goal
 
@@ -29,12 +29,12 @@ pub loop-c-preserved : goal.loop-c-preserved
 loop-c-preserved c =
     let t = YieldsList-turn (YieldsList-from_chars c.args.text.now c.utf8.text cc) c.loop-c.yielded _ c.loop-c.yielded_by _ _ c.in-Some.c c.in-Some.is c.next.ensures.steps in
     step c.loop-c.scanner.words.items c.take.new.self.words.items c.loop-c.scanner.run c.take.new.self.run (chars c.args.text.now) c.loop-c.yielded c.in-Some.c _ t
-      c.loop-c.invariant c.in_ok-take.ensures
+    c.loop-c.invariant c.in_ok-take.ensures
 
 pub returns : goal.returns
 returns c =
     let t = YieldsList-end (YieldsList-from_chars c.args.text.now c.utf8.text cc) c.loop-c.yielded _ c.loop-c.yielded_by _ _ c.in-None.is c.next.ensures.steps in
     c.in_ok-end_run.ensures.words
     ∙ (ap (λ (ws : List Word). c.loop-c.scanner.words.items ++ ws) (sym (run_ends c.loop-c.scanner.run))
-      ∙ (ap (λ (xs : List ℕ). c.loop-c.scanner.words.items ++ words_from c.loop-c.scanner.run xs) (sym (none_left (chars c.args.text.now) c.loop-c.yielded t.1))
-        ∙ c.loop-c.invariant))
+    ∙ (ap (λ (xs : List ℕ). c.loop-c.scanner.words.items ++ words_from c.loop-c.scanner.run xs) (sym (none_left (chars c.args.text.now) c.loop-c.yielded t.1))
+    ∙ c.loop-c.invariant))

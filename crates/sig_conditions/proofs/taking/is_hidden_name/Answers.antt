@@ -1,5 +1,4 @@
-use Rattle.std.proofs.Common.{◌≡◌, false, sym, ap}
-use Rattle.std.specs.Str.{chars}
+use Rattle.std.proofs.Common.{sym, ap}
 use Rattle.sig_conditions.specs.Taken.{is_hidden}
 use Rattle.sig_conditions.proofs.Fitting.{chars-none}
 use Rattle.sig_conditions.proofs.taking.is_hidden_name.Goals as goal

@@ -1,4 +1,3 @@
-use Rattle.std.proofs.Common.{◌≡◌, ℕ, List}
 use Rattle.std.specs.Str.{chars}
 use Rattle.sig_conditions.proofs.Fitting.{chars-none, fits-nil, fits-star}
 use Rattle.sig_conditions.proofs.taking.RestCursor.step.Goals as goal
