@@ -4,7 +4,8 @@ use Rattle.std.specs.Prelude.{◌||◌}
 use Rattle.std.specs.Str.{chars}
 use Rattle.std.proofs.lemmas.Str.{chars-nil}
 use Rattle.matching.specs.Suffixes.{SuffixHolds}
-use Rattle.sig_conditions.specs.Taken.{some_suffix, fits, is_empty}
+use Rattle.sig_conditions.specs.Taken.{some_suffix, fits}
+use Rattle.sig_conditions.specs.Words.{is_empty}
 
 only_empty : (text : List ℕ) → is_empty text ≡ true → text ≡ []
 only_empty [] h = refl

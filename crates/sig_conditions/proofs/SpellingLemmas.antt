@@ -1,11 +1,14 @@
 -- A text has the words that are scanned, and no others.
 use Rattle.std.proofs.Common.{ℕ, ◌≡◌, ◌≤◌, Bool, true, false, List, [], ◌∷◌, ◌++◌, length, refl, ap, sym, ◌∙◌, subst, arith, append_assoc}
-use Rattle.std.specs.Prelude.{◌&&◌, if◌then◌else◌}
-use Rattle.std.specs.List.{list_all}
+use Rattle.std.specs.Prelude.{◌&&◌, not, Some, None, if◌then◌else◌}
+use Rattle.std.specs.declared.option.Option.{Option}
+use Rattle.std.specs.Option.{is_some}
+use Rattle.std.specs.List.{list_all, list_any}
 use Rattle.std.proofs.lemmas.Bool.Decides.{nat_tests}
 use Rattle.std.proofs.lemmas.Bool.{and_parts}
 use Rattle.sig_conditions.specs.declared.word.Word.{Word}
-use Rattle.sig_conditions.specs.Words.{ended, is_blank, is_run_character, sign_of, word_of, words, words_from}
+use Rattle.sig_conditions.specs.declared.word.Word.TheVariants.{Name, Pattern}
+use Rattle.sig_conditions.specs.Words.{ended, is_blank, is_empty, is_identifier, is_run_character, is_star, keyword_in, keywords, name_unless, sign_of, word_of, words, words_from}
 use Rattle.sig_conditions.specs.Spelling.{begins_run, AreWords, no_word, blank, sign, run}
 use Rattle.sig_conditions.proofs.Scans.{run_goes, run_stops, run_ends, if_true, if_false}
 
@@ -83,3 +86,27 @@ only_spelled (run front rest e l a b h) =
     ap (λ (ws : List Word). word_of front ∷ ws) (only_spelled h)
     ∙ (sym (word_ended front (words_from [] rest) l)
     ∙ (sym (stops_there front rest b) ∙ (sym (through front rest [] a) ∙ sym (ap words e))))
+
+-- a name alone is one word
+named_word : (star : Bool) (found : Option Word) (name : List ℕ) → not star ≡ true → not (is_some found) ≡ true
+    → (if star then Pattern name else name_unless found name) ≡ Name name
+named_word true found name a b = absurd cc
+named_word false None name a b = refl
+named_word false (Some w) name a b = absurd cc
+
+one_word : (name : List ℕ) → list_all is_run_character name ≡ true → 1 ≤ length name → words name ≡ word_of name ∷ []
+one_word name a l =
+    ap (words_from []) (sym (append_nothing name))
+    ∙ (through name [] [] a ∙ (run_ends name ∙ word_ended name [] l))
+
+some_character : (name : List ℕ) → not (is_empty name) ≡ true → 1 ≤ length name
+some_character [] h = absurd cc
+some_character (c ∷ cs) h = omega arith
+
+pub identifier_word : (name : List ℕ) → is_identifier name ≡ true → words name ≡ Name name ∷ []
+identifier_word name h =
+    let p = and_parts (not (is_empty name) && list_all is_run_character name && not (list_any is_star name)) (not (is_some (keyword_in keywords name))) h in
+    let q = and_parts (not (is_empty name) && list_all is_run_character name) (not (list_any is_star name)) p.0 in
+    let r = and_parts (not (is_empty name)) (list_all is_run_character name) q.0 in
+    one_word name r.1 (some_character name r.0)
+    ∙ ap (λ (w : Word). w ∷ []) (named_word (list_any is_star name) (keyword_in keywords name) name q.1 p.1)

@@ -4,7 +4,7 @@ use Rattle.std.specs.Prelude.{ℕ, Bool, true, false, List, [], ◌∷◌, if◌
 use Rattle.std.specs.declared.option.Option.{Option}
 use Rattle.sig_conditions.specs.declared.selector.Selector.{Selector}
 use Rattle.sig_conditions.specs.declared.selector.Selector.TheVariants as selector
-use Rattle.sig_conditions.specs.Words.{is_star}
+use Rattle.sig_conditions.specs.Words.{is_empty, is_star}
 
 -- a name that begins with `_`
 abbrev pub is_hidden : List ℕ → Bool
@@ -20,10 +20,6 @@ some_suffix test (c ∷ cs) = test (c ∷ cs) || some_suffix test cs
 abbrev pub begins_with : ℕ → (List ℕ → Bool) → List ℕ → Bool
 begins_with c test [] = false
 begins_with c test (d ∷ ds) = c == d && test ds
-
-abbrev pub is_empty : List ℕ → Bool
-is_empty [] = true
-is_empty (c ∷ cs) = false
 
 -- the name is the word, where each star stands for any run of characters
 abbrev pub fits : List ℕ → List ℕ → Bool

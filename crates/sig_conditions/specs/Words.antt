@@ -1,6 +1,8 @@
 -- The words of a condition, in the order of its text.
-use Rattle.std.specs.Prelude.{ℕ, Bool, true, false, List, [], ◌∷◌, ◌++◌, if◌then◌else◌, ◌==◌, ◌||◌, ◌&&◌, ◌+◌, nat_le, bytes_eq, codes}
-use Rattle.std.specs.List.{list_any}
+use Rattle.std.specs.Prelude.{ℕ, Bool, true, false, List, [], ◌∷◌, ◌++◌, if◌then◌else◌, ◌==◌, ◌||◌, ◌&&◌, ◌+◌, nat_le, not, bytes_eq, codes, Some, None}
+use Rattle.std.specs.declared.option.Option.{Option}
+use Rattle.std.specs.List.{list_all, list_any}
+use Rattle.std.specs.Option.{is_some}
 use Rattle.sig_conditions.specs.declared.word.Word.{Word}
 use Rattle.sig_conditions.specs.declared.word.Word.TheVariants.{Open, Close, Or, And, Not, One, All, Of, Them, Name, Pattern, Bad}
 
@@ -32,14 +34,27 @@ keywords =
     (codes "them", Them) ∷ (codes "THEM", Them) ∷
     []
 
--- the keyword that a run is, or the name
-abbrev pub keyword_in : List (List ℕ × Word) → List ℕ → Word
-keyword_in [] run = Name run
-keyword_in (row ∷ rows) run = if bytes_eq run row.0 then row.1 else keyword_in rows run
+-- the keyword that a run is, if it is one
+abbrev pub keyword_in : List (List ℕ × Word) → List ℕ → Option Word
+keyword_in [] run = None
+keyword_in (row ∷ rows) run = if bytes_eq run row.0 then Some row.1 else keyword_in rows run
+
+abbrev pub name_unless : Option Word → List ℕ → Word
+name_unless None run = Name run
+name_unless (Some keyword) run = keyword
 
 -- what a run is: a pattern where it has a star, a keyword, or a name
 abbrev pub word_of : List ℕ → Word
-word_of run = if list_any is_star run then Pattern run else keyword_in keywords run
+word_of run = if list_any is_star run then Pattern run else name_unless (keyword_in keywords run) run
+
+abbrev pub is_empty : List ℕ → Bool
+is_empty [] = true
+is_empty (c ∷ cs) = false
+
+-- what a detection may be called: one or more of [A-Za-z0-9_-], and no keyword
+abbrev pub is_identifier : List ℕ → Bool
+is_identifier name =
+    not (is_empty name) && list_all is_run_character name && not (list_any is_star name) && not (is_some (keyword_in keywords name))
 
 -- the end of a run, which is a word unless it is empty
 abbrev pub ended : List ℕ → List Word → List Word

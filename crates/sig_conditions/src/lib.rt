@@ -3,9 +3,10 @@
 
 pub use condition::Condition;
 pub use formula::Formula;
-pub use law::{one_condition, one_list_of_words, same_meaning};
+pub use law::{identifiers_are_names, one_condition, one_list_of_words, same_meaning};
 pub use reading::read_condition;
 pub use resolving::resolve_condition;
+pub use scan::is_identifier;
 pub use selector::Selector;
 
 mod condition;

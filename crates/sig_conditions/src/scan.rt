@@ -1,9 +1,9 @@
 //! A condition's text cut into words.
 
 ghost use Rattle.std.specs.Prelude.{◌≡◌, ◌++◌, ◌==◌, ◌∷◌, [], ℕ, List, IfOk, OnOk};
-ghost use Rattle.std.specs.List.{list_any};
+ghost use Rattle.std.specs.List.{list_all, list_any};
 ghost use Rattle.std.specs.Str.{chars};
-ghost use Rattle.sig_conditions.specs.Words.{ended, is_blank, is_run_character, sign_of, word_of, words, words_from};
+ghost use Rattle.sig_conditions.specs.Words.{ended, is_blank, is_identifier, is_run_character, keyword_in, keywords, sign_of, word_of, words, words_from};
 
 use crate::word::Word;
 use sig_base::Text;
@@ -47,6 +47,34 @@ fn sign(c: char) -> Word
     }
 }
 
+/// The keyword that a run of characters is, all in lower or all in upper case.
+fn keyword(run: &Text) -> Option<Word>
+    ensures { result ≡ keyword_in keywords run.now }
+{
+    if run.is("or") || run.is("OR") {
+        return Some(Word::Or);
+    }
+    if run.is("and") || run.is("AND") {
+        return Some(Word::And);
+    }
+    if run.is("not") || run.is("NOT") {
+        return Some(Word::Not);
+    }
+    if run.is("1") || run.is("any") || run.is("ANY") {
+        return Some(Word::One);
+    }
+    if run.is("all") || run.is("ALL") {
+        return Some(Word::All);
+    }
+    if run.is("of") || run.is("OF") {
+        return Some(Word::Of);
+    }
+    if run.is("them") || run.is("THEM") {
+        return Some(Word::Them);
+    }
+    None
+}
+
 /// The word that a run of characters is.
 fn word(run: Text) -> Word
     ensures { result ≡ word_of run }
@@ -54,28 +82,26 @@ fn word(run: Text) -> Word
     if has_character(run.as_str(), '*') {
         return Word::Pattern(run);
     }
-    if run.is("or") || run.is("OR") {
-        return Word::Or;
+    match keyword(&run) {
+        Some(keyword) => keyword,
+        None => Word::Name(run),
     }
-    if run.is("and") || run.is("AND") {
-        return Word::And;
-    }
-    if run.is("not") || run.is("NOT") {
-        return Word::Not;
-    }
-    if run.is("1") || run.is("any") || run.is("ANY") {
-        return Word::One;
-    }
-    if run.is("all") || run.is("ALL") {
-        return Word::All;
-    }
-    if run.is("of") || run.is("OF") {
-        return Word::Of;
-    }
-    if run.is("them") || run.is("THEM") {
-        return Word::Them;
-    }
-    Word::Name(run)
+}
+
+/// Whether a text is made of the characters of names, keywords and patterns alone.
+fn is_run(text: &str) -> bool
+    ensures { result ≡ list_all is_run_character (chars text.now) }
+{
+    text.chars().all(|c| can_run(c))
+}
+
+/// Whether a detection may have this name: one or more of the letters A to Z and a to z, the digits, `_` and `-`, and no
+/// keyword of conditions.
+pub fn is_identifier(name: &Text) -> bool
+    ensures { result ≡ is_identifier name.now }
+{
+    let text = name.as_str();
+    !name.is("") && is_run(text) && !has_character(text, '*') && keyword(name).is_none()
 }
 
 /// The words so far, and the run that stands directly before the next character.

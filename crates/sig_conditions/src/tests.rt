@@ -4,6 +4,7 @@ use crate::condition::Condition;
 use crate::formula::Formula;
 use crate::reading::read_condition;
 use crate::resolving::resolve_condition;
+use crate::scan::is_identifier;
 use sig_base::{Detail, Fault, Limits, Place, Refusal, Text};
 use std::alloc::{AllocError, Global};
 use std::test::Fail;
@@ -195,6 +196,26 @@ fn long_conditions_are_answered(rt: HostRuntime) -> Result<(), Fail> {
         let text = repeated(rt.alloc(), piece, count, end)?;
         let (number, _) = refusal(rt.alloc(), text.as_str())?;
         assert_eq!(rt; number, code, "{piece} {count} {end}");
+    }
+    Ok(())
+}
+
+#[test]
+fn identifiers_are_no_keywords(rt: HostRuntime) -> Result<(), Fail> {
+    for (name, want) in [
+        ("selection-1_a", true),
+        ("Any", true),
+        ("11", true),
+        ("1", false),
+        ("of", false),
+        ("THEM", false),
+        ("selection*", false),
+        ("a b", false),
+        ("é", false),
+        ("", false),
+    ] {
+        let text = Text::copy(rt.alloc(), name)?;
+        assert_eq!(rt; is_identifier(&text), want, "{name}");
     }
     Ok(())
 }
