@@ -1,4 +1,5 @@
--- Which condition a list of words is, from loose to tight: `or`, `and`, `not`, and then names, choices and parentheses.
+-- Which condition a list of words is (Sigma specification 2.0, condition). From loose to tight stand `or`, `and`, `not`,
+-- and then names, `1 of` and `all of` with a selector, and parentheses.
 use Rattle.std.specs.Prelude.{ℕ, ◌≡◌, List, [], ◌∷◌, ◌++◌, Some, None}
 use Rattle.std.specs.declared.option.Option.{Option}
 use Rattle.sig_conditions.specs.declared.selector.Selector.{Selector}
@@ -23,7 +24,7 @@ selector_of (Pattern n) = Some (selector.Names n)
 selector_of Bad = None
 
 mutual
-  -- an `and`, and any number of the word `or` with an `and` behind it
+  -- a chain of `and`, and any number of times the word `or` and a chain of `and`
   pub data IsOr : List Word → Cond → Type 0 where
     or_chain : {ws : List Word} {e : Cond} (p q : List Word) (c : Cond) (cs : Conds)
         → ws ≡ p ++ q → IsAnd p c → OrTail q cs → e ≡ joined_or c cs → IsOr ws e
@@ -33,7 +34,7 @@ mutual
     or_next : {ws : List Word} {c : Cond} {cs : Conds} (p q : List Word)
         → ws ≡ Or ∷ (p ++ q) → IsAnd p c → OrTail q cs → OrTail ws (put c cs)
 
-  -- a `not`, and any number of the word `and` with a `not` behind it
+  -- a negation, and any number of times the word `and` and a negation
   pub data IsAnd : List Word → Cond → Type 0 where
     and_chain : {ws : List Word} {e : Cond} (p q : List Word) (c : Cond) (cs : Conds)
         → ws ≡ p ++ q → IsNot p c → AndTail q cs → e ≡ joined_and c cs → IsAnd ws e
@@ -43,7 +44,7 @@ mutual
     and_next : {ws : List Word} {c : Cond} {cs : Conds} (p q : List Word)
         → ws ≡ And ∷ (p ++ q) → IsNot p c → AndTail q cs → AndTail ws (put c cs)
 
-  -- any number of the word `not`, and then an atom
+  -- the word `not` any number of times, and then an atom
   pub data IsNot : List Word → Cond → Type 0 where
     negated : {ws : List Word} {c : Cond} (p : List Word) → ws ≡ Not ∷ p → IsNot p c → IsNot ws (CNot c)
     plain : {ws : List Word} {c : Cond} → IsAtom ws c → IsNot ws c

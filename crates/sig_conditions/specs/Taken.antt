@@ -1,6 +1,6 @@
 -- Which detections a name and a selector stand for, among the names of a rule in their order (Sigma specification 2.0,
 -- condition: `1/all of search-identifier-pattern` and `1/all of them`).
-use Rattle.std.specs.Prelude.{ℕ, Bool, true, false, List, [], ◌∷◌, if◌then◌else◌, ◌==◌, ◌||◌, ◌&&◌, ◌+◌, not, bytes_eq, Some, None}
+use Rattle.std.specs.Prelude.{ℕ, Bool, false, List, [], ◌∷◌, if◌then◌else◌, ◌==◌, ◌||◌, ◌&&◌, ◌+◌, not, bytes_eq, Some, None}
 use Rattle.std.specs.declared.option.Option.{Option}
 use Rattle.sig_conditions.specs.declared.selector.Selector.{Selector}
 use Rattle.sig_conditions.specs.declared.selector.Selector.TheVariants as selector

@@ -1,4 +1,5 @@
--- The words of a condition, in the order of its text.
+-- The words of a condition, in the order of its text: parentheses, and longest runs of [A-Za-z0-9_*-], between spaces, tabs
+-- and line feeds. Sigma's keywords are read in lower and in upper case.
 use Rattle.std.specs.Prelude.{ℕ, Bool, true, false, List, [], ◌∷◌, ◌++◌, if◌then◌else◌, ◌==◌, ◌||◌, ◌&&◌, ◌+◌, nat_le, not, bytes_eq, codes, Some, None}
 use Rattle.std.specs.declared.option.Option.{Option}
 use Rattle.std.specs.List.{list_all, list_any}
@@ -15,7 +16,7 @@ is_run_character c =
 abbrev pub is_blank : ℕ → Bool
 is_blank c = c == 32 || c == 9 || c == 10
 
--- what a character that is neither is: a parenthesis, or no word of a condition
+-- what any other character is: a parenthesis, or no word of a condition
 abbrev pub sign_of : ℕ → Word
 sign_of c = if c == 40 then Open else if c == 41 then Close else Bad
 
@@ -72,7 +73,7 @@ words_from run (c ∷ cs) =
 abbrev pub words : List ℕ → List Word
 words text = words_from [] text
 
--- the words of which 'so many stand inside one another' is counted
+-- 1 for the words that nest what stands behind them, `(` and `not`
 abbrev pub nests : Word → ℕ
 nests Open = 1
 nests Close = 0
@@ -92,7 +93,7 @@ unfoldable pub nesting : List Word → ℕ
 nesting [] = 0
 nesting (w ∷ ws) = nests w + nesting ws
 
--- a sign of the aggregations of old conditions
+-- a `|` stands in the text, with which old conditions began an aggregation
 abbrev pub has_bar : List ℕ → Bool
 has_bar text = list_any (λ c. c == 124) text
 
@@ -166,7 +167,7 @@ is_of (Name n) = false
 is_of (Pattern n) = false
 is_of Bad = false
 
--- the first word passes the test
+-- there is a first word, and it passes the test
 abbrev pub begins : (Word → Bool) → List Word → Bool
 begins test [] = false
 begins test (w ∷ ws) = test w
