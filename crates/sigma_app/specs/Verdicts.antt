@@ -13,7 +13,7 @@ use Rattle.sql_lang.specs.SameText.{query_text}
 use Rattle.yaml_profile.specs.SevenLines.{Simple, Says}
 
 -- the query of a rule: letters, digits and signs of ASCII, so that its characters are its bytes
-abbrev pub query_of : Simple → List ℕ
+unfoldable pub query_of : Simple → List ℕ
 query_of rule = query_text rule.field rule.value
 
 abbrev pub start : Place

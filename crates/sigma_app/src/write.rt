@@ -3,8 +3,11 @@
 ghost use Rattle.std.specs.Prelude.{◌≡◌, ◌++◌, ◌∷◌, [], OnOk, IfOk};
 ghost use Rattle.sql_lang.specs.Layout.{doubled, in_quotes};
 ghost use Rattle.sql_lang.specs.SameText.{query_text};
+ghost use Rattle.sigma_app.specs.Verdicts.{query_of};
+ghost use Rattle.yaml_profile.specs.View.{view};
 
 use std::alloc::{AllocError, Global};
+use yaml_profile::SevenLines;
 
 fn push_doubled(out: &mut Vec<u8>, quote: u8, text: &[u8]) -> Result<(), AllocError>
     ensures { OnOk result (out.new.items ≡ out.old.items ++ doubled quote text.now) }
@@ -27,8 +30,16 @@ fn push_quoted(out: &mut Vec<u8>, quote: u8, text: &[u8]) -> Result<(), AllocErr
     Ok(())
 }
 
+/// The query of a rule, without a line feed.
+#[tactic(auto, unfolding(crate::specs::Verdicts::query_of))]
+pub(super) fn write_query(alloc: Global, rule: &SevenLines<'_>) -> Result<Vec<u8>, AllocError>
+    ensures { IfOk result (λ query. query.items ≡ query_of (view rule.now)) }
+{
+    same_text_query(alloc, rule.field, rule.value)
+}
+
 /// The query that tests whether a field's text is a value, letters of either case taken for equal.
-pub(super) fn write_query(alloc: Global, field: &[u8], value: &[u8]) -> Result<Vec<u8>, AllocError>
+fn same_text_query(alloc: Global, field: &[u8], value: &[u8]) -> Result<Vec<u8>, AllocError>
     ensures { IfOk result (λ query. query.items ≡ query_text field.now value.now) }
 {
     let mut query = Vec::new(alloc);
