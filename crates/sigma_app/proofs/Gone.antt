@@ -119,3 +119,50 @@ pub before_and : (names : List (List ℕ)) (i : ℕ) (x : List ℕ) → i < leng
 before_and names i x below is =
     let one : i + 1 ≡ suc i = omega arith in
     ap (λ (n : ℕ). take n names) one ∙ (take-suc names i x below ∙ ap (λ (n : List ℕ). take i names ++ n ∷ []) (sym is))
+
+-- the same, whether or not the shelf tells its files
+pub known_whole : (limits : Limits) (known : Option (List (List ℕ × List ℕ))) (xs : List (List ℕ)) (x : List ℕ) (first second : Bool) (oo om on eo em en : Option (List ℕ))
+    → IfSome known (λ files. AnsweredWhole limits files xs first oo om eo em) → IfSome known (λ files. Ends limits files (x ∷ []) (Ok second) om on em en)
+    → IfSome known (λ files. AnsweredWhole limits files (xs ++ x ∷ []) (first || second) oo on eo en)
+known_whole limits None xs x first second oo om on eo em en a b = tt
+known_whole limits (Some files) xs x first second oo om on eo em en a b = whole_step limits files xs x first second oo om on eo em en a b
+
+pub known_stop : Judged → (limits : Limits) (known : Option (List (List ℕ × List ℕ))) (xs ys : List (List ℕ)) (x : List ℕ) (found : Bool) (stop : Stop) (oo om on eo em en : Option (List ℕ))
+    → IfSome known (λ files. AnsweredWhole limits files xs found oo om eo em) → IfSome known (λ files. Ends limits files (x ∷ []) (Err stop) om on em en)
+    → IfSome known (λ files. Ends limits files (xs ++ x ∷ ys) (Err stop) oo on eo en)
+known_stop judged limits None xs ys x found stop oo om on eo em en a b = tt
+known_stop judged limits (Some files) xs ys x found Unread oo om on eo em en a b = tt
+known_stop judged limits (Some files) xs ys x found Unwritten oo om on eo em en a b = cut_step judged limits files xs ys x found oo om on eo em en a b
+known_stop judged limits (Some files) xs ys x found Memory oo om on eo em en a b = cut_step judged limits files xs ys x found oo om on eo em en a b
+
+pub known_unread : Judged → (limits : Limits) (known : Option (List (List ℕ × List ℕ))) (xs ys : List (List ℕ)) (x : List ℕ) (found : Bool) (oo om on eo em en : Option (List ℕ))
+    → IfSome known (λ files. AnsweredWhole limits files xs found oo om eo em) → IfSome known (λ files. AnsweredUnread limits files (x ∷ []) x om on em en)
+    → IfSome known (λ files. AnsweredUnread limits files (xs ++ x ∷ ys) x oo on eo en)
+known_unread judged limits None xs ys x found oo om on eo em en a b = tt
+known_unread judged limits (Some files) xs ys x found oo om on eo em en a b = unread_step judged limits files xs ys x x found oo om on eo em en a b
+
+-- the turns of the loop over the names, at the name of this index
+pub known_next : (limits : Limits) (known : Option (List (List ℕ × List ℕ))) (names : List (List ℕ)) (i : ℕ) (x : List ℕ) (first second both : Bool) (oo om on eo em en : Option (List ℕ))
+    → i < length names → x ≡ get_or names i x → both ≡ (first || second)
+    → IfSome known (λ files. AnsweredWhole limits files (take i names) first oo om eo em) → IfSome known (λ files. Ends limits files (x ∷ []) (Ok second) om on em en)
+    → IfSome known (λ files. AnsweredWhole limits files (take (i + 1) names) both oo on eo en)
+known_next limits known names i x first second both oo om on eo em en below is found a b =
+    subst (λ (xs : List (List ℕ)). IfSome known (λ files. AnsweredWhole limits files xs both oo on eo en)) (sym (before_and names i x below is))
+        (subst (λ (f : Bool). IfSome known (λ files. AnsweredWhole limits files (take i names ++ x ∷ []) f oo on eo en)) (sym found)
+            (known_whole limits known (take i names) x first second oo om on eo em en a b))
+
+pub known_stop_at : Judged → (limits : Limits) (known : Option (List (List ℕ × List ℕ))) (names : List (List ℕ)) (i : ℕ) (x : List ℕ) (found : Bool) (stop : Stop) (oo om on eo em en : Option (List ℕ))
+    → i < length names → x ≡ get_or names i x
+    → IfSome known (λ files. AnsweredWhole limits files (take i names) found oo om eo em) → IfSome known (λ files. Ends limits files (x ∷ []) (Err stop) om on em en)
+    → IfSome known (λ files. Ends limits files names (Err stop) oo on eo en)
+known_stop_at judged limits known names i x found stop oo om on eo em en below is a b =
+    subst (λ (xs : List (List ℕ)). IfSome known (λ files. Ends limits files xs (Err stop) oo on eo en)) (sym (around names i x below is))
+        (known_stop judged limits known (take i names) (drop (suc i) names) x found stop oo om on eo em en a b)
+
+pub known_unread_at : Judged → (limits : Limits) (known : Option (List (List ℕ × List ℕ))) (names : List (List ℕ)) (i : ℕ) (x : List ℕ) (found : Bool) (oo om on eo em en : Option (List ℕ))
+    → i < length names → x ≡ get_or names i x
+    → IfSome known (λ files. AnsweredWhole limits files (take i names) found oo om eo em) → IfSome known (λ files. AnsweredUnread limits files (x ∷ []) x om on em en)
+    → IfSome known (λ files. AnsweredUnread limits files names x oo on eo en)
+known_unread_at judged limits known names i x found oo om on eo em en below is a b =
+    subst (λ (xs : List (List ℕ)). IfSome known (λ files. AnsweredUnread limits files xs x oo on eo en)) (sym (around names i x below is))
+        (known_unread judged limits known (take i names) (drop (suc i) names) x found oo om on eo em en a b)

@@ -5,4 +5,5 @@ pub mod Gone
 pub mod OneVerdict
 pub mod QueryMeans
 pub mod ReportLines
+pub mod Serving
 pub mod WordLists

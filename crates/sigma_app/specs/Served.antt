@@ -29,6 +29,15 @@ IsAnswered ReadFault = ⊥
 IsAnswered WriteFault = ⊥
 IsAnswered Memory = ⊥
 
+-- the run was cut off, by a fault in writing or by want of memory
+abbrev pub IsCutOff : Status → Type 0
+IsCutOff Done = ⊥
+IsCutOff Found = ⊥
+IsCutOff Usage = ⊥
+IsCutOff ReadFault = ⊥
+IsCutOff WriteFault = ⊤
+IsCutOff Memory = ⊤
+
 -- The headline: what is written is, for each accepted document in order, its query and a line feed, and nothing else;
 -- each query is read as exactly one query, which selects an event exactly where the rule matches it; and each other
 -- document has its one line, with the first cause for which it isn't taken.
@@ -36,6 +45,12 @@ abbrev pub Headline : Limits → List (List ℕ) → List (List ℕ × List ℕ)
 Headline limits words files out_old out_new err_old err_new =
     (names : List (List ℕ)) → IsTaken words names → (answers : List Answered) × AreAnswered limits files names answers
     × AllConvert answers × Appends out_old out_new (all_queries answers) × Appends err_old err_new (lines_text (all_lines answers))
+
+-- what a run that came to its end has written: its answer
+abbrev pub Written : Limits → List (List ℕ) → List (List ℕ × List ℕ) → Status → Option (List ℕ) → Option (List ℕ) → Option (List ℕ) → Option (List ℕ) → Type 0
+Written limits words files status out_old out_new err_old err_new =
+    (out : List ℕ) × (lines : List (List ℕ)) × Answer limits words files status out lines
+    × Appends out_old out_new out × Appends err_old err_new (lines_text lines)
 
 -- What stands after a fault in writing or want of memory: a front of the answer's output, and of its lines some whole
 -- ones and at most a part of one more.

@@ -1,6 +1,6 @@
 //! Going through rule files.
 
-ghost use Rattle.std.specs.Prelude.{◌≡◌, ◌⊎◌, [], ◌∷◌, ◌++◌, ℕ, List, OnOk, IfSome, IsErrOf, Contains};
+ghost use Rattle.std.specs.Prelude.{◌≡◌, ◌⊎◌, ◌||◌, [], ◌∷◌, ◌++◌, ℕ, List, OnOk, IfSome, IsErrOf, Contains};
 ghost use Rattle.sig_base.specs.Causes.{Rose};
 ghost use Rattle.sigma_app.specs.Going.{Ends, AnsweredUnread, Tells};
 
@@ -22,10 +22,18 @@ pub(super) fn answer_files<F: Shelf, O: Sink, E: Sink>(alloc: Global, limits: &L
     one_verdict();
     let mut found = false;
     for name in names {
-        let refused = answer_file(alloc, limits, name, shelf, out, err)?;
-        found = found || refused;
+        match answer_file(alloc, limits, name, shelf, out, err) {
+            Ok(refused) => found = either(found, refused),
+            Err(stop) => return Err(stop),
+        }
     }
     Ok(found)
+}
+
+fn either(first: bool, second: bool) -> bool
+    ensures { result ≡ (first || second) }
+{
+    first || second
 }
 
 /// Reads a file and answers it; where it can't be read, a line says so.
