@@ -1,0 +1,4 @@
+mod EditsLemmas
+mod HoleLemmas
+mod ReadingLemmas
+mod SpellsLemmas

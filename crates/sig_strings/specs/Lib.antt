@@ -1,0 +1,5 @@
+pub mod Edits
+pub mod Fits
+pub mod Refused
+pub mod Signs
+pub mod Spells
