@@ -1,3 +1,4 @@
+pub mod Divisions
 pub mod Edits
 pub mod Fits
 pub mod Refused

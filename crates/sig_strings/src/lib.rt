@@ -12,5 +12,6 @@ mod reading;
 mod sign;
 mod writing;
 
+pub use law::{joined_fits, one_pattern, plain_fits, runs_fit, stays_written};
 pub use part::Part;
 pub use pattern::Pattern;
