@@ -10,6 +10,8 @@ mod part;
 mod pattern;
 mod reading;
 mod sign;
+#[cfg(test)]
+mod tests;
 mod writing;
 
 pub use law::{joined_fits, one_pattern, plain_fits, runs_fit, stays_written};
