@@ -1,6 +1,7 @@
-//! Shows how long a pattern takes: matches `SHAPE PIECES CHARACTERS`, a pattern of that many pieces against a text of
-//! that many `a`s, without and with a `b` behind it. The shape `runs` is `*a` for each piece and then `b`; `letters` is
-//! a `*`, then `a` for each piece and then `b`, which is the slowest that there is.
+//! Shows how long matching takes: the words `SHAPE PIECES CHARACTERS` are a pattern of that many pieces and a
+//! text of that many `a`s, which are matched without and with a `b` behind the text. The shape `runs` is `*a` for
+//! each piece and then `b`; `letters` is a `*`, then `a` for each piece and then `b`, which is the slowest that
+//! there is. (Run it by hand with a clock around it: `time out/bench_matching runs 4000 60000`.)
 #![tactic(auto)]
 
 use sig_base::Fault;

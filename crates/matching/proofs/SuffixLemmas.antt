@@ -1,5 +1,6 @@
 -- What follows from something holding of a suffix of a text.
-use Rattle.std.proofs.Common.{ℕ, ◌≡◌, Bool, true, List, [], ◌∷◌, ◌++◌, ◌⊎◌, inl, inr, refl, append_assoc, ap, sym, ◌∙◌, subst}
+use Rattle.std.proofs.Common.{ℕ, ◌≡◌, ◌↔◌, Bool, true, false, ◌||◌, ◌&&◌, List, [], ◌∷◌, ◌++◌, ◌⊎◌, inl, inr, refl, append_assoc, ap, sym, ◌∙◌, subst}
+use Rattle.std.proofs.lemmas.Bool.{and_parts, and_from, or_cases, or_left, or_right}
 use Rattle.matching.specs.Suffixes.{SuffixHolds, CharThen}
 
 -- what follows from what holds of a suffix holds of one too
@@ -75,3 +76,38 @@ CharThen-from passes P c text passed h = record { first = c; rest = text; shape 
 
 pub CharThen-nil : (passes : ℕ → Bool) (P : List ℕ → Type 0) → CharThen passes P [] → ⊥
 CharThen-nil passes P h = let e : [] ≡ h.first ∷ h.rest = h.shape in cc
+
+-- For definitions that are tests: a test of the text or of what is left of it behind some characters ..
+pub SuffixHolds-tests : (f g : List ℕ → Bool) → g [] ≡ f [] → ((c : ℕ) (cs : List ℕ) → g (c ∷ cs) ≡ (f (c ∷ cs) || g cs))
+    → (text : List ℕ) → (g text ≡ true) ↔ SuffixHolds (λ t. f t ≡ true) text
+SuffixHolds-tests f g at_end step [] = (
+  (λ h. SuffixHolds-here (λ t. f t ≡ true) [] (sym at_end ∙ h)),
+  (λ h. at_end ∙ SuffixHolds-nil (λ t. f t ≡ true) h),
+)
+SuffixHolds-tests f g at_end step (c ∷ cs) =
+    let behind : (g cs ≡ true) ↔ SuffixHolds (λ t. f t ≡ true) cs = SuffixHolds-tests f g at_end step cs in (
+      (λ h. elim (or_cases (f (c ∷ cs)) (g cs) (sym (step c cs) ∙ h)) [
+        | inl here ↦ SuffixHolds-here (λ t. f t ≡ true) (c ∷ cs) here
+        | inr later ↦ SuffixHolds-more (λ t. f t ≡ true) c cs (behind.0 later)
+      ]),
+      (λ h. step c cs ∙ elim (SuffixHolds-split (λ t. f t ≡ true) c cs h) [
+        | inl here ↦ or_left (f (c ∷ cs)) (g cs) here
+        | inr later ↦ or_right (f (c ∷ cs)) (g cs) (behind.1 later)
+      ]),
+    )
+
+-- .. and a test of the first character and of the rest
+pub CharThen-tests : (passes : ℕ → Bool) (f g : List ℕ → Bool) → g [] ≡ false → ((c : ℕ) (cs : List ℕ) → g (c ∷ cs) ≡ (passes c && f cs))
+    → (text : List ℕ) → (g text ≡ true) ↔ CharThen passes (λ t. f t ≡ true) text
+CharThen-tests passes f g at_end step [] = (
+  (λ h. absurd (cc)),
+  (λ h. absurd (CharThen-nil passes (λ t. f t ≡ true) h)),
+)
+CharThen-tests passes f g at_end step (c ∷ cs) = (
+  (λ h.
+      let both : _ = and_parts (passes c) (f cs) (sym (step c cs) ∙ h) in
+      CharThen-from passes (λ t. f t ≡ true) c cs both.0 both.1),
+  (λ h.
+      let both : _ = CharThen-cons passes (λ t. f t ≡ true) c cs h in
+      step c cs ∙ and_from (passes c) (f cs) both.0 both.1),
+)

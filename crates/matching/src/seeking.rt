@@ -7,8 +7,8 @@ use crate::first::first_char;
 use crate::walk::Walk;
 use crate::walking::walk;
 
-/// Whether the pattern matches some suffix of the text, which is what stands behind a run. A run that is reached makes
-/// the run before it needless: the pattern is sought from there on alone.
+/// Whether the pattern matches some suffix of the text, which is what stands behind a run. A run that is
+/// reached makes the run before it needless: the pattern is sought from there on alone.
 pub fn matches_some_suffix<C: Cursor>(start: C, text: &str) -> bool
     ensures { IsTrue result ↔ SuffixHolds (C.holds start) (chars text.now) }
 {

@@ -6,8 +6,8 @@ use crate::seeking::matches_some_suffix;
 use crate::walk::Walk;
 use crate::walking::walk;
 
-/// Whether the pattern matches the whole text. It takes no memory, and at most about k * n steps for a pattern of k
-/// steps and a text of n characters.
+/// Whether the pattern matches the whole text. It takes no memory, and at most about k * n steps for a
+/// pattern of k steps and a text of n characters.
 pub fn matches_whole<C: Cursor>(start: C, text: &str) -> bool
     ensures { IsTrue result ↔ C.holds start (chars text.now) }
 {

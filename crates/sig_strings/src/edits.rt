@@ -136,8 +136,8 @@ impl Pattern {
         Ok(Pattern::of_parts(parts))
     }
 
-    /// Each `-` and `/` that begins a word, and doesn't stand behind one, becomes a dash. (Which ones do is this
-    /// converter's own choice for `windash`.)
+    /// Each `-` and `/` that begins a word, and doesn't stand behind one, becomes a dash. (Which ones do is
+    /// this converter's own choice for `windash`.)
     pub fn dashes(self) -> Pattern
         ensures { result ≡ edits.dashes_of self }
     {
@@ -160,7 +160,8 @@ impl Pattern {
 
     /// The characters, where all parts are characters.
     pub fn plain_text(&self, alloc: Global) -> Result<Option<Text>, Fault>
-        ensures ok { IfOk result (λ text. text ≡ (if edits.has_wildcard self.now then None else Some (edits.plain_text self.now))) }
+        ensures ok { IfOk result (λ text.
+            text ≡ (if edits.has_wildcard self.now then None else Some (edits.plain_text self.now))) }
         ensures err { IfErr result (λ e. e ≡ Fault.Memory) }
     {
         if self.has_wildcard() {

@@ -42,8 +42,8 @@ impl<'a> Cursor for Parts<'a> {
 }
 
 impl Pattern {
-    /// Whether the pattern fits the whole text, without memory of its own and in at most about k * n steps for k parts
-    /// and n characters. Where `cased` is false, A to Z are read as a to z on both sides.
+    /// Whether the pattern fits the whole text, without memory of its own and in at most about k * n steps
+    /// for k parts and n characters. Where `cased` is false, A to Z are read as a to z on both sides.
     pub fn fits(&self, text: &str, cased: bool) -> bool
         ensures { IsTrue result ↔ Fits self.now (chars text.now) cased }
     {

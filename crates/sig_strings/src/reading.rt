@@ -15,7 +15,7 @@ use std::alloc::Global;
 
 /// What stands at the front of a text behind its first backslash, and the rest.
 fn read_escape(behind: &str, expand: bool) -> (Sign, &str)
-    ensures { Begins expand (92 ∷ chars behind.now) (part_at (92 ∷ chars behind.now) result.0) (chars result.1.now) }
+    ensures { let text = 92 ∷ chars behind.now in Begins expand text (part_at text result.0) (chars result.1.now) }
 {
     let Some((c, rest)) = first_char(behind) else {
         return (Sign::Plain('\\'), behind);
@@ -26,9 +26,10 @@ fn read_escape(behind: &str, expand: bool) -> (Sign, &str)
     (Sign::Plain('\\'), behind)
 }
 
-/// What stands at the front of a text behind its first percent sign, where placeholders are read, and the rest.
+/// What stands at the front of a text behind its first percent sign, where placeholders are read, and the
+/// rest.
 fn read_percent(behind: &str) -> (Sign, &str)
-    ensures { Begins true (37 ∷ chars behind.now) (part_at (37 ∷ chars behind.now) result.0) (chars result.1.now) }
+    ensures { let text = 37 ∷ chars behind.now in Begins true text (part_at text result.0) (chars result.1.now) }
 {
     let Some(rest) = hole_end(behind) else {
         return (Sign::Plain('%'), behind);
@@ -100,9 +101,9 @@ fn count_of(text: &str) -> usize
 }
 
 impl Pattern {
-    /// Reads the text of a value: `*` is any run, `?` any one character, a backslash makes `*`, `?` and the backslash
-    /// plain, and with `expand` a name between percent signs is a placeholder. A text of more characters than
-    /// `value_chars` is refused at `place`.
+    /// Reads the text of a value: `*` is any run, `?` any one character, a backslash makes `*`, `?` and the
+    /// backslash plain, and with `expand` a name between percent signs is a placeholder. A text of more
+    /// characters than `value_chars` is refused at `place`.
     pub fn read(
         alloc: Global,
         limits: &Limits,
