@@ -4,6 +4,8 @@ use Rattle.std.specs.Prelude.{codes, ⊤, option_map, IfSome, IfNone}
 use Rattle.std.proofs.lemmas.Bool.{and_parts, and_from, eqb-true, leb-true, le-leb, cond-true}
 use Rattle.std.proofs.lemmas.List.{nil_from_length}
 use Rattle.std.proofs.lemmas.Slice.Eq.{bytes_eq-Decides}
+use Rattle.std.specs.Prelude.{◌⊎◌}
+use Rattle.std.proofs.Common.{inl, inr}
 use Rattle.yaml_profile.proofs.Cuts.{lacks, lacks_from, some_same, cond_some, bind_some, entry_again, entry_parts}
 use Rattle.yaml_profile.specs.Reading.{◌>>=◌, entry_at, Slot, slots, parts_at, is_whole, simple_of, all_of}
 use Rattle.yaml_profile.specs.SevenLines.{Simple, spelling, Says}
@@ -136,3 +138,14 @@ none_says view value_chars bytes None gives = λ s says. nothing s (gives ∙ al
   where
     nothing : (s : Simple) → None ≡ Some s → ⊥
     nothing s same = cc
+
+judged_at : (value_chars : ℕ) (bytes : List ℕ) (read : Option Simple) → all_of value_chars bytes ≡ read → ((s : Simple) × Says value_chars bytes s) ⊎ ((s : Simple) → Says value_chars bytes s → ⊥)
+judged_at value_chars bytes (Some s) is = inl (s, all_parts value_chars bytes s is)
+judged_at value_chars bytes None is = inr (λ s says. nothing s (sym is ∙ all_again value_chars bytes s says))
+  where
+    nothing : (s : Simple) → None ≡ Some s → ⊥
+    nothing s same = cc
+
+-- a file says something, or nothing at all
+pub judged : (value_chars : ℕ) (bytes : List ℕ) → ((s : Simple) × Says value_chars bytes s) ⊎ ((s : Simple) → Says value_chars bytes s → ⊥)
+judged value_chars bytes = judged_at value_chars bytes (all_of value_chars bytes) refl
