@@ -5,3 +5,5 @@ mod Characters
 mod Read
 mod Stops
 mod Laid
+mod Numbers
+mod Sound

@@ -7,4 +7,5 @@ pub mod Reading
 pub mod Meaning
 pub mod Layout
 pub mod Trees
+pub mod Leaves
 pub mod SameText
