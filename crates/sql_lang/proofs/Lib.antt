@@ -7,3 +7,7 @@ mod Stops
 mod Laid
 mod Numbers
 mod Sound
+mod Sofar
+mod Alive
+mod Judged
+mod Examples

@@ -8,6 +8,7 @@
 mod laws;
 mod leaves;
 mod query;
+mod verdict;
 
 pub use laws::{
     layout_is_fine, layout_is_read, layout_means_tree, no_stop_in_query, one_reading, one_stop,
@@ -15,3 +16,4 @@ pub use laws::{
 };
 pub use leaves::{leaves_are_read, leaves_are_sound, leaves_select};
 pub use query::{Collate, Expr, Operand, Select, Side, SqlOp, SqlTest};
+pub use verdict::{no_refused_query, one_refusal, query_or_refusal};
