@@ -11,3 +11,4 @@ mod Sofar
 mod Alive
 mod Judged
 mod Examples
+mod Written

@@ -8,4 +8,5 @@ pub mod Meaning
 pub mod Layout
 pub mod Trees
 pub mod Leaves
+pub mod Escaped
 pub mod SameText

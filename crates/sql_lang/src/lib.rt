@@ -7,6 +7,7 @@
 
 mod laws;
 mod leaves;
+mod patterns;
 mod query;
 mod verdict;
 
@@ -15,5 +16,6 @@ pub use laws::{
     same_text_is_read, same_text_selects, spelling_is_scanned, written_is_read,
 };
 pub use leaves::{leaves_are_read, leaves_are_sound, leaves_select};
+pub use patterns::{glob_text_is_read, like_text_is_read, runs_and_characters};
 pub use query::{Collate, Expr, Operand, Select, Side, SqlOp, SqlTest};
 pub use verdict::{no_refused_query, one_refusal, query_or_refusal};
