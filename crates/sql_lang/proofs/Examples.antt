@@ -10,9 +10,9 @@ use Rattle.event_schema.specs.declared.value.Value.TheVariants as values
 use Rattle.sql_lang.specs.Tokens.{Eq, Ne, Lt, Gte, scan, tokens, is_number, run_sort, text_sort}
 use Rattle.sql_lang.specs.Grammar.{Collate, Unsaid, NoCase, Binary}
 use Rattle.sql_lang.specs.Expression.{Operand, Side, ColumnAt, Text, Whole, Constant, Compare, Like, Glob, OneOf, Between, Expr, Or, And, Not, Test, Exprs, no_exprs, an_expr}
-use Rattle.sql_lang.specs.Faults.{Fault, fault, is_bad_like, is_bad_glob}
+use Rattle.sql_lang.specs.Faults.{Fault, fault, is_bad_escape, is_bad_bracket}
 use Rattle.sql_lang.specs.Reading.{opens_too_far, nots_too_many}
-use Rattle.sql_lang.specs.Meaning.{Truth, Yes, No, Unknown, sql_value, like_parts, glob_parts, fits_parts}
+use Rattle.sql_lang.specs.Meaning.{Truth, Yes, No, Unknown, sql_value, like_from, glob_from, fits_parts}
 use Rattle.sql_lang.specs.Leaves.{column_side, value_test, no_value_test, text_test, number_test, column_test, like_test, glob_test}
 use Rattle.sql_lang.specs.SameText.{same_text}
 use Rattle.sql_lang.proofs.Machine.{step, go_on}
@@ -159,15 +159,15 @@ abbrev told : Cases → List (Result Expr Fault)
 told cases = map (λ c. c.1) cases
 
 texts_verdicts : computed 1000 (λ text. text) texts ≡ told texts
-unfolding verdict tokens scan is_number run_sort text_sort step go_on is_bad_like is_bad_glob opens_too_far nots_too_many
+unfolding verdict tokens scan is_number run_sort text_sort step go_on is_bad_escape is_bad_bracket opens_too_far nots_too_many
 texts_verdicts = refl
 
 where_verdicts : computed 1000 where_text (token_cases ++ (stop_cases ++ (fault_cases ++ query_cases))) ≡ told (token_cases ++ (stop_cases ++ (fault_cases ++ query_cases)))
-unfolding verdict tokens scan is_number run_sort text_sort step go_on is_bad_like is_bad_glob opens_too_far nots_too_many
+unfolding verdict tokens scan is_number run_sort text_sort step go_on is_bad_escape is_bad_bracket opens_too_far nots_too_many
 where_verdicts = refl
 
 depth_verdicts : computed 2 where_text depth_cases ≡ told depth_cases
-unfolding verdict tokens scan is_number run_sort text_sort step go_on is_bad_like is_bad_glob opens_too_far nots_too_many
+unfolding verdict tokens scan is_number run_sort text_sort step go_on is_bad_escape is_bad_bracket opens_too_far nots_too_many
 depth_verdicts = refl
 
 abbrev AreVerdicts : ℕ → (List ℕ → List ℕ) → Cases → Type 0
@@ -248,5 +248,5 @@ value_cases =
     ∷ []
 
 example_values : map (λ c. c.0) value_cases ≡ map (λ c. c.1) value_cases
-unfolding like_parts glob_parts fits_parts
+unfolding like_from glob_from fits_parts
 example_values = refl

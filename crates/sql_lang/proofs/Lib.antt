@@ -11,4 +11,4 @@ mod Sofar
 mod Alive
 mod Judged
 mod Examples
-mod Written
+pub mod Written

@@ -6,8 +6,8 @@ use Rattle.std.specs.Str.{all_scalars}
 use Rattle.std.proofs.Math.Utf8.{scalar}
 use Rattle.std.proofs.lemmas.Bool.Decides.{nat_tests}
 use Rattle.event_schema.specs.Events.{IsPlainText}
-use Rattle.sql_lang.specs.Faults.{is_bad_like, is_bad_glob}
-use Rattle.sql_lang.specs.Meaning.{Part, AnyRun, AnyOne, Exactly, like_part, like_parts, glob_part, glob_parts, some_end, behind_one}
+use Rattle.sql_lang.specs.Faults.{is_bad_escape, is_bad_bracket, is_bad_like, is_bad_glob}
+use Rattle.sql_lang.specs.Meaning.{Part, AnyRun, AnyOne, Exactly, like_part, like_from, like_parts, glob_part, glob_from, glob_parts, some_end, behind_one}
 use Rattle.sql_lang.specs.Escaped.{is_like_sign, like_text, is_glob_sign, glob_text, characters}
 use Rattle.sql_lang.proofs.Scanned.{both_true}
 
@@ -18,12 +18,11 @@ by_test false = inr refl
 -- ---- LIKE
 
 plain_like : (c : ℕ) (cs : List ℕ) → (c == 92) ≡ false → like_parts (Some 92) (c ∷ cs) ≡ like_part c ∷ like_parts (Some 92) cs
-unfolding like_parts
-plain_like c [] is = refl
-plain_like c (d ∷ ds) is = rw is refl
+unfolding like_from
+plain_like c cs is = rw is refl
 
 escaped_like : (d : ℕ) (ds : List ℕ) → like_parts (Some 92) (92 ∷ d ∷ ds) ≡ Exactly d ∷ like_parts (Some 92) ds
-unfolding like_parts
+unfolding like_from
 escaped_like d ds = refl
 
 no_like_sign : (c : ℕ) → is_like_sign c ≡ false → ((c == 92) ≡ false) × ((c == 37) ≡ false) × ((c == 95) ≡ false)
@@ -39,7 +38,7 @@ like_plain_text : (c : ℕ) (ps : List Part) → is_like_sign c ≡ false → li
 like_plain_text c ps h = rw h refl
 
 pub like_reads : (ps : List Part) → like_parts (Some 92) (like_text ps) ≡ ps
-unfolding like_parts
+unfolding like_from
 like_reads [] = refl
 like_reads (AnyRun ∷ ps) = plain_like 37 (like_text ps) refl ∙ ap (λ (qs : List Part). AnyRun ∷ qs) (like_reads ps)
 like_reads (AnyOne ∷ ps) = plain_like 95 (like_text ps) refl ∙ ap (λ (qs : List Part). AnyOne ∷ qs) (like_reads ps)
@@ -51,16 +50,15 @@ like_reads (Exactly c ∷ ps) = elim (by_test (is_like_sign c)) [
 ]
 
 good_plain_like : (c : ℕ) (cs : List ℕ) → (c == 92) ≡ false → is_bad_like 92 (c ∷ cs) ≡ is_bad_like 92 cs
-unfolding is_bad_like
-good_plain_like c [] is = is
-good_plain_like c (d ∷ ds) is = rw is refl
+unfolding is_bad_escape
+good_plain_like c cs is = rw is refl
 
 good_escaped_like : (c : ℕ) (cs : List ℕ) → is_like_sign c ≡ true → is_bad_like 92 (92 ∷ c ∷ cs) ≡ is_bad_like 92 cs
-unfolding is_bad_like
+unfolding is_bad_escape
 good_escaped_like c cs is = rw is refl
 
 pub like_is_good : (ps : List Part) → is_bad_like 92 (like_text ps) ≡ false
-unfolding is_bad_like
+unfolding is_bad_escape
 like_is_good [] = refl
 like_is_good (AnyRun ∷ ps) = good_plain_like 37 (like_text ps) refl ∙ like_is_good ps
 like_is_good (AnyOne ∷ ps) = good_plain_like 95 (like_text ps) refl ∙ like_is_good ps
@@ -72,13 +70,11 @@ like_is_good (Exactly c ∷ ps) = elim (by_test (is_like_sign c)) [
 -- ---- GLOB
 
 plain_glob : (c : ℕ) (cs : List ℕ) → (c == 91) ≡ false → glob_parts (c ∷ cs) ≡ glob_part c ∷ glob_parts cs
-unfolding glob_parts
-plain_glob c [] is = refl
-plain_glob c (d ∷ []) is = refl
-plain_glob c (d ∷ x ∷ xs) is = rw is refl
+unfolding glob_from
+plain_glob c cs is = rw is refl
 
 bracketed_glob : (d : ℕ) (xs : List ℕ) → glob_parts (91 ∷ d ∷ 93 ∷ xs) ≡ Exactly d ∷ glob_parts xs
-unfolding glob_parts
+unfolding glob_from
 bracketed_glob d xs = refl
 
 no_glob_sign : (c : ℕ) → is_glob_sign c ≡ false → ((c == 91) ≡ false) × ((c == 42) ≡ false) × ((c == 63) ≡ false)
@@ -94,7 +90,7 @@ glob_plain_text : (c : ℕ) (ps : List Part) → is_glob_sign c ≡ false → gl
 glob_plain_text c ps h = rw h refl
 
 pub glob_reads : (ps : List Part) → glob_parts (glob_text ps) ≡ ps
-unfolding glob_parts
+unfolding glob_from
 glob_reads [] = refl
 glob_reads (AnyRun ∷ ps) = plain_glob 42 (glob_text ps) refl ∙ ap (λ (qs : List Part). AnyRun ∷ qs) (glob_reads ps)
 glob_reads (AnyOne ∷ ps) = plain_glob 63 (glob_text ps) refl ∙ ap (λ (qs : List Part). AnyOne ∷ qs) (glob_reads ps)
@@ -106,17 +102,15 @@ glob_reads (Exactly c ∷ ps) = elim (by_test (is_glob_sign c)) [
 ]
 
 good_plain_glob : (c : ℕ) (cs : List ℕ) → (c == 91) ≡ false → is_bad_glob (c ∷ cs) ≡ is_bad_glob cs
-unfolding is_bad_glob
-good_plain_glob c [] is = is
-good_plain_glob c (d ∷ []) is = rw is refl
-good_plain_glob c (d ∷ x ∷ xs) is = rw is refl
+unfolding is_bad_bracket
+good_plain_glob c cs is = rw is refl
 
 good_bracketed_glob : (c : ℕ) (cs : List ℕ) → is_glob_sign c ≡ true → is_bad_glob (91 ∷ c ∷ 93 ∷ cs) ≡ is_bad_glob cs
-unfolding is_bad_glob
+unfolding is_bad_bracket
 good_bracketed_glob c cs is = rw is refl
 
 pub glob_is_good : (ps : List Part) → is_bad_glob (glob_text ps) ≡ false
-unfolding is_bad_glob
+unfolding is_bad_bracket
 glob_is_good [] = refl
 glob_is_good (AnyRun ∷ ps) = good_plain_glob 42 (glob_text ps) refl ∙ glob_is_good ps
 glob_is_good (AnyOne ∷ ps) = good_plain_glob 63 (glob_text ps) refl ∙ glob_is_good ps
