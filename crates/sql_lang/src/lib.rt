@@ -1,8 +1,11 @@
-//! The SQL fragment that queries are written in: `SELECT * FROM table WHERE expression`, with the tests that SQLite's
+//! The SQL fragment that queries are written in: `SELECT * FROM table WHERE expression`, with the
+//! tests that SQLite's
 //! page on expressions has, and SQLite's three-valued meaning of them.
 //!
-//! `specs/` says which text is which query, where a text stops being one, which refusal comes first, and what an
-//! expression says of a row. The types here are those expressions; the functions are the laws of the definitions.
+//! `specs/` says which text is which query, where a text stops being one, which refusal comes
+//! first, and what an
+//! expression says of a row. The types here are those expressions; the functions are the laws of
+//! the definitions.
 #![tactic(auto)]
 
 mod laws;

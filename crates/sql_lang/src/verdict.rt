@@ -9,7 +9,8 @@ ghost use Rattle.sql_lang.specs.Reading.{ReadsWithin, Refuses};
 /// A text is a query within the limit, or it is refused.
 pub fn query_or_refusal()
     ensures { (limit : ℕ) (schema : Schema) (characters : List ℕ)
-        → ((e : Expr) × ReadsWithin limit schema characters e) ⊎ ((f : Fault) × Refuses limit schema characters f) }
+        → ((e : Expr) × ReadsWithin limit schema characters e)
+        ⊎ ((f : Fault) × Refuses limit schema characters f) }
 {}
 
 /// It is not both.
