@@ -10,3 +10,4 @@ pub mod Trees
 pub mod Leaves
 pub mod Escaped
 pub mod SameText
+pub mod View
