@@ -15,5 +15,5 @@ pub long_converted : {A : Type 0} (limits : Limits) (bytes : List ℕ) (rule : S
     → result ≡ Err (Refused (at_start 114 (Numbers (pos n) (pos limits.query_bytes)))) → IsConverted limits bytes result
 long_converted {A} limits bytes rule n result small says counted long is =
     subst (λ (r : Result (Vec ℕ A) Fault). IsConverted limits bytes r) (sym is)
-        (too_long rule small says (subst (λ (k : ℕ). limits.query_bytes < k) counted long)
-            (ap (λ (k : ℕ). at_start 114 (Numbers (pos k) (pos limits.query_bytes))) counted))
+    (too_long rule small says (subst (λ (k : ℕ). limits.query_bytes < k) counted long)
+    (ap (λ (k : ℕ). at_start 114 (Numbers (pos k) (pos limits.query_bytes))) counted))

@@ -25,12 +25,14 @@ one_answer name verdict = record { name = name; verdicts = verdict ∷ [] }
 -- a file's first bytes, up to one past the limit, are judged as the file is
 pub front_judged : (limits : Limits) (all : List ℕ) (verdict : Verdict) → IsVerdict limits (take (limits.file_bytes + 1) all) verdict → IsVerdict limits all verdict
 front_judged limits all verdict judged =
-    elim (cases_lt limits.file_bytes (length all)) as (λ _. IsVerdict limits all verdict)
-      [ inl large ↦ large_judged verdict judged large
-      | inr small ↦ subst (λ (b : List ℕ). IsVerdict limits b verdict) (take_all (limits.file_bytes + 1) all (omega (arith, small))) judged ]
+    elim (cases_lt limits.file_bytes (length all)) as (λ _. IsVerdict limits all verdict) [
+      | inl large ↦ large_judged verdict judged large
+      | inr small ↦ subst (λ (b : List ℕ). IsVerdict limits b verdict) (take_all (limits.file_bytes + 1) all (omega (arith, small))) judged
+    ]
   where
     past : limits.file_bytes < length all → limits.file_bytes < length (take (limits.file_bytes + 1) all)
     past large = omega (arith, large, length-take-le (limits.file_bytes + 1) all (omega (arith, large)))
+
     large_judged : (v : Verdict) → IsVerdict limits (take (limits.file_bytes + 1) all) v → limits.file_bytes < length all → IsVerdict limits all v
     large_judged (Accepted rule) taken large = absurd (omega (arith, past large, taken.small))
     large_judged (Refused r) (too_large _ is) large = too_large large is
@@ -51,19 +53,21 @@ one_are limits files name v judged = (refl, (v, refl, judged), tt)
 document_whole : (limits : Limits) (files : List (List ℕ × List ℕ)) (name bytes : List ℕ) (found : Bool) (oo on eo en : Option (List ℕ))
     → ((v : Verdict) → IsVerdict limits bytes v → IsVerdict limits (contents files name) v) → DocumentWhole limits name bytes found oo on eo en → AnsweredWhole limits files (name ∷ []) found oo on eo en
 document_whole limits files name bytes found oo on eo en whole d = record {
-    answers = one_answer name d.verdict ∷ [];
-    are = one_are limits files name d.verdict (whole d.verdict d.is);
-    found_is = d.found_is ∙ sym (or-false _ ∙ or-false _);
-    out = subst (λ (b : List ℕ). Appends oo on b) (sym (one_queries name d.verdict)) d.out;
-    err = subst (λ (l : List (List ℕ)). Appends eo en (lines_text l)) (sym (one_lines name d.verdict)) d.err }
+  answers = one_answer name d.verdict ∷ [];
+  are = one_are limits files name d.verdict (whole d.verdict d.is);
+  found_is = d.found_is ∙ sym (or-false _ ∙ or-false _);
+  out = subst (λ (b : List ℕ). Appends oo on b) (sym (one_queries name d.verdict)) d.out;
+  err = subst (λ (l : List (List ℕ)). Appends eo en (lines_text l)) (sym (one_lines name d.verdict)) d.err;
+}
 
 document_cut : (limits : Limits) (files : List (List ℕ × List ℕ)) (name bytes : List ℕ) (oo on eo en : Option (List ℕ))
     → ((v : Verdict) → IsVerdict limits bytes v → IsVerdict limits (contents files name) v) → DocumentCut limits name bytes oo on eo en → AnsweredCut limits files (name ∷ []) oo on eo en
 document_cut limits files name bytes oo on eo en whole d = record {
-    answers = one_answer name d.verdict ∷ [];
-    are = one_are limits files name d.verdict (whole d.verdict d.is);
-    out = subst (λ (b : List ℕ). AppendsFront oo on b) (sym (one_queries name d.verdict)) d.out;
-    err = subst (λ (l : List (List ℕ)). LinesCut (name ∷ []) eo en l) (sym (one_lines name d.verdict)) d.err }
+  answers = one_answer name d.verdict ∷ [];
+  are = one_are limits files name d.verdict (whole d.verdict d.is);
+  out = subst (λ (b : List ℕ). AppendsFront oo on b) (sym (one_queries name d.verdict)) d.out;
+  err = subst (λ (l : List (List ℕ)). LinesCut (name ∷ []) eo en l) (sym (one_lines name d.verdict)) d.err;
+}
 
 document_ends : (limits : Limits) (files : List (List ℕ × List ℕ)) (name bytes : List ℕ) (r : Result Bool Stop) (oo on eo en : Option (List ℕ))
     → ((v : Verdict) → IsVerdict limits bytes v → IsVerdict limits (contents files name) v) → DocumentEnds limits name bytes r oo on eo en → Ends limits files (name ∷ []) r oo on eo en
@@ -93,10 +97,11 @@ file_nothing : Judged → (limits : Limits) (files : List (List ℕ × List ℕ)
 file_nothing judged limits files name oo eo =
     let v = judged limits (contents files name) in
     record {
-        answers = one_answer name v.0 ∷ [];
-        are = one_are limits files name v.0 v.1;
-        out = front_nothing oo oo _ (Appends-nothing oo);
-        err = no_lines (name ∷ []) (all_lines (one_answer name v.0 ∷ [])) eo }
+      answers = one_answer name v.0 ∷ [];
+      are = one_are limits files name v.0 v.1;
+      out = front_nothing oo oo _ (Appends-nothing oo);
+      err = no_lines (name ∷ []) (all_lines (one_answer name v.0 ∷ [])) eo;
+    }
 
 pub memory_ends : Judged → (limits : Limits) (known : Option (List (List ℕ × List ℕ))) (name : List ℕ) (oo eo : Option (List ℕ)) → IfSome known (λ files. Ends limits files (name ∷ []) (Err Memory) oo oo eo eo)
 memory_ends judged limits None name oo eo = tt
@@ -107,17 +112,19 @@ told_ends judged limits files name Unread oo eo en told = tt
 told_ends judged limits files name Memory oo eo en told =
     let v = judged limits (contents files name) in
     record {
-        answers = one_answer name v.0 ∷ [];
-        are = one_are limits files name v.0 v.1;
-        out = front_nothing oo oo _ (Appends-nothing oo);
-        err = record { whole = []; later = all_lines (one_answer name v.0 ∷ []); part = []; parts = refl; is_part = nothing refl; grown = told } }
+      answers = one_answer name v.0 ∷ [];
+      are = one_are limits files name v.0 v.1;
+      out = front_nothing oo oo _ (Appends-nothing oo);
+      err = record { whole = []; later = all_lines (one_answer name v.0 ∷ []); part = []; parts = refl; is_part = nothing refl; grown = told };
+    }
 told_ends judged limits files name Unwritten oo eo en told =
     let v = judged limits (contents files name) in
     record {
-        answers = one_answer name v.0 ∷ [];
-        are = one_are limits files name v.0 v.1;
-        out = front_nothing oo oo _ (Appends-nothing oo);
-        err = record { whole = []; later = all_lines (one_answer name v.0 ∷ []); part = told.front; parts = refl; is_part = of_unread name told.rest (zero, omega arith, refl) told.parts; grown = told.grown } }
+      answers = one_answer name v.0 ∷ [];
+      are = one_are limits files name v.0 v.1;
+      out = front_nothing oo oo _ (Appends-nothing oo);
+      err = record { whole = []; later = all_lines (one_answer name v.0 ∷ []); part = told.front; parts = refl; is_part = of_unread name told.rest (zero, omega arith, refl) told.parts; grown = told.grown };
+    }
 
 -- the file couldn't be read, and that was told, or not
 pub failed_ends : Judged → (limits : Limits) (known : Option (List (List ℕ × List ℕ))) (name : List ℕ) (stop : Stop) (oo eo en : Option (List ℕ)) → Tells name stop eo en → IfSome known (λ files. Ends limits files (name ∷ []) (Err stop) oo oo eo en)
@@ -129,10 +136,11 @@ failed_unread judged limits None name oo eo en told = tt
 failed_unread judged limits (Some files) name oo eo en told =
     let v = judged limits (contents files name) in
     record {
-        answers = one_answer name v.0 ∷ [];
-        are = one_are limits files name v.0 v.1;
-        out = front_nothing oo oo _ (Appends-nothing oo);
-        err = record { whole = []; later = all_lines (one_answer name v.0 ∷ []); parts = refl; grown = subst (λ (b : List ℕ). Appends eo en b) (sym (append-nil (ended (unread_line name)))) told } }
+      answers = one_answer name v.0 ∷ [];
+      are = one_are limits files name v.0 v.1;
+      out = front_nothing oo oo _ (Appends-nothing oo);
+      err = record { whole = []; later = all_lines (one_answer name v.0 ∷ []); parts = refl; grown = subst (λ (b : List ℕ). Appends eo en b) (sym (append-nil (ended (unread_line name)))) told };
+    }
 
 -- a stop that is the unread one told of the file
 pub told_unread : (name : List ℕ) (stop : Stop) (eo en : Option (List ℕ)) → IsErrOf {T = Bool} (Err stop) Unread → Tells name stop eo en → Tells name Unread eo en

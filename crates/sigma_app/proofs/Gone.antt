@@ -41,12 +41,13 @@ left_answers judged limits files (name ∷ names) =
 pub whole_step : (limits : Limits) (files : List (List ℕ × List ℕ)) (xs : List (List ℕ)) (x : List ℕ) (first second : Bool) (oo om on eo em en : Option (List ℕ))
     → AnsweredWhole limits files xs first oo om eo em → AnsweredWhole limits files (x ∷ []) second om on em en → AnsweredWhole limits files (xs ++ x ∷ []) (first || second) oo on eo en
 whole_step limits files xs x first second oo om on eo em en a b = record {
-    answers = a.answers ++ b.answers;
-    are = are_join limits files xs (x ∷ []) a.answers b.answers a.are b.are;
-    found_is = rw (a.found_is, b.found_is) (sym (list_any-append has_refusal a.answers b.answers));
-    out = subst (λ (l : List ℕ). Appends oo on l) (sym (flat_map-append queries_of a.answers b.answers)) (Appends-then oo om on (all_queries a.answers) (all_queries b.answers) a.out b.out);
-    err = subst (λ (l : List ℕ). Appends eo en l) (sym (ap lines_text (flat_map-append lines_of a.answers b.answers) ∙ flat_map-append ended (all_lines a.answers) (all_lines b.answers)))
-        (Appends-then eo em en (lines_text (all_lines a.answers)) (lines_text (all_lines b.answers)) a.err b.err) }
+  answers = a.answers ++ b.answers;
+  are = are_join limits files xs (x ∷ []) a.answers b.answers a.are b.are;
+  found_is = rw (a.found_is, b.found_is) (sym (list_any-append has_refusal a.answers b.answers));
+  out = subst (λ (l : List ℕ). Appends oo on l) (sym (flat_map-append queries_of a.answers b.answers)) (Appends-then oo om on (all_queries a.answers) (all_queries b.answers) a.out b.out);
+  err = subst (λ (l : List ℕ). Appends eo en l) (sym (ap lines_text (flat_map-append lines_of a.answers b.answers) ∙ flat_map-append ended (all_lines a.answers) (all_lines b.answers)))
+      (Appends-then eo em en (lines_text (all_lines a.answers)) (lines_text (all_lines b.answers)) a.err b.err);
+}
 
 -- a part of a line is one also where more lines and more names follow
 part_longer : (xs ys : List (List ℕ)) (x part : List ℕ) (later more : List (List ℕ)) → IsPart (x ∷ []) part later → IsPart (xs ++ x ∷ ys) part (later ++ more)
@@ -61,23 +62,25 @@ regroup first whole later more = simp append_assoc refl
 -- whole lines, and then some of more
 cut_lines : (xs ys : List (List ℕ)) (x : List ℕ) (first lines more : List (List ℕ)) (eo em en : Option (List ℕ)) → Appends eo em (lines_text first) → LinesCut (x ∷ []) em en lines → LinesCut (xs ++ x ∷ ys) eo en (first ++ (lines ++ more))
 cut_lines xs ys x first lines more eo em en before c = record {
-    whole = first ++ c.whole;
-    later = c.later ++ more;
-    part = c.part;
-    parts = ap (λ (l : List (List ℕ)). first ++ (l ++ more)) c.parts ∙ regroup first c.whole c.later more;
-    is_part = part_longer xs ys x c.part c.later more c.is_part;
-    grown = subst (λ (l : List ℕ). Appends eo en l)
-        (sym (append_assoc (lines_text first) (lines_text c.whole) c.part) ∙ ap (λ (l : List ℕ). l ++ c.part) (sym (flat_map-append ended first c.whole)))
-        (Appends-then eo em en (lines_text first) (lines_text c.whole ++ c.part) before c.grown) }
+  whole = first ++ c.whole;
+  later = c.later ++ more;
+  part = c.part;
+  parts = ap (λ (l : List (List ℕ)). first ++ (l ++ more)) c.parts ∙ regroup first c.whole c.later more;
+  is_part = part_longer xs ys x c.part c.later more c.is_part;
+  grown = subst (λ (l : List ℕ). Appends eo en l)
+      (sym (append_assoc (lines_text first) (lines_text c.whole) c.part) ∙ ap (λ (l : List ℕ). l ++ c.part) (sym (flat_map-append ended first c.whole)))
+      (Appends-then eo em en (lines_text first) (lines_text c.whole ++ c.part) before c.grown);
+}
 
 unread_lines : (name : List ℕ) (first lines more : List (List ℕ)) (eo em en : Option (List ℕ)) → Appends eo em (lines_text first) → LinesUnread name em en lines → LinesUnread name eo en (first ++ (lines ++ more))
 unread_lines name first lines more eo em en before c = record {
-    whole = first ++ c.whole;
-    later = c.later ++ more;
-    parts = ap (λ (l : List (List ℕ)). first ++ (l ++ more)) c.parts ∙ regroup first c.whole c.later more;
-    grown = subst (λ (l : List ℕ). Appends eo en l)
-        (sym (flat_map-append ended first (c.whole ++ unread_line name ∷ [])) ∙ ap lines_text (sym (append_assoc first c.whole (unread_line name ∷ []))))
-        (Appends-then eo em en (lines_text first) (lines_text (c.whole ++ unread_line name ∷ [])) before c.grown) }
+  whole = first ++ c.whole;
+  later = c.later ++ more;
+  parts = ap (λ (l : List (List ℕ)). first ++ (l ++ more)) c.parts ∙ regroup first c.whole c.later more;
+  grown = subst (λ (l : List ℕ). Appends eo en l)
+      (sym (flat_map-append ended first (c.whole ++ unread_line name ∷ [])) ∙ ap lines_text (sym (append_assoc first c.whole (unread_line name ∷ []))))
+      (Appends-then eo em en (lines_text first) (lines_text (c.whole ++ unread_line name ∷ [])) before c.grown);
+}
 
 queries_join : (a b c : List Answered) → all_queries (a ++ (b ++ c)) ≡ all_queries a ++ (all_queries b ++ all_queries c)
 queries_join a b c = flat_map-append queries_of a (b ++ c) ∙ ap (λ (l : List ℕ). all_queries a ++ l) (flat_map-append queries_of b c)
@@ -91,24 +94,26 @@ pub cut_step : Judged → (limits : Limits) (files : List (List ℕ × List ℕ)
 cut_step judged limits files xs ys x found oo om on eo em en a b =
     let rest = left_answers judged limits files ys in
     record {
-        answers = a.answers ++ (b.answers ++ rest.0);
-        are = are_join limits files xs (x ∷ ys) a.answers (b.answers ++ rest.0) a.are (are_join limits files (x ∷ []) ys b.answers rest.0 b.are rest.1);
-        out = subst (λ (l : List ℕ). AppendsFront oo on l) (sym (queries_join a.answers b.answers rest.0))
-            (front_then oo om on (all_queries a.answers) (all_queries b.answers ++ all_queries rest.0) a.out (front_longer om on (all_queries b.answers) (all_queries rest.0) b.out));
-        err = subst (λ (l : List (List ℕ)). LinesCut (xs ++ x ∷ ys) eo en l) (sym (lines_join a.answers b.answers rest.0))
-            (cut_lines xs ys x (all_lines a.answers) (all_lines b.answers) (all_lines rest.0) eo em en a.err b.err) }
+      answers = a.answers ++ (b.answers ++ rest.0);
+      are = are_join limits files xs (x ∷ ys) a.answers (b.answers ++ rest.0) a.are (are_join limits files (x ∷ []) ys b.answers rest.0 b.are rest.1);
+      out = subst (λ (l : List ℕ). AppendsFront oo on l) (sym (queries_join a.answers b.answers rest.0))
+          (front_then oo om on (all_queries a.answers) (all_queries b.answers ++ all_queries rest.0) a.out (front_longer om on (all_queries b.answers) (all_queries rest.0) b.out));
+      err = subst (λ (l : List (List ℕ)). LinesCut (xs ++ x ∷ ys) eo en l) (sym (lines_join a.answers b.answers rest.0))
+          (cut_lines xs ys x (all_lines a.answers) (all_lines b.answers) (all_lines rest.0) eo em en a.err b.err);
+    }
 
 pub unread_step : Judged → (limits : Limits) (files : List (List ℕ × List ℕ)) (xs ys : List (List ℕ)) (x name : List ℕ) (found : Bool) (oo om on eo em en : Option (List ℕ))
     → AnsweredWhole limits files xs found oo om eo em → AnsweredUnread limits files (x ∷ []) name om on em en → AnsweredUnread limits files (xs ++ x ∷ ys) name oo on eo en
 unread_step judged limits files xs ys x name found oo om on eo em en a b =
     let rest = left_answers judged limits files ys in
     record {
-        answers = a.answers ++ (b.answers ++ rest.0);
-        are = are_join limits files xs (x ∷ ys) a.answers (b.answers ++ rest.0) a.are (are_join limits files (x ∷ []) ys b.answers rest.0 b.are rest.1);
-        out = subst (λ (l : List ℕ). AppendsFront oo on l) (sym (queries_join a.answers b.answers rest.0))
-            (front_then oo om on (all_queries a.answers) (all_queries b.answers ++ all_queries rest.0) a.out (front_longer om on (all_queries b.answers) (all_queries rest.0) b.out));
-        err = subst (λ (l : List (List ℕ)). LinesUnread name eo en l) (sym (lines_join a.answers b.answers rest.0))
-            (unread_lines name (all_lines a.answers) (all_lines b.answers) (all_lines rest.0) eo em en a.err b.err) }
+      answers = a.answers ++ (b.answers ++ rest.0);
+      are = are_join limits files xs (x ∷ ys) a.answers (b.answers ++ rest.0) a.are (are_join limits files (x ∷ []) ys b.answers rest.0 b.are rest.1);
+      out = subst (λ (l : List ℕ). AppendsFront oo on l) (sym (queries_join a.answers b.answers rest.0))
+          (front_then oo om on (all_queries a.answers) (all_queries b.answers ++ all_queries rest.0) a.out (front_longer om on (all_queries b.answers) (all_queries rest.0) b.out));
+      err = subst (λ (l : List (List ℕ)). LinesUnread name eo en l) (sym (lines_join a.answers b.answers rest.0))
+          (unread_lines name (all_lines a.answers) (all_lines b.answers) (all_lines rest.0) eo em en a.err b.err);
+    }
 
 -- the list around an element
 pub around : (names : List (List ℕ)) (i : ℕ) (x : List ℕ) → i < length names → x ≡ get_or names i x → names ≡ take i names ++ x ∷ drop (suc i) names
@@ -148,8 +153,8 @@ pub known_next : (limits : Limits) (known : Option (List (List ℕ × List ℕ))
     → IfSome known (λ files. AnsweredWhole limits files (take (i + 1) names) both oo on eo en)
 known_next limits known names i x first second both oo om on eo em en below is found a b =
     subst (λ (xs : List (List ℕ)). IfSome known (λ files. AnsweredWhole limits files xs both oo on eo en)) (sym (before_and names i x below is))
-        (subst (λ (f : Bool). IfSome known (λ files. AnsweredWhole limits files (take i names ++ x ∷ []) f oo on eo en)) (sym found)
-            (known_whole limits known (take i names) x first second oo om on eo em en a b))
+    (subst (λ (f : Bool). IfSome known (λ files. AnsweredWhole limits files (take i names ++ x ∷ []) f oo on eo en)) (sym found)
+    (known_whole limits known (take i names) x first second oo om on eo em en a b))
 
 pub known_stop_at : Judged → (limits : Limits) (known : Option (List (List ℕ × List ℕ))) (names : List (List ℕ)) (i : ℕ) (x : List ℕ) (found : Bool) (stop : Stop) (oo om on eo em en : Option (List ℕ))
     → i < length names → x ≡ get_or names i x
@@ -157,7 +162,7 @@ pub known_stop_at : Judged → (limits : Limits) (known : Option (List (List ℕ
     → IfSome known (λ files. Ends limits files names (Err stop) oo on eo en)
 known_stop_at judged limits known names i x found stop oo om on eo em en below is a b =
     subst (λ (xs : List (List ℕ)). IfSome known (λ files. Ends limits files xs (Err stop) oo on eo en)) (sym (around names i x below is))
-        (known_stop judged limits known (take i names) (drop (suc i) names) x found stop oo om on eo em en a b)
+    (known_stop judged limits known (take i names) (drop (suc i) names) x found stop oo om on eo em en a b)
 
 pub known_unread_at : Judged → (limits : Limits) (known : Option (List (List ℕ × List ℕ))) (names : List (List ℕ)) (i : ℕ) (x : List ℕ) (found : Bool) (oo om on eo em en : Option (List ℕ))
     → i < length names → x ≡ get_or names i x
@@ -165,4 +170,4 @@ pub known_unread_at : Judged → (limits : Limits) (known : Option (List (List �
     → IfSome known (λ files. AnsweredUnread limits files names x oo on eo en)
 known_unread_at judged limits known names i x found oo om on eo em en below is a b =
     subst (λ (xs : List (List ℕ)). IfSome known (λ files. AnsweredUnread limits files xs x oo on eo en)) (sym (around names i x below is))
-        (known_unread judged limits known (take i names) (drop (suc i) names) x found oo om on eo em en a b)
+    (known_unread judged limits known (take i names) (drop (suc i) names) x found oo om on eo em en a b)

@@ -19,15 +19,17 @@ SaysOnce = (value_chars : ℕ) (bytes : List ℕ) (s t : Simple) → Says value_
 verdict_small : (limits : Limits) (bytes : List ℕ) → length bytes ≤ limits.file_bytes → ((s : Simple) × Says limits.value_chars bytes s) ⊎ ((s : Simple) → Says limits.value_chars bytes s → ⊥) → (verdict : Verdict) × IsVerdict limits bytes verdict
 verdict_small limits bytes small (inr nothing) = (Refused (at_start 10 None), not_built small nothing refl)
 verdict_small limits bytes small (inl says) =
-    elim (cases_lt limits.query_bytes (length (query_of says.0))) as (λ _. (verdict : Verdict) × IsVerdict limits bytes verdict)
-      [ inl long ↦ (Refused (at_start 114 (Numbers (pos (length (query_of says.0))) (pos limits.query_bytes))), too_long says.0 small says.1 long refl)
-      | inr short ↦ (Accepted says.0, record { small = small; says = says.1; short = short }) ]
+    elim (cases_lt limits.query_bytes (length (query_of says.0))) as (λ _. (verdict : Verdict) × IsVerdict limits bytes verdict) [
+      | inl long ↦ (Refused (at_start 114 (Numbers (pos (length (query_of says.0))) (pos limits.query_bytes))), too_long says.0 small says.1 long refl)
+      | inr short ↦ (Accepted says.0, record { small = small; says = says.1; short = short })
+    ]
 
 pub some_verdict : SaysOrNot → (limits : Limits) (bytes : List ℕ) → (verdict : Verdict) × IsVerdict limits bytes verdict
 some_verdict decided limits bytes =
-    elim (cases_lt limits.file_bytes (length bytes)) as (λ _. (verdict : Verdict) × IsVerdict limits bytes verdict)
-      [ inl large ↦ (Refused (at_start 2 None), too_large large refl)
-      | inr small ↦ verdict_small limits bytes small (decided limits.value_chars bytes) ]
+    elim (cases_lt limits.file_bytes (length bytes)) as (λ _. (verdict : Verdict) × IsVerdict limits bytes verdict) [
+      | inl large ↦ (Refused (at_start 2 None), too_large large refl)
+      | inr small ↦ verdict_small limits bytes small (decided limits.value_chars bytes)
+    ]
 
 long_query : (limits : Limits) (rule other : Simple) → rule ≡ other → length (query_of rule) ≤ limits.query_bytes → limits.query_bytes < length (query_of other) → ⊥
 long_query limits rule other same short long =

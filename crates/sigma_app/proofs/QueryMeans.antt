@@ -32,7 +32,7 @@ doubled_ascii quote (c ∷ cs) low ok =
     let parts = and_parts (nat_lt c 128) (is_ascii cs) ok in
     let rest : is_ascii (doubled quote cs) ≡ true = doubled_ascii quote cs low parts.1 in
     cond_both (c == quote) (quote ∷ quote ∷ doubled quote cs) (c ∷ doubled quote cs) (λ (l : List ℕ). is_ascii l ≡ true)
-        (λ _. and_from _ _ low (and_from _ _ low rest)) (λ _. and_from _ _ parts.0 rest)
+    (λ _. and_from _ _ low (and_from _ _ low rest)) (λ _. and_from _ _ parts.0 rest)
 
 quoted_ascii : (quote : ℕ) (text : List ℕ) → nat_lt quote 128 ≡ true → is_ascii text ≡ true → is_ascii (in_quotes quote text) ≡ true
 quoted_ascii quote text low ok =
@@ -42,11 +42,11 @@ quoted_ascii quote text low ok =
 query_ascii : (field value : List ℕ) → is_ascii field ≡ true → is_ascii value ≡ true → is_ascii (query_text field value) ≡ true
 query_ascii field value first second =
     let last : is_ascii (in_quotes 39 value ++ codes " COLLATE NOCASE") ≡ true =
-        ascii_join (in_quotes 39 value) (codes " COLLATE NOCASE") (quoted_ascii 39 value refl second) refl in
+    ascii_join (in_quotes 39 value) (codes " COLLATE NOCASE") (quoted_ascii 39 value refl second) refl in
     let test : is_ascii (codes " = " ++ (in_quotes 39 value ++ codes " COLLATE NOCASE")) ≡ true =
-        ascii_join (codes " = ") (in_quotes 39 value ++ codes " COLLATE NOCASE") refl last in
+    ascii_join (codes " = ") (in_quotes 39 value ++ codes " COLLATE NOCASE") refl last in
     let named : is_ascii (in_quotes 34 field ++ (codes " = " ++ (in_quotes 39 value ++ codes " COLLATE NOCASE"))) ≡ true =
-        ascii_join (in_quotes 34 field) (codes " = " ++ (in_quotes 39 value ++ codes " COLLATE NOCASE")) (quoted_ascii 34 field refl first) test in
+    ascii_join (in_quotes 34 field) (codes " = " ++ (in_quotes 39 value ++ codes " COLLATE NOCASE")) (quoted_ascii 34 field refl first) test in
     ascii_join (codes "SELECT * FROM \"events\" WHERE ") (in_quotes 34 field ++ (codes " = " ++ (in_quotes 39 value ++ codes " COLLATE NOCASE"))) refl named
 
 -- the laws of the language that are wanted here
@@ -67,9 +67,10 @@ selects : SelectsText → (rule : Simple) (row : List (Option Value)) → IsEven
 selects law rule [] event = absurd event
 selects law rule (v ∷ w ∷ ws) event = absurd event.1
 selects law rule (v ∷ []) event =
-    let said = law 0 rule.value (v ∷ []) in
-    (λ chosen. let found = said.0 chosen in (found.0, ap (λ (o : Option Value). o ∷ []) found.1, found.2),
-     λ matched. said.1 (matched.0, ap (λ (row : List (Option Value)). value_at row 0) matched.1, matched.2))
+    let said = law 0 rule.value (v ∷ []) in (
+      λ chosen. let found = said.0 chosen in (found.0, ap (λ (o : Option Value). o ∷ []) found.1, found.2),
+      λ matched. said.1 (matched.0, ap (λ (row : List (Option Value)). value_at row 0) matched.1, matched.2),
+    )
 
 pub means_rule : SaysAscii → IsRead → ReadsOnce → SelectsText → (value_chars : ℕ) (bytes : List ℕ) (rule : Simple) → Says value_chars bytes rule → Converts rule (query_of rule)
 unfolding query_of
@@ -77,11 +78,12 @@ means_rule ascii read once select value_chars bytes rule says =
     let letters = ascii value_chars bytes rule says in
     let plain : IsPlainText rule.value = (ascii_scalars rule.value letters.1, letters.2) in
     let encoded : encode_utf8_all (query_text rule.field rule.value) ≡ query_text rule.field rule.value =
-        ascii_encodes (query_text rule.field rule.value) (query_ascii rule.field rule.value letters.0 letters.1) in
+    ascii_encodes (query_text rule.field rule.value) (query_ascii rule.field rule.value letters.0 letters.1) in
     let reads : Reads (text_schema rule.field) (query_text rule.field rule.value) (same_text 0 rule.value) =
-        subst (λ (b : List ℕ). Reads (text_schema rule.field) b (same_text 0 rule.value)) encoded (read rule.field rule.value (ascii_scalars rule.field letters.0) plain) in
+    subst (λ (b : List ℕ). Reads (text_schema rule.field) b (same_text 0 rule.value)) encoded (read rule.field rule.value (ascii_scalars rule.field letters.0) plain) in
     record {
-        expression = same_text 0 rule.value;
-        reads = reads;
-        only = λ other too. once (text_schema rule.field) (query_text rule.field rule.value) other (same_text 0 rule.value) too reads;
-        selects = selects select rule }
+      expression = same_text 0 rule.value;
+      reads = reads;
+      only = λ other too. once (text_schema rule.field) (query_text rule.field rule.value) other (same_text 0 rule.value) too reads;
+      selects = selects select rule;
+    }

@@ -47,8 +47,9 @@ all_convert means limits files (name ∷ names) (a ∷ answers) are =
 -- the answer to words that are taken
 answer_of : (limits : Limits) (words : List (List ℕ)) (files : List (List ℕ × List ℕ)) (names : List (List ℕ)) (answers : List Answered) → IsTaken words names → AreAnswered limits files names answers → Answer limits words files (status_of (any_refusal answers)) (all_queries answers) (all_lines answers)
 answer_of limits words files names answers taken are = record {
-    usage = λ other. absurd (other names taken);
-    convert = λ others too. (answers, subst (λ (ns : List (List ℕ)). AreAnswered limits files ns answers) (taken_once words names others taken too) are, refl, refl, refl) }
+  usage = λ other. absurd (other names taken);
+  convert = λ others too. (answers, subst (λ (ns : List (List ℕ)). AreAnswered limits files ns answers) (taken_once words names others taken too) are, refl, refl, refl);
+}
 
 -- the answer to words that aren't
 usage_answer : (limits : Limits) (words : List (List ℕ)) (files : List (List ℕ × List ℕ)) → ((names : List (List ℕ)) → IsTaken words names → ⊥) → Answer limits words files Usage [] (usage_line ∷ [])
@@ -59,38 +60,44 @@ pub written_whole : (limits : Limits) (words : List (List ℕ)) (known : Option 
 written_whole limits words None names found oo on eo en taken a = tt
 written_whole limits words (Some files) names found oo on eo en taken a =
     subst (λ (f : Bool). Written limits words files (status_of f) oo on eo en) (sym a.found_is)
-        (all_queries a.answers, all_lines a.answers, answer_of limits words files names a.answers taken a.are, a.out, a.err)
+    (all_queries a.answers, all_lines a.answers, answer_of limits words files names a.answers taken a.are, a.out, a.err)
 
 pub headline_whole : Means → (limits : Limits) (words : List (List ℕ)) (known : Option (List (List ℕ × List ℕ))) (names : List (List ℕ)) (found : Bool) (oo on eo en : Option (List ℕ))
     → IsTaken words names → IfSome known (λ files. AnsweredWhole limits files names found oo on eo en) → IfSome known (λ files. Headline limits words files oo on eo en)
 headline_whole means limits words None names found oo on eo en taken a = tt
-headline_whole means limits words (Some files) names found oo on eo en taken a = λ others too.
-    (a.answers, subst (λ (ns : List (List ℕ)). AreAnswered limits files ns a.answers) (taken_once words names others taken too) a.are,
-     all_convert means limits files names a.answers a.are, a.out, a.err)
+headline_whole means limits words (Some files) names found oo on eo en taken a = λ others too. (
+  a.answers,
+  subst (λ (ns : List (List ℕ)). AreAnswered limits files ns a.answers) (taken_once words names others taken too) a.are,
+  all_convert means limits files names a.answers a.are,
+  a.out,
+  a.err,
+)
 
 pub stands_unread : (limits : Limits) (words : List (List ℕ)) (known : Option (List (List ℕ × List ℕ))) (names : List (List ℕ)) (name : List ℕ) (oo on eo en : Option (List ℕ))
     → IsTaken words names → IfSome known (λ files. AnsweredUnread limits files names name oo on eo en) → IfSome known (λ files. StandsUnread limits words files name oo on eo en)
 stands_unread limits words None names name oo on eo en taken a = tt
 stands_unread limits words (Some files) names name oo on eo en taken a = record {
-    status = status_of (any_refusal a.answers);
-    out = all_queries a.answers;
-    lines = all_lines a.answers;
-    answer = answer_of limits words files names a.answers taken a.are;
-    out_front = a.out;
-    err_front = a.err }
+  status = status_of (any_refusal a.answers);
+  out = all_queries a.answers;
+  lines = all_lines a.answers;
+  answer = answer_of limits words files names a.answers taken a.are;
+  out_front = a.out;
+  err_front = a.err;
+}
 
 pub stands_cut : (limits : Limits) (words : List (List ℕ)) (known : Option (List (List ℕ × List ℕ))) (names : List (List ℕ)) (oo on eo en : Option (List ℕ))
     → IsTaken words names → IfSome known (λ files. AnsweredCut limits files names oo on eo en) → IfSome known (λ files. StandsCut limits words files oo on eo en)
 stands_cut limits words None names oo on eo en taken a = tt
 stands_cut limits words (Some files) names oo on eo en taken a = record {
-    status = status_of (any_refusal a.answers);
-    out = all_queries a.answers;
-    lines = all_lines a.answers;
-    names = names;
-    answer = answer_of limits words files names a.answers taken a.are;
-    named = λ _ _. taken;
-    out_front = a.out;
-    err_front = a.err }
+  status = status_of (any_refusal a.answers);
+  out = all_queries a.answers;
+  lines = all_lines a.answers;
+  names = names;
+  answer = answer_of limits words files names a.answers taken a.are;
+  named = λ _ _. taken;
+  out_front = a.out;
+  err_front = a.err;
+}
 
 -- words that aren't taken
 pub usage_written : (limits : Limits) (words : List (List ℕ)) (known : Option (List (List ℕ × List ℕ))) (oo eo en : Option (List ℕ))
@@ -108,14 +115,15 @@ pub usage_cut : (limits : Limits) (words : List (List ℕ)) (known : Option (Lis
     → ((names : List (List ℕ)) → IsTaken words names → ⊥) → AppendsFront eo en (ended usage_line) → IfSome known (λ files. StandsCut limits words files oo oo eo en)
 usage_cut limits words None oo eo en other err = tt
 usage_cut limits words (Some files) oo eo en other err = record {
-    status = Usage;
-    out = [];
-    lines = usage_line ∷ [];
-    names = [];
-    answer = usage_answer limits words files other;
-    named = λ name among. absurd (nobody name among);
-    out_front = front_nothing oo oo [] (Appends-nothing oo);
-    err_front = line_front [] usage_line (ended usage_line) eo en refl err }
+  status = Usage;
+  out = [];
+  lines = usage_line ∷ [];
+  names = [];
+  answer = usage_answer limits words files other;
+  named = λ name among. absurd (nobody name among);
+  out_front = front_nothing oo oo [] (Appends-nothing oo);
+  err_front = line_front [] usage_line (ended usage_line) eo en refl err;
+}
   where
     nobody : (name : List ℕ) → Contains [] name → ⊥
     nobody name among = omega (arith, among.1)

@@ -20,6 +20,7 @@ pub four_taken : (words : List (List ℕ)) (a b c d : List ℕ) → words ≡ a 
 four_taken words a b c d are command option backend file =
     let names : drop 3 words ≡ d ∷ [] = ap (λ (l : List (List ℕ)). drop 3 l) are in
     record {
-        shape = are ∙ rw (names, (bytes_eq-Decides a (codes "convert")).0 command, (bytes_eq-Decides b (codes "--backend")).0 option, (bytes_eq-Decides c (codes "sqlite")).0 backend) refl;
-        one = ap length names;
-        files = rw names (and_from (is_file d) true file refl) }
+      shape = are ∙ rw (names, (bytes_eq-Decides a (codes "convert")).0 command, (bytes_eq-Decides b (codes "--backend")).0 option, (bytes_eq-Decides c (codes "sqlite")).0 backend) refl;
+      one = ap length names;
+      files = rw names (and_from (is_file d) true file refl);
+    }

@@ -12,7 +12,14 @@ use sig_base::{Fault, Limits, Sink, Text, put_all};
 use std::alloc::Global;
 
 /// Writes the query of a document, or its line; tells whether it was refused.
-pub(super) fn answer_document<O: Sink, E: Sink>(alloc: Global, limits: &Limits, name: &Text, bytes: &[u8], out: &mut O, err: &mut E) -> Result<bool, Stop>
+pub(super) fn answer_document<O: Sink, E: Sink>(
+    alloc: Global,
+    limits: &Limits,
+    name: &Text,
+    bytes: &[u8],
+    out: &mut O,
+    err: &mut E,
+) -> Result<bool, Stop>
     ensures ends { DocumentEnds limits.now name.now bytes.now result (O.taken out.old) (O.taken out.new) (E.taken err.old) (E.taken err.new) }
     ensures same { OnOk result ((O.faults out.new ≡ O.faults out.old) × (E.faults err.new ≡ E.faults err.old)) }
     ensures cause { IsErrOf result Stop.Unwritten → Rose (O.faults out.old) (O.faults out.new) ⊎ Rose (E.faults err.old) (E.faults err.new) }

@@ -12,7 +12,14 @@ use sig_base::{Limits, Shelf, ShelfFault, Sink, Text, put_all};
 use std::alloc::Global;
 
 /// Answers the files in their order, each wholly before the next; tells whether something was refused.
-pub(super) fn answer_files<F: Shelf, O: Sink, E: Sink>(alloc: Global, limits: &Limits, names: &[Text], shelf: &mut F, out: &mut O, err: &mut E) -> Result<bool, Stop>
+pub(super) fn answer_files<F: Shelf, O: Sink, E: Sink>(
+    alloc: Global,
+    limits: &Limits,
+    names: &[Text],
+    shelf: &mut F,
+    out: &mut O,
+    err: &mut E,
+) -> Result<bool, Stop>
     ensures ends { IfSome (F.files shelf.old) (λ files. Ends limits.now files names.now result (O.taken out.old) (O.taken out.new) (E.taken err.old) (E.taken err.new)) }
     ensures unread { IsErrOf result Stop.Unread → (name : List ℕ) × Contains names.now name × (F.failed shelf.new ≡ F.failed shelf.old ++ name ∷ [])
         × IfSome (F.files shelf.old) (λ files. AnsweredUnread limits.now files names.now name (O.taken out.old) (O.taken out.new) (E.taken err.old) (E.taken err.new)) }
@@ -37,7 +44,14 @@ fn either(first: bool, second: bool) -> bool
 }
 
 /// Reads a file and answers it; where it can't be read, a line says so.
-fn answer_file<F: Shelf, O: Sink, E: Sink>(alloc: Global, limits: &Limits, name: &Text, shelf: &mut F, out: &mut O, err: &mut E) -> Result<bool, Stop>
+fn answer_file<F: Shelf, O: Sink, E: Sink>(
+    alloc: Global,
+    limits: &Limits,
+    name: &Text,
+    shelf: &mut F,
+    out: &mut O,
+    err: &mut E,
+) -> Result<bool, Stop>
     ensures ends { IfSome (F.files shelf.old) (λ files. Ends limits.now files (name.now ∷ []) result (O.taken out.old) (O.taken out.new) (E.taken err.old) (E.taken err.new)) }
     ensures unread { IsErrOf result Stop.Unread → (F.failed shelf.new ≡ F.failed shelf.old ++ name.now ∷ [])
         × IfSome (F.files shelf.old) (λ files. AnsweredUnread limits.now files (name.now ∷ []) name.now (O.taken out.old) (O.taken out.new) (E.taken err.old) (E.taken err.new)) }

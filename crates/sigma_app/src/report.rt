@@ -8,7 +8,11 @@ use sig_base::{Detail, Place, Refusal, Text};
 use std::alloc::{AllocError, Global};
 
 /// The line of a refusal, ended by a line feed.
-pub(super) fn refusal_text(alloc: Global, name: &Text, refusal: &Refusal) -> Result<String, AllocError>
+pub(super) fn refusal_text(
+    alloc: Global,
+    name: &Text,
+    refusal: &Refusal,
+) -> Result<String, AllocError>
     ensures { IfOk result (λ line. string_bytes line ≡ ended (refusal_line name.now refusal.now)) }
 {
     let detail = detail_text(alloc, &refusal.detail)?;
@@ -22,7 +26,14 @@ pub(super) fn refusal_text(alloc: Global, name: &Text, refusal: &Refusal) -> Res
     )
 }
 
-fn line_text(alloc: Global, file: &str, place: Place, number: u16, cause: &str, detail: &str) -> Result<String, AllocError>
+fn line_text(
+    alloc: Global,
+    file: &str,
+    place: Place,
+    number: u16,
+    cause: &str,
+    detail: &str,
+) -> Result<String, AllocError>
     ensures { IfOk result (λ line. string_bytes line ≡ reports.line_of file.now place number cause.now (detail.now ++ 10 ∷ [])) }
 {
     let line = place.line;

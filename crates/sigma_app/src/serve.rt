@@ -14,7 +14,15 @@ use sig_base::{Limits, Shelf, Sink, Source, Text, put_all};
 use std::alloc::Global;
 
 /// Does what the words say: answers each file on `out` and `err`, and tells how the run ended.
-pub fn serve<F: Shelf, S: Source, O: Sink, E: Sink>(alloc: Global, words: &[Text], limits: &Limits, shelf: &mut F, events: &mut S, out: &mut O, err: &mut E) -> Status
+pub fn serve<F: Shelf, S: Source, O: Sink, E: Sink>(
+    alloc: Global,
+    words: &[Text],
+    limits: &Limits,
+    shelf: &mut F,
+    events: &mut S,
+    out: &mut O,
+    err: &mut E,
+) -> Status
     // A run that comes to its end has written the answer that the words and the files have.
     ensures answer { IsAnswered result → IfSome (F.files shelf.old) (λ files.
         Written limits.now words.now files result (O.taken out.old) (O.taken out.new) (E.taken err.old) (E.taken err.new)) }

@@ -22,7 +22,11 @@ pub(super) fn files_of(words: &[Text]) -> Option<&[Text]>
 {
     match words {
         [command, option, backend, name] => {
-            if command.is("convert") && option.is("--backend") && backend.is("sqlite") && is_file(name) {
+            if command.is("convert")
+                && option.is("--backend")
+                && backend.is("sqlite")
+                && is_file(name)
+            {
                 Some(words.split_at(3).1)
             } else {
                 None

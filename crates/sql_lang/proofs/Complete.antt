@@ -249,7 +249,7 @@ record ReadsOr (table : List ℕ) (ors : List Ands) (o : Ors) : Type 0 where
       → run (Inside table Start (level ors [] 0) ls) (spell_or o ++ ts) ≡ run (Inside table partial (level before ands count) ls) ts
 
 -- a run goes on behind a step
-goes_step : (s u : State) (t : Sort) (ts : List Sort) → step s t ≡ Some u → run s (t ∷ ts) ≡ run u ts
+pub goes_step : (s u : State) (t : Sort) (ts : List Sort) → step s t ≡ Some u → run s (t ∷ ts) ≡ run u ts
 goes_step s u t ts is = rw is refl
 
 -- one more piece: behind this not stands AND, and behind this and OR

@@ -5,3 +5,10 @@ mod Characters
 mod Read
 mod Stops
 mod Laid
+mod Numbers
+mod Sound
+mod Sofar
+mod Alive
+mod Judged
+mod Examples
+pub mod Written

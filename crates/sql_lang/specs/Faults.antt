@@ -8,6 +8,7 @@ use Rattle.event_schema.specs.declared.schema.FieldKind.{FieldKind}
 use Rattle.event_schema.specs.declared.schema.FieldKind.TheVariants as kinds
 use Rattle.event_schema.specs.declared.schema.Schema.{Schema}
 use Rattle.sql_lang.specs.Names.{is_named, kind_of}
+use Rattle.sql_lang.specs.Meaning.{Bracket, Outside, Opened, Closing}
 
 -- a refusal: its number and its place
 pub record Fault : Type 0 where
@@ -30,20 +31,27 @@ nth (p ∷ ps) (suc k) = nth ps k
 
 -- ---- patterns
 
--- an escape character at the end, or before another character than %, _ or itself
-unfoldable pub is_bad_like : ℕ → List ℕ → Bool
-is_bad_like e [] = false
-is_bad_like e (c ∷ []) = c == e
-is_bad_like e (c ∷ d ∷ ds) =
-    if c == e then (if d == 37 || d == 95 || d == e then is_bad_like e ds else true) else is_bad_like e (d ∷ ds)
+-- An escape character at the end, or before another character than %, _ or itself; the flag says that an escape character
+-- stands directly before.
+unfoldable pub is_bad_escape : ℕ → Bool → List ℕ → Bool
+is_bad_escape e escaped [] = escaped
+is_bad_escape e true (c ∷ cs) = not (c == 37 || c == 95 || c == e) || is_bad_escape e false cs
+is_bad_escape e false (c ∷ cs) = is_bad_escape e (c == e) cs
+
+abbrev pub is_bad_like : ℕ → List ℕ → Bool
+is_bad_like e pattern = is_bad_escape e false pattern
 
 -- a [ outside [*], [?] and [[]
-unfoldable pub is_bad_glob : List ℕ → Bool
-is_bad_glob [] = false
-is_bad_glob (c ∷ []) = c == 91
-is_bad_glob (c ∷ d ∷ []) = c == 91 || d == 91
-is_bad_glob (c ∷ d ∷ x ∷ xs) =
-    if c == 91 then (if (d == 42 || d == 63 || d == 91) && x == 93 then is_bad_glob xs else true) else is_bad_glob (d ∷ x ∷ xs)
+unfoldable pub is_bad_bracket : Bracket → List ℕ → Bool
+is_bad_bracket Outside [] = false
+is_bad_bracket Outside (c ∷ cs) = if c == 91 then is_bad_bracket Opened cs else is_bad_bracket Outside cs
+is_bad_bracket Opened [] = true
+is_bad_bracket Opened (c ∷ cs) = not (c == 42 || c == 63 || c == 91) || is_bad_bracket (Closing c) cs
+is_bad_bracket (Closing d) [] = true
+is_bad_bracket (Closing d) (c ∷ cs) = not (c == 93) || is_bad_bracket Outside cs
+
+abbrev pub is_bad_glob : List ℕ → Bool
+is_bad_glob pattern = is_bad_bracket Outside pattern
 
 -- ---- kinds: a name that is no column's is of no kind
 

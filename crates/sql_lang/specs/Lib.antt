@@ -7,4 +7,7 @@ pub mod Reading
 pub mod Meaning
 pub mod Layout
 pub mod Trees
+pub mod Leaves
+pub mod Escaped
 pub mod SameText
+pub mod View

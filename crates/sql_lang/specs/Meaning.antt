@@ -73,22 +73,34 @@ is_escape (Some e) c = c == e
 abbrev pub like_part : ℕ → Part
 like_part c = if c == 37 then AnyRun else if c == 95 then AnyOne else Exactly c
 
--- the escape character goes first: the character behind it is itself
-unfoldable pub like_parts : Option ℕ → List ℕ → List Part
-like_parts e [] = []
-like_parts e (c ∷ []) = like_part c ∷ []
-like_parts e (c ∷ d ∷ ds) = if is_escape e c then Exactly d ∷ like_parts e ds else like_part c ∷ like_parts e (d ∷ ds)
+-- The character behind an escape character is itself; the flag says that an escape character stands directly before.
+unfoldable pub like_from : Option ℕ → Bool → List ℕ → List Part
+like_from e escaped [] = []
+like_from e true (c ∷ cs) = Exactly c ∷ like_from e false cs
+like_from e false (c ∷ cs) = if is_escape e c then like_from e true cs else like_part c ∷ like_from e false cs
+
+abbrev pub like_parts : Option ℕ → List ℕ → List Part
+like_parts e pattern = like_from e false pattern
 
 -- * and ?
 abbrev pub glob_part : ℕ → Part
 glob_part c = if c == 42 then AnyRun else if c == 63 then AnyOne else Exactly c
 
+-- outside brackets, behind [, and before the ] of a character
+pub data Bracket : Type 0 where
+  Outside : Bracket
+  Opened : Bracket
+  Closing : ℕ → Bracket
+
 -- a character in brackets is itself
-unfoldable pub glob_parts : List ℕ → List Part
-glob_parts [] = []
-glob_parts (c ∷ []) = glob_part c ∷ []
-glob_parts (c ∷ d ∷ []) = glob_part c ∷ glob_part d ∷ []
-glob_parts (c ∷ d ∷ x ∷ xs) = if c == 91 then Exactly d ∷ glob_parts xs else glob_part c ∷ glob_parts (d ∷ x ∷ xs)
+unfoldable pub glob_from : Bracket → List ℕ → List Part
+glob_from place [] = []
+glob_from Outside (c ∷ cs) = if c == 91 then glob_from Opened cs else glob_part c ∷ glob_from Outside cs
+glob_from Opened (c ∷ cs) = glob_from (Closing c) cs
+glob_from (Closing d) (c ∷ cs) = Exactly d ∷ glob_from Outside cs
+
+abbrev pub glob_parts : List ℕ → List Part
+glob_parts pattern = glob_from Outside pattern
 
 -- the text, or what is left of it behind some of its characters, is so
 abbrev pub some_end : (List ℕ → Bool) → List ℕ → Bool

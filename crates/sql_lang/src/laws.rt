@@ -1,4 +1,5 @@
-//! Laws of the language, each the contract of a function that does nothing: a proof that needs one calls it.
+//! Laws of the language, each the contract of a function that does nothing: a proof that needs one
+//! calls it.
 
 ghost use Rattle.std.specs.Prelude.{◌≡◌, ◌↔◌, ℕ, true, false, List, [], Option, Some, encode_utf8_all};
 ghost use Rattle.std.specs.Str.{all_scalars};
@@ -21,12 +22,14 @@ ghost use Rattle.sql_lang.specs.SameText.{query_text, same_text};
 
 /// Bytes are read as one expression at most.
 pub fn one_reading()
-    ensures { (schema : Schema) (bytes : List ℕ) (e f : Expr) → Reads schema bytes e → Reads schema bytes f → e ≡ f }
+    ensures { (schema : Schema) (bytes : List ℕ) (e f : Expr) → Reads schema bytes e
+        → Reads schema bytes f → e ≡ f }
 {}
 
 /// There is one place at most where tokens stop being a query's.
 pub fn one_stop()
-    ensures { (ts front rest other more : List Sort) → StopsAt ts front rest → StopsAt ts other more → rest ≡ more }
+    ensures { (ts front rest other more : List Sort) → StopsAt ts front rest
+        → StopsAt ts other more → rest ≡ more }
 {}
 
 /// A query's tokens never stop being a query's.
@@ -41,13 +44,15 @@ pub fn spelling_is_scanned()
 
 /// The text of a query without faults is read as this query.
 pub fn written_is_read()
-    ensures { (schema : Schema) (q : Query) → is_writable q ≡ true → ((ps : List At) → query_faults schema q ps ≡ [])
+    ensures { (schema : Schema) (q : Query) → is_writable q ≡ true
+        → ((ps : List At) → query_faults schema q ps ≡ [])
         → Reads schema (encode_utf8_all (text_query q)) (or_expr schema.fields q.condition) }
 {}
 
 /// The text of a tree whose leaves are sound is read as its layout.
 pub fn layout_is_read()
-    ensures { (schema : Schema) (t : Tree) → all_scalars schema.table ≡ true → EachLeaf (IsSound schema.fields) t
+    ensures { (schema : Schema) (t : Tree) → all_scalars schema.table ≡ true
+        → EachLeaf (IsSound schema.fields) t
         → Reads schema (encode_utf8_all (layout_text schema.table t)) (or_expr schema.fields (layout t)) }
 {}
 
@@ -71,5 +76,6 @@ pub fn same_text_is_read()
 /// It selects a row exactly where the column has a text that is the same after folding.
 pub fn same_text_selects()
     ensures { (k : ℕ) (value : List ℕ) (row : List (Option Value))
-        → (SqlSelects (same_text k value) row ↔ ((t : List ℕ) × (value_at row k ≡ Some (Text t)) × (folded t ≡ folded value))) }
+        → (SqlSelects (same_text k value) row
+        ↔ ((t : List ℕ) × (value_at row k ≡ Some (Text t)) × (folded t ≡ folded value))) }
 {}

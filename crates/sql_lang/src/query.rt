@@ -8,7 +8,8 @@ pub struct Select {
     pub condition: Expr,
 }
 
-/// An expression. A chain of one word on one level is one list, and parentheses make no node of their own.
+/// An expression. A chain of one word on one level is one list, and parentheses make no node of
+/// their own.
 #[derive(Drop, Debug)]
 pub enum Expr {
     Or(Vec<Expr>),
@@ -17,7 +18,8 @@ pub enum Expr {
     Test(SqlTest),
 }
 
-/// One test; `negated` says that it is written with NOT. A `field` is a column's place, counted from 0.
+/// One test; `negated` says that it is written with NOT. A `field` is a column's place, counted
+/// from 0.
 #[derive(Drop, Debug)]
 pub enum SqlTest {
     Constant(bool),

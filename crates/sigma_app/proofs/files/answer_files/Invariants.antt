@@ -8,5 +8,5 @@ invariant-loop-name g l = record {
   files : g.F.Shelf.files l.shelf ≡ g.F.Shelf.files l.fn.shelf;
   failed : g.F.Shelf.failed l.shelf ≡ g.F.Shelf.failed l.fn.shelf;
   out_same : g.O.Sink.faults l.out ≡ g.O.Sink.faults l.fn.out;
-  err_same : g.E.Sink.faults l.err ≡ g.E.Sink.faults l.fn.err
+  err_same : g.E.Sink.faults l.err ≡ g.E.Sink.faults l.fn.err;
 }
