@@ -1,0 +1,6 @@
+pub mod Blocks
+pub mod Reading
+pub mod Lays
+pub mod Form
+pub mod Laws
+pub mod Documents

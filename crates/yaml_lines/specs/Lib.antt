@@ -1,0 +1,5 @@
+pub mod File
+pub mod Line
+pub mod Scalar
+pub mod Flow
+pub mod Key
