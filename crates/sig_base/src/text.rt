@@ -1,0 +1,78 @@
+//! A text, which contracts see as the list of its characters.
+
+ghost use Rattle.std.specs.Prelude.{◌≡◌, ◌++◌, ◌∷◌, [], true, encode_utf8_all, string_bytes, IfOk, IfErr, OnOk, OnErr};
+ghost use Rattle.std.specs.Str.{chars, all_scalars, bytes_eq};
+ghost use Rattle.sig_base.specs.Texts.{is_ascii};
+
+use crate::refusal::Fault;
+use std::alloc::{AllocError, Global};
+use std::marker::Model;
+
+/// A text of any length.
+#[derive(Drop, Debug)]
+pub struct Text {
+    inner: String,
+}
+
+impl Model for Text {
+    ghost use Rattle.std.specs.Prelude.{List, ℕ};
+    ghost use Rattle.std.specs.String.{string_bytes};
+    ghost use Rattle.std.specs.Str.{chars};
+
+    ghost Value = { List ℕ };
+
+    ghost view = { λ t. chars (string_bytes t.inner) };
+}
+
+impl Text {
+    /// The empty text, which takes no memory.
+    pub fn new(alloc: Global) -> Text
+        ensures { result ≡ [] }
+    {
+        Text {
+            inner: String::new(alloc),
+        }
+    }
+
+    /// The same characters; only want of memory is answered.
+    pub fn copy(alloc: Global, text: &str) -> Result<Text, Fault>
+        ensures ok { IfOk result (λ t. t ≡ chars text.now) }
+        ensures err { IfErr result (λ e. e ≡ Fault.Memory) }
+    {
+        Ok(Text {
+            inner: String::from_str(alloc, text)?,
+        })
+    }
+
+    /// The text of an owned string, without a copy.
+    pub fn from_string(inner: String) -> Text
+        ensures { result ≡ chars (string_bytes inner) }
+    {
+        Text { inner }
+    }
+
+    /// Lends the text.
+    pub fn as_str(&self) -> &str
+        ensures chars { chars result.now ≡ self.now }
+        ensures bytes { result.now ≡ encode_utf8_all self.now }
+        ensures scalars { all_scalars self.now ≡ true }
+    {
+        self.inner.as_str()
+    }
+
+    /// Adds a character at the end, and leaves the text as it was where memory is missing.
+    pub fn push(&mut self, c: char) -> Result<(), AllocError>
+        ensures ok { OnOk result (self.new ≡ self.old ++ c ∷ []) }
+        ensures err { OnErr result (self.new ≡ self.old) }
+    {
+        self.inner.push(c)
+    }
+
+    /// Whether both have the same characters.
+    pub fn is(&self, text: &str) -> bool
+        ensures same { result ≡ bytes_eq self.now (chars text.now) }
+        ensures ascii { is_ascii text.now ≡ true → result ≡ bytes_eq self.now text.now }
+    {
+        self.as_str() == text
+    }
+}
