@@ -1,6 +1,6 @@
 -- Examples of the profile, computed.
 use Rattle.std.proofs.Common.{◌≡◌, ℕ, List, [], ◌∷◌, ◌++◌, if◌then◌else◌, codes, pos, refl, Result, Ok, Err}
-use Rattle.yaml_tree.specs.Tree.{At, null, text, whole, Tree, scalar, list, map, Elements, no_elements, element, Members, no_members, member}
+use Rattle.yaml_tree.specs.Tree.{At, null, text, whole, Tree, scalar, list, map, Elements, no_elements, element, Members, no_members, member, Answer, tree, refusal}
 use Rattle.yaml_lines.specs.File.{Line, line_texts, lines_of, is_parting, is_marker, parted, documents_of, skip_blanks, carries_nothing, ends_line}
 use Rattle.yaml_lines.specs.Line.{indentation, indent, body, is_void, is_bare, barred, stray, plain_len, trimmed, plain_front, plain_rest, Read}
 use Rattle.yaml_lines.specs.Scalar.{whole_of, resolved, single, escape, double, block_text}
@@ -8,7 +8,7 @@ use Rattle.yaml_lines.specs.Flow.{quoted, flow_key, flow_elements, flow_members,
 use Rattle.yaml_lines.specs.Key.{key_at}
 use Rattle.yaml_blocks.specs.Blocks.{nothing_in, more_plain, plain_text, scalar_lines, block_scalar}
 use Rattle.yaml_blocks.specs.Reading.{element_in, value_in, head_in, lone_in, node_in, block_in}
-use Rattle.yaml_blocks.specs.Documents.{home, Answer, tree, refusal, is_alive, code_at}
+use Rattle.yaml_blocks.specs.Documents.{home, is_alive, code_at}
 
 abbrev at : ℕ → ℕ → At
 at l c = record { line = l; column = c }

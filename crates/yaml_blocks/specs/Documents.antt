@@ -1,7 +1,7 @@
 -- What a file is answered by.
 use Rattle.std.specs.Prelude.{◌≡◌, ℕ, suc, Bool, true, false, not, ◌&&◌, ◌||◌, ◌==◌, nat_le, if◌then◌else◌, ◌⊎◌, List, [], ◌∷◌, ◌++◌, encode_utf8_all, Ok, Err}
 use Rattle.std.specs.List.{prefix_len, list_any, list_all}
-use Rattle.yaml_tree.specs.Tree.{At, Tree}
+use Rattle.yaml_tree.specs.Tree.{At, Tree, Answer, tree, refusal}
 use Rattle.yaml_lines.specs.File.{Line, is_forbidden, is_marker, carries, documents_of}
 use Rattle.yaml_lines.specs.Line.{at, Stop, refused, unclosed, Read}
 use Rattle.yaml_blocks.specs.Reading.{block_in}
@@ -60,11 +60,6 @@ IsCode depth front l later p =
     ((is_marker l ≡ true) × (p ≡ (3, at l 0)))
     ⊎ ((is_marker l ≡ false) × (s : Stop) × Stops depth (front ++ l ∷ []) s × (p ≡ stop_code l later s))
     ⊎ ((is_marker l ≡ false) × HasTree depth home (front ++ l ∷ []) × (p ≡ syntax_code l))
-
--- what a document is answered by: its tree, or its refusal
-pub data Answer : Type 0 where
-  tree : Tree → Answer
-  refusal : ℕ × At → Answer
 
 abbrev pub IsAnswer : ℕ → List Line → Answer → Type 0
 IsAnswer depth ls (tree t) = (list_all is_regular ls ≡ true) × Lays t depth home ls

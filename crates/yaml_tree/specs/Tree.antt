@@ -25,3 +25,8 @@ mutual
   pub data Members : Type 0 where
     no_members : Members
     member : List ℕ → At → Tree → Members → Members
+
+-- what a document is answered by: its tree, or the code and the place of its refusal
+pub data Answer : Type 0 where
+  tree : Tree → Answer
+  refusal : ℕ × At → Answer
