@@ -5,9 +5,16 @@ use Rattle.yaml_lines.specs.File.{Line, ends_line}
 use Rattle.yaml_lines.specs.Line.{Stop, Read, ◌>>=◌, is_dash, stray}
 use Rattle.yaml_lines.specs.Key.{Keyed, keyed, unkeyed, key_stop, key_at}
 use Rattle.yaml_blocks.specs.Blocks.{skip_void, nothing_from, nothing_in, alone}
-use Rattle.yaml_blocks.specs.Reading.{lone_in, keyed_then, node_with}
+use Rattle.yaml_blocks.specs.Reading.{lone_in, keyed_then, node_with, node_in, block_with, sequence_in, map_in}
 use Rattle.yaml_blocks.specs.Lays.{IsAlone, IsNoCollection}
 use Rattle.yaml_blocks.proofs.Tools.{choose, allowed, bind_ok}
+
+-- the readers of collections whose nodes are at most d deep
+abbrev pub lists : ℕ → Line → List ℕ → List Line → Read Tree
+lists d = sequence_in (block_with (node_in d)) (node_in d)
+
+abbrev pub maps : ℕ → Line → List ℕ → List Line → Read Tree
+maps d = map_in (block_with (node_in d)) (node_in d)
 
 -- a list, a map, a key that stops, or none of these begins there
 abbrev pub NodeCases : (Line → List ℕ → List Line → Read Tree) → (Line → List ℕ → List Line → Read Tree) → ℕ → Bool → ℕ → Line → List ℕ → List Line → Read Tree → Type 0

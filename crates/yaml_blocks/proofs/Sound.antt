@@ -10,7 +10,7 @@ use Rattle.yaml_blocks.specs.Blocks.{skip_void, alone, plain_text, block_scalar}
 use Rattle.yaml_blocks.specs.Reading.{Item, items_of, offset, is_level, after_spaces, element_in, elements_in, value_in, new_key, head_in, entries_in, sequence_in, map_in, lone_in, node_in, node_with, block_from, block_with, block_in, too_deep}
 use Rattle.yaml_blocks.specs.Lays.{IsAlone, IsQuoted, IsFlow, IsBlockScalar, IsPlain, IsScalar, IsNoCollection, IsDashed, IsKeyed, LaysBlock, LaysElement, LaysValue, LaysNode, LaysElements, LaysMembers, Lays}
 use Rattle.yaml_blocks.proofs.Tools.{choose, allowed, bind_ok, ok_same, either, neither, both, none_of, not_false}
-use Rattle.yaml_blocks.proofs.Cases.{NodeCases, node_cases, nothing_ok, alone_ok}
+use Rattle.yaml_blocks.proofs.Cases.{lists, maps, node_cases, nothing_ok, alone_ok}
 
 -- ---- flow collections
 
@@ -166,7 +166,7 @@ nodes_sound zero may m l cs ls t e =
       | inr (inr (inr h)) ↦ cc
     ]
 nodes_sound (suc d) may m l cs ls t e =
-    elim (node_cases (sequence_in (block_with (node_in d)) (node_in d)) (map_in (block_with (node_in d)) (node_in d)) (suc d) may m l cs ls (Ok t) e) [
+    elim (node_cases (lists d) (maps d) (suc d) may m l cs ls (Ok t) e) [
       | inl h ↦ lone_sound (suc d) may m l cs ls t h.0 h.1
       | inr (inl h) ↦
           let (es, at, same) = bind_ok _ _ _ h.2 in
