@@ -105,28 +105,28 @@ node_map a_list a_map d may m l cs ls r k rest may_is dash key e = rw (may_is, d
 
 -- ---- nodes, blocks and items, by induction on the tree
 
-abbrev CompleteNode : Tree → ℕ → Type 0
+abbrev pub CompleteNode : Tree → ℕ → Type 0
 CompleteNode t d = (may : Bool) (m : ℕ) (l : Line) (cs : List ℕ) (ls : List Line) → LaysNode t d may m l cs ls → node_in d may m l cs ls ≡ Ok t
 
-block_complete : (t : Tree) (d : ℕ) → CompleteNode t d → (m : ℕ) (home : At) (ls : List Line) → LaysBlock (λ may m l cs ls. LaysNode t d may m l cs ls) t m home ls
+pub block_complete : (t : Tree) (d : ℕ) → CompleteNode t d → (m : ℕ) (home : At) (ls : List Line) → LaysBlock (λ may m l cs ls. LaysNode t d may m l cs ls) t m home ls
     → block_with (node_in d) m home ls ≡ Ok t
 block_complete t d complete m home ls (inl h) = rw (h.0, h.1) refl
 block_complete t d complete m home ls (inr (first, more, is, open_line, laid)) =
     rw (is, none_is _ open_line) (complete true m first (body first) more laid)
 
-element_complete : (t : Tree) (d : ℕ) → CompleteNode t d → (i : ℕ) (x : Item) → LaysElement (λ may m l cs ls. LaysNode t d may m l cs ls) t i x
+pub element_complete : (t : Tree) (d : ℕ) → CompleteNode t d → (i : ℕ) (x : Item) → LaysElement (λ may m l cs ls. LaysNode t d may m l cs ls) t i x
     → element_in (block_with (node_in d)) (node_in d) i x ≡ Ok t
 unfolding element_in
 element_complete t d complete i x (inl h) = rw h.0 (block_complete t d complete _ _ _ h.1)
 element_complete t d complete i x (inr h) = rw h.0 (complete _ _ _ _ _ h.1)
 
-value_complete : (t : Tree) (d : ℕ) → CompleteNode t d → (i : ℕ) (x : Item) (rest : List ℕ) → LaysValue (λ may m l cs ls. LaysNode t d may m l cs ls) t i x rest
+pub value_complete : (t : Tree) (d : ℕ) → CompleteNode t d → (i : ℕ) (x : Item) (rest : List ℕ) → LaysValue (λ may m l cs ls. LaysNode t d may m l cs ls) t i x rest
     → value_in (block_with (node_in d)) (node_in d) i x rest ≡ Ok t
 unfolding value_in
 value_complete t d complete i x rest (inl h) = rw h.0 (block_complete t d complete _ _ _ h.1)
 value_complete t d complete i x rest (inr h) = rw h.0 (complete _ _ _ _ _ h.1)
 
-head_complete : (block : ℕ → At → List Line → Read Tree) (node : Bool → ℕ → Line → List ℕ → List Line → Read Tree) (i : ℕ) (seen : List (List ℕ)) (k rest : List ℕ) (a : At) (x : Item)
+pub head_complete : (block : ℕ → At → List Line → Read Tree) (node : Bool → ℕ → Line → List ℕ → List Line → Read Tree) (i : ℕ) (seen : List (List ℕ)) (k rest : List ℕ) (a : At) (x : Item)
     → IsKeyed i seen k rest a x → head_in block node i seen x ≡ Ok (k, rest)
 unfolding head_in
 head_complete block node i seen k rest a x h = rw (none_is _ h.open_line, h.level, h.key, h.fresh) refl

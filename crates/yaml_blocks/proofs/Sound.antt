@@ -86,10 +86,10 @@ lone_sound d may m l cs ls t none e =
 
 -- ---- blocks, elements and entries, over nodes that are sound
 
-abbrev NodesSound : ℕ → Type 0
+abbrev pub NodesSound : ℕ → Type 0
 NodesSound d = (may : Bool) (m : ℕ) (l : Line) (cs : List ℕ) (ls : List Line) (t : Tree) → node_in d may m l cs ls ≡ Ok t → LaysNode t d may m l cs ls
 
-block_sound : (d : ℕ) → NodesSound d → (m : ℕ) (home : At) (ls : List Line) (t : Tree) → block_with (node_in d) m home ls ≡ Ok t
+pub block_sound : (d : ℕ) → NodesSound d → (m : ℕ) (home : At) (ls : List Line) (t : Tree) → block_with (node_in d) m home ls ≡ Ok t
     → LaysBlock (λ may m l cs ls. LaysNode t d may m l cs ls) t m home ls
 block_sound d sound m home ls t e = by (skip_void ls) refl e where
   by : (xs : List Line) → skip_void ls ≡ xs → block_from (node_in d) m home xs ≡ Ok t → LaysBlock (λ may m l cs ls. LaysNode t d may m l cs ls) t m home ls
@@ -98,7 +98,7 @@ block_sound d sound m home ls t e = by (skip_void ls) refl e where
       let (open_line, at) = allowed (is_some (barred first)) _ _ _ e in
       inr (first, more, is, none_of _ open_line, sound true m first (body first) more t at)
 
-element_sound : (d : ℕ) → NodesSound d → (i : ℕ) (x : Item) (t : Tree) → element_in (block_with (node_in d)) (node_in d) i x ≡ Ok t
+pub element_sound : (d : ℕ) → NodesSound d → (i : ℕ) (x : Item) (t : Tree) → element_in (block_with (node_in d)) (node_in d) i x ≡ Ok t
     → LaysElement (λ may m l cs ls. LaysNode t d may m l cs ls) t i x
 unfolding element_in
 element_sound d sound i x t e =
@@ -107,7 +107,7 @@ element_sound d sound i x t e =
       | inr h ↦ inr (h.0, sound _ _ _ _ _ t h.1)
     ]
 
-value_sound : (d : ℕ) → NodesSound d → (i : ℕ) (x : Item) (rest : List ℕ) (t : Tree) → value_in (block_with (node_in d)) (node_in d) i x rest ≡ Ok t
+pub value_sound : (d : ℕ) → NodesSound d → (i : ℕ) (x : Item) (rest : List ℕ) (t : Tree) → value_in (block_with (node_in d)) (node_in d) i x rest ≡ Ok t
     → LaysValue (λ may m l cs ls. LaysNode t d may m l cs ls) t i x rest
 unfolding value_in
 value_sound d sound i x rest t e =
@@ -128,7 +128,7 @@ elements_sound d sound i (x ∷ xs) es e =
         (x, xs, refl, record { open_line = none_of _ open_line; level = there.0; dash = there.1 }, element_sound d sound i x t at, elements_sound d sound i xs ts more) in
     subst (λ (es : Elements). LaysElements es d i (x ∷ xs)) (ok_same _ _ same) laid
 
-head_ok : (block : ℕ → At → List Line → Read Tree) (node : Bool → ℕ → Line → List ℕ → List Line → Read Tree) (i : ℕ) (seen : List (List ℕ)) (x : Item) (k : List ℕ × List ℕ) → head_in block node i seen x ≡ Ok k → IsKeyed i seen k.0 k.1 (spot x.line x.text) x
+pub head_ok : (block : ℕ → At → List Line → Read Tree) (node : Bool → ℕ → Line → List ℕ → List Line → Read Tree) (i : ℕ) (seen : List (List ℕ)) (x : Item) (k : List ℕ × List ℕ) → head_in block node i seen x ≡ Ok k → IsKeyed i seen k.0 k.1 (spot x.line x.text) x
 unfolding head_in
 head_ok block node i seen x k e =
     let (open_line, e1) = allowed (is_some (barred x.line)) _ _ _ e in
