@@ -3,3 +3,4 @@ pub mod Line
 pub mod Scalar
 pub mod Flow
 pub mod Key
+pub mod View

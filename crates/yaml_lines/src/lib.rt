@@ -1,1 +1,10 @@
+//! One line of YAML: blanks, scalars, quotes, keys and flow collections.
 #![tactic(auto)]
+
+pub use halt::{Halt, Opening};
+pub use line::Line;
+
+mod halt;
+mod line;
+mod plain;
+mod scan;
