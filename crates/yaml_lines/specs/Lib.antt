@@ -4,3 +4,4 @@ pub mod Scalar
 pub mod Flow
 pub mod Key
 pub mod View
+pub mod Quotes

@@ -1,5 +1,5 @@
 -- What scalars mean: words and numbers, quotes, and block scalars.
-use Rattle.std.specs.Prelude.{ℕ, zero, suc, ◌+◌, ◌-◌, ◌*◌, ◌^◌, Bool, true, false, not, ◌&&◌, ◌||◌, ◌==◌, nat_lt, nat_le, if◌then◌else◌, List, [], ◌∷◌, ◌++◌, length, replicate, codes, Option, Some, None, option_and_then, ℤ, pos, negsuc}
+use Rattle.std.specs.Prelude.{ℕ, zero, suc, ◌+◌, ◌-◌, ◌*◌, ◌^◌, Bool, true, false, not, ◌&&◌, ◌||◌, ◌==◌, nat_lt, nat_le, if◌then◌else◌, List, [], ◌∷◌, ◌++◌, length, replicate, codes, Option, Some, None, option_map, option_and_then, ℤ, pos, neg_ℤ}
 use Rattle.std.specs.List.{list_any, list_all}
 use Rattle.std.specs.Str.{bytes_eq}
 use Rattle.yaml_tree.specs.Tree.{Scalar, null, truth, whole, text}
@@ -19,29 +19,37 @@ digits_from n (c ∷ cs) = digits_from (10 * n + (c - 48)) cs
 abbrev pub are_digits : List ℕ → Bool
 are_digits cs = not (is_empty cs) && list_all is_digit cs
 
-abbrev pub negative : ℕ → ℤ
-negative zero = pos 0
-negative (suc n) = negsuc n
+-- the number of these digits, if there is one and it is at most this large
+unfoldable pub value_within : ℕ → List ℕ → Option ℕ
+value_within most cs = if are_digits cs && nat_le (digits_from 0 cs) most then Some (digits_from 0 cs) else None
 
 -- an optional sign and digits that fit 64 bits
 unfoldable pub whole_of : List ℕ → Option ℤ
 whole_of [] = None
 whole_of (c ∷ cs) =
-    if c == 45 then (if are_digits cs && nat_le (digits_from 0 cs) (2 ^ 63) then Some (negative (digits_from 0 cs)) else None)
-    else if c == 43 then (if are_digits cs && nat_lt (digits_from 0 cs) (2 ^ 63) then Some (pos (digits_from 0 cs)) else None)
-    else if are_digits (c ∷ cs) && nat_lt (digits_from 0 (c ∷ cs)) (2 ^ 63) then Some (pos (digits_from 0 (c ∷ cs)))
-    else None
+    if c == 45 then option_map (λ n. neg_ℤ (pos n)) (value_within (2 ^ 63) cs)
+    else if c == 43 then option_map pos (value_within (2 ^ 63 - 1) cs)
+    else option_map pos (value_within (2 ^ 63 - 1) (c ∷ cs))
 
 abbrev pub number_or_text : List ℕ → Option ℤ → Scalar
 number_or_text s None = text s
 number_or_text s (Some z) = whole z
 
+abbrev pub is_null : List ℕ → Bool
+is_null s = is_empty s || is_one_of s (codes "~" ∷ codes "null" ∷ codes "Null" ∷ codes "NULL" ∷ [])
+
+abbrev pub is_true : List ℕ → Bool
+is_true s = is_one_of s (codes "true" ∷ codes "True" ∷ codes "TRUE" ∷ [])
+
+abbrev pub is_false : List ℕ → Bool
+is_false s = is_one_of s (codes "false" ∷ codes "False" ∷ codes "FALSE" ∷ [])
+
 -- what a plain scalar is
 unfoldable pub resolved : List ℕ → Scalar
 resolved s =
-    if is_empty s || is_one_of s (codes "~" ∷ codes "null" ∷ codes "Null" ∷ codes "NULL" ∷ []) then null
-    else if is_one_of s (codes "true" ∷ codes "True" ∷ codes "TRUE" ∷ []) then truth true
-    else if is_one_of s (codes "false" ∷ codes "False" ∷ codes "FALSE" ∷ []) then truth false
+    if is_null s then null
+    else if is_true s then truth true
+    else if is_false s then truth false
     else number_or_text s (whole_of s)
 
 -- ---- quotes
@@ -78,18 +86,26 @@ hex_value c =
     else if nat_le 65 c && nat_le c 70 then Some (c - 55)
     else None
 
+-- v with one more hexadecimal digit, and what follows it
+abbrev pub hex_step : ℕ → List ℕ → Option (ℕ × List ℕ)
+hex_step v [] = None
+hex_step v (c ∷ cs) = option_map (λ d. (16 * v + d, cs)) (hex_value c)
+
 -- the number of n hexadecimal digits at the front, behind v
 abbrev pub hex_front : ℕ → ℕ → List ℕ → Option ℕ
 hex_front zero v cs = Some v
-hex_front (suc n) v [] = None
-hex_front (suc n) v (c ∷ cs) = option_and_then (λ d. hex_front n (16 * v + d) cs) (hex_value c)
+hex_front (suc n) v cs = option_and_then (λ p. hex_front n p.0 p.1) (hex_step v cs)
 
 abbrev pub is_surrogate : ℕ → Bool
 is_surrogate v = nat_le 0xD800 v && nat_le v 0xDFFF
 
+-- the character of this number
+abbrev pub scalar_of : ℕ → Option ℕ
+scalar_of v = if is_surrogate v then None else Some v
+
+-- the character of an escape by its number, and how many characters it takes
 abbrev pub taking : ℕ → Option ℕ → Option (ℕ × ℕ)
-taking n None = None
-taking n (Some v) = if is_surrogate v then None else Some (v, n)
+taking n o = option_map (λ v. (v, n)) (option_and_then scalar_of o)
 
 -- the character of an escape behind its backslash, and how many characters it takes there
 unfoldable pub escape : List ℕ → Option (ℕ × ℕ)

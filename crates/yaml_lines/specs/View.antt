@@ -7,6 +7,9 @@ use Rattle.yaml_lines.specs.declared.line.Line as code
 use Rattle.yaml_lines.specs.declared.halt.Opening.{Opening}
 use Rattle.yaml_lines.specs.declared.halt.Halt.{Halt}
 use Rattle.yaml_lines.specs.declared.halt.Halt.TheVariants.{Memory, Refused, Unclosed}
+use Rattle.yaml_lines.specs.declared.quote.Quoted as code_quoted
+use Rattle.yaml_lines.specs.declared.quote.Quoted.TheVariants.{Closed, Open, BadEscape}
+use Rattle.yaml_lines.specs.Scalar.{Quoted, closed, open_ended, bad_escape}
 use Rattle.yaml_lines.specs.File.{Line}
 use Rattle.yaml_lines.specs.Line.{Stop, refused, unclosed, Read}
 
@@ -29,3 +32,9 @@ Fails (Unclosed n os) read = read ≡ Err (unclosed n (openings_view os.items))
 abbrev pub Gives : {X A : Type 0} → (X → A) → Result X Halt → Read A → Type 0
 Gives view (Ok x) read = read ≡ Ok (view x)
 Gives view (Err e) read = Fails e read
+
+-- what was read in quotes
+abbrev pub quoted_view : code_quoted.Quoted → Quoted
+quoted_view (Closed t rest) = closed t rest.now
+quoted_view Open = open_ended
+quoted_view (BadEscape n) = bad_escape n

@@ -7,4 +7,6 @@ pub use line::Line;
 mod halt;
 mod line;
 mod plain;
+pub mod quote;
 mod scan;
+mod word;
