@@ -4,6 +4,7 @@
 pub use halt::{Halt, Opening};
 pub use line::Line;
 
+mod flow;
 mod halt;
 mod line;
 mod plain;

@@ -2,6 +2,7 @@
 
 ghost use Rattle.std.specs.Prelude.{◌≡◌, ◌≤◌, ◌<◌, length, take, true};
 ghost use Rattle.yaml_lines.specs.Line as spec;
+ghost use Rattle.yaml_lines.specs.Quotes.{StartsSolid};
 
 use crate::scan::{behind, is_blank, stops};
 
@@ -43,10 +44,11 @@ pub fn plain_front(in_flow: bool, rest: &[char]) -> &[char]
 }
 
 /// What is left behind the plain scalar that begins here.
-#[tactic(auto, unfolding(crate::specs::Line::plain_rest))]
+#[tactic(auto, unfolding(crate::specs::Line::plain_rest), using(crate::proofs::Nexts::plain_rest_shorter))]
 pub fn plain_rest(in_flow: bool, rest: &[char]) -> &[char]
     ensures rest { result.now ≡ spec.plain_rest in_flow rest.now }
     ensures within { length result.now ≤ length rest.now }
+    ensures shorter { StartsSolid rest.now → length result.now < length rest.now }
 {
     let len = plain_len(in_flow, rest);
     behind(rest, len)

@@ -26,6 +26,12 @@ mutual
     no_members : Members
     member : List ℕ → At → Tree → Members → Members
 
+-- an entry of a map
+pub record Member : Type 0 where
+  pub key : List ℕ
+  pub place : At
+  pub value : Tree
+
 -- what a document is answered by: its tree, or the code and the place of its refusal
 pub data Answer : Type 0 where
   tree : Tree → Answer

@@ -1,7 +1,7 @@
 -- The tree that a node stands for.
 use Rattle.std.specs.Prelude.{ℕ, List, [], ◌∷◌, map as list_map}
 use Rattle.sig_base.specs.declared.refusal.Place.{Place}
-use Rattle.yaml_tree.specs.Tree.{At, null, truth, whole, text, Tree, scalar, list, map, Elements, no_elements, element, Members, no_members, member, Answer, tree, refusal}
+use Rattle.yaml_tree.specs.Tree.{At, null, truth, whole, text, Tree, scalar, list, map, Elements, no_elements, element, Members, no_members, member, Member, Answer, tree, refusal}
 use Rattle.yaml_tree.specs.declared.tree.Document.{Document}
 use Rattle.yaml_tree.specs.declared.tree.Document.TheVariants.{Tree as ATree, Refused}
 use Rattle.yaml_tree.specs.declared.tree.Kind.{Kind}
@@ -12,12 +12,6 @@ use Rattle.yaml_tree.specs.declared.tree.Kind.TheFolds.{fold-Kind, fold-Entry, f
 
 abbrev pub place_view : Place → At
 place_view p = record { line = p.line; column = p.column }
-
--- an entry of which the value is seen as its tree
-pub record Member : Type 0 where
-  pub key : List ℕ
-  pub place : At
-  pub value : Tree
 
 abbrev pub elements_of : List Tree → Elements
 elements_of [] = no_elements
