@@ -59,6 +59,10 @@ flow_key l cs =
     else if bytes_eq (plain_front true cs) merge && begins 58 (plain_rest true cs) then Err (refused 3 (spot l cs))
     else behind_colon l (plain_front true cs) (plain_rest true cs)
 
+-- a key that isn't one of those seen
+unfoldable pub fresh_key : List (List ℕ) → Line → List ℕ → Front (List ℕ)
+fresh_key seen l cs = flow_key l cs >>= (λ k. if is_seen k.0 seen then Err (refused 5 (spot l cs)) else Ok k)
+
 -- after an element: a comma, or the closing bracket, which stays
 unfoldable pub after_element : Line → ℕ → List ℕ → Read (List ℕ)
 after_element l close rest =
@@ -96,12 +100,11 @@ module _ (node : Line → List ℕ → Front Tree) where
       else if begins 44 cs || begins 125 cs then Ok (scalar home null, cs)
       else node l cs
 
-  -- an entry of a flow map with a key that isn't one of those seen, and what is left behind its comma
+  -- an entry of a flow map, and what is left behind its comma
   unfoldable pub flow_entry : List (List ℕ) → Line → List ℕ → Front Member
   flow_entry seen l cs =
-      flow_key l cs >>= (λ k.
-      if is_seen k.0 seen then Err (refused 5 (spot l cs))
-      else flow_value l (spot l cs) k.1 >>= (λ v.
+      fresh_key seen l cs >>= (λ k.
+      flow_value l (spot l cs) k.1 >>= (λ v.
       after_element l 125 v.1 >>= (λ more. Ok (record { key = k.0; place = spot l cs; value = v.0 }, more))))
 
   -- the entries up to the bracket, of which there are fewer than n

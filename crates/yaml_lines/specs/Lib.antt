@@ -5,3 +5,4 @@ pub mod Flow
 pub mod Key
 pub mod View
 pub mod Quotes
+pub mod SeenKeys

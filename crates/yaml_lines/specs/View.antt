@@ -1,9 +1,11 @@
 -- A line, and why a reading stops, as plain data; and how a result stands to what a definition gives.
 use Rattle.std.specs.Prelude.{◌≡◌, ℕ, List, [], ◌∷◌, map as list_map, Option, Some, None, IfSome, Result, Ok, Err}
 use Rattle.sig_base.specs.declared.refusal.Place.{Place}
-use Rattle.yaml_tree.specs.Tree.{At, Tree, Elements, Members}
+use Rattle.yaml_tree.specs.Tree.{At, Tree, Elements, Members, Member}
 use Rattle.std.specs.Borrow.{Bor}
-use Rattle.yaml_tree.specs.View.{place_view, node_view, nodes_view, entries_view, elements_of, members_of}
+use Rattle.std.specs.declared.vec.Vec.{Vec}
+use Rattle.std.specs.declared.alloc.Global.{Global}
+use Rattle.yaml_tree.specs.View.{place_view, node_view, entry_view, nodes_view, entries_view, elements_of, members_of}
 use Rattle.yaml_tree.specs.declared.tree.Node.{Node}
 use Rattle.yaml_tree.specs.declared.tree.Entry.{Entry}
 use Rattle.yaml_lines.specs.declared.line.Line as code
@@ -59,3 +61,12 @@ rest_view r = r.now
 
 abbrev pub node_front : Node × Bor (List ℕ) → Tree × List ℕ
 node_front p = (node_view p.0, p.1.now)
+
+abbrev pub entry_front : Entry × Bor (List ℕ) → Member × List ℕ
+entry_front p = (entry_view p.0, p.1.now)
+
+abbrev pub elements_front : Vec Node Global × Bor (List ℕ) → Elements × List ℕ
+elements_front p = (elements_of (nodes_view p.0.items), p.1.now)
+
+abbrev pub entries_front : Vec Entry Global × Bor (List ℕ) → Members × List ℕ
+entries_front p = (members_of (entries_view p.0.items), p.1.now)

@@ -1,25 +1,27 @@
 //! Flow collections and scalars in quotes, on one line (YAML 1.2, 7.3 and 7.4).
 
-ghost use Rattle.std.specs.Prelude.{◌≡◌, ◌≤◌, MatchOption, ◌<◌, ◌∷◌, [], true, false, length, drop, Some, IfOk, IfSome, IsNone};
+ghost use Rattle.std.specs.Prelude.{◌≡◌, ℕ, List, ◌++◌, ◌≤◌, MatchOption, ◌<◌, ◌∷◌, [], true, false, length, drop, Some, IfOk, IfSome, IsNone};
 ghost use Rattle.std.specs.Str.{bytes_eq};
-ghost use Rattle.yaml_tree.specs.View.{place_view};
+ghost use Rattle.yaml_tree.specs.View.{place_view, node_view, entry_view, members_of, entries_view};
+ghost use Rattle.yaml_lines.specs.SeenKeys.{Knows};
 ghost use Rattle.yaml_lines.specs.File as file;
 ghost use Rattle.yaml_lines.specs.Line.{unclosed};
 ghost use Rattle.yaml_lines.specs.Quotes.{IsShorter, IsNext};
 ghost use Rattle.yaml_lines.specs.Line as spec_line;
 ghost use Rattle.yaml_lines.specs.Scalar as scalar;
 ghost use Rattle.yaml_lines.specs.Flow as spec;
-ghost use Rattle.yaml_lines.specs.View.{line_view, quoted_view, text_front, rest_view, node_front, halt_view, openings_view, Reports, Gives};
+ghost use Rattle.yaml_lines.specs.View.{line_view, quoted_view, text_front, rest_view, node_front, entry_front, elements_front, entries_front, halt_view, openings_view, Reports, Gives};
 
 use crate::halt::{Halt, Opening};
 use crate::line::Line;
 use crate::plain::{plain_front, plain_rest};
 use crate::quote::{Quoted, double, single};
 use crate::scan::{begins, behind, ends_line, is_left_out, skip_blanks, spot, starts_plain};
+use crate::seen::Seen;
 use crate::word::{resolved, text_of};
 use sig_base::{Code, Place, Text};
 use std::alloc::Global;
-use yaml_tree::Node;
+use yaml_tree::{Entry, Node};
 
 /// Whether a quote comes next.
 pub fn is_quote(rest: &[char]) -> bool
@@ -242,4 +244,192 @@ fn flow_scalar<'t>(
     }
     let kind = resolved(alloc, plain_front(true, rest))?;
     Ok((Node { place, kind }, plain_rest(true, rest)))
+}
+
+/// A key that isn't one of those seen, to which it's added.
+#[tactic(auto, unfolding(crate::specs::Flow::fresh_key))]
+fn fresh_key<'t>(
+    alloc: Global,
+    line: &Line<'_>,
+    seen: &mut Seen,
+    rest: &'t [char],
+) -> Result<(Text, &'t [char]), Halt>
+    requires within { length rest.now ≤ length line.now.text.now }
+    ensures key { (ks : List (List ℕ)) → Knows seen.old ks → Gives text_front result (spec.fresh_key ks (line_view line.now) rest.now) }
+    ensures seen { (ks : List (List ℕ)) → Knows seen.old ks → IfOk result (λ p. Knows seen.new (ks ++ p.0 ∷ [])) }
+    ensures shorter { IfOk result (λ p. length p.1.now < length rest.now) }
+{
+    let (key, after) = flow_key(alloc, line, rest)?;
+    let fresh = seen.insert(alloc, &key)?;
+    if fresh {
+        Ok((key, after))
+    } else {
+        Err(refused(Code::DUPLICATE_KEY, line, rest))
+    }
+}
+
+/// A map at its first key's place, or at its bracket's where it's empty.
+fn map_from(bracket: Place, entries: Vec<Entry>) -> Node
+    ensures { node_view result ≡ spec.map_from (place_view bracket) (members_of (entries_view entries.items)) }
+{
+    let place = match entries.first() {
+        None => bracket,
+        Some(entry) => entry.place,
+    };
+    Node::map(place, entries)
+}
+
+/// An element of a flow sequence, and what is left behind its comma.
+#[cycle(flow)]
+#[tactic(auto, unfolding(crate::specs::Flow::flow_element))]
+fn flow_element<'t>(
+    alloc: Global,
+    depth: usize,
+    line: &Line<'_>,
+    rest: &'t [char],
+) -> Result<(Node, &'t [char]), Halt>
+    requires within { length rest.now ≤ length line.now.text.now }
+    requires solid { file.blank_or_end rest.now ≡ false }
+    ensures element { Gives node_front result (spec.flow_element (spec.flow_node depth) (line_view line.now) rest.now) }
+    ensures shorter { IfOk result (λ p. length p.1.now < length rest.now) }
+{
+    let (element, after) = flow_node(alloc, depth, line, rest)?;
+    if begins(':', skip_blanks(after)) && !is_bracket(rest) {
+        return Err(refused(Code::UNSUPPORTED, line, rest));
+    }
+    let after = after_element(alloc, line, ']', after)?;
+    Ok((element, after))
+}
+
+/// The elements of a flow sequence behind its bracket.
+#[cycle(flow)]
+fn flow_elements<'t>(
+    alloc: Global,
+    depth: usize,
+    line: &Line<'_>,
+    rest: &'t [char],
+) -> Result<(Vec<Node>, &'t [char]), Halt>
+    requires within { length rest.now ≤ length line.now.text.now }
+    ensures elements { (n : ℕ) → length rest.now < n → Gives elements_front result (spec.flow_elements (spec.flow_node depth) n (line_view line.now) rest.now) }
+    ensures shorter { IfOk result (λ p. length p.1.now < length rest.now) }
+{
+    let mut elements = Vec::new(alloc);
+    let mut rest = rest;
+    'elements: loop {
+        let Some(next) = next_of(rest) else {
+            return Err(runs_out(alloc, line));
+        };
+        if begins(']', next) {
+            return Ok((elements, behind(next, 1)));
+        }
+        let (element, after) = flow_element(alloc, depth, line, next)?;
+        elements.push(element)?;
+        rest = after;
+    }
+}
+
+/// The value behind a colon in a flow map.
+#[cycle(flow)]
+#[tactic(auto, unfolding(crate::specs::Flow::flow_value))]
+fn flow_value<'t>(
+    alloc: Global,
+    depth: usize,
+    line: &Line<'_>,
+    home: Place,
+    rest: &'t [char],
+) -> Result<(Node, &'t [char]), Halt>
+    requires within { length rest.now ≤ length line.now.text.now }
+    ensures value { Gives node_front result (spec.flow_value (spec.flow_node depth) (line_view line.now) (place_view home) rest.now) }
+    ensures shorter { IfOk result (λ p. length p.1.now ≤ length rest.now) }
+{
+    let Some(next) = next_of(rest) else {
+        return Err(runs_out(alloc, line));
+    };
+    if begins(',', next) || begins('}', next) {
+        return Ok((Node::null(home), next));
+    }
+    flow_node(alloc, depth, line, next)
+}
+
+/// An entry of a flow map, and what is left behind its comma.
+#[cycle(flow)]
+#[tactic(auto, unfolding(crate::specs::Flow::flow_entry))]
+fn flow_entry<'t>(
+    alloc: Global,
+    depth: usize,
+    line: &Line<'_>,
+    seen: &mut Seen,
+    rest: &'t [char],
+) -> Result<(Entry, &'t [char]), Halt>
+    requires within { length rest.now ≤ length line.now.text.now }
+    ensures entry { (ks : List (List ℕ)) → Knows seen.old ks → Gives entry_front result (spec.flow_entry (spec.flow_node depth) ks (line_view line.now) rest.now) }
+    ensures seen { (ks : List (List ℕ)) → Knows seen.old ks → IfOk result (λ p. Knows seen.new (ks ++ (entry_view p.0).key ∷ [])) }
+    ensures shorter { IfOk result (λ p. length p.1.now < length rest.now) }
+{
+    let (key, after) = fresh_key(alloc, line, seen, rest)?;
+    let place = spot(line, rest);
+    let (value, after) = flow_value(alloc, depth, line, place, after)?;
+    let after = after_element(alloc, line, '}', after)?;
+    Ok((Entry { key, place, value }, after))
+}
+
+/// The entries of a flow map behind its bracket.
+#[cycle(flow)]
+fn flow_entries<'t>(
+    alloc: Global,
+    depth: usize,
+    line: &Line<'_>,
+    rest: &'t [char],
+) -> Result<(Vec<Entry>, &'t [char]), Halt>
+    requires within { length rest.now ≤ length line.now.text.now }
+    ensures entries { (n : ℕ) → length rest.now < n → Gives entries_front result (spec.flow_members (spec.flow_node depth) n [] (line_view line.now) rest.now) }
+    ensures shorter { IfOk result (λ p. length p.1.now < length rest.now) }
+{
+    let mut entries = Vec::new(alloc);
+    let mut seen = Seen::new(alloc);
+    let mut rest = rest;
+    'entries: loop {
+        let Some(next) = next_of(rest) else {
+            return Err(runs_out(alloc, line));
+        };
+        if begins('}', next) {
+            return Ok((entries, behind(next, 1)));
+        }
+        let (entry, after) = flow_entry(alloc, depth, line, &mut seen, next)?;
+        entries.push(entry)?;
+        rest = after;
+    }
+}
+
+/// The node of a flow collection that begins here, with collections at most so deep.
+#[cycle(flow)]
+pub fn flow_node<'t>(
+    alloc: Global,
+    depth: usize,
+    line: &Line<'_>,
+    rest: &'t [char],
+) -> Result<(Node, &'t [char]), Halt>
+    requires within { length rest.now ≤ length line.now.text.now }
+    requires solid { file.blank_or_end rest.now ≡ false }
+    ensures node { Gives node_front result (spec.flow_node depth (line_view line.now) rest.now) }
+    ensures shorter { IfOk result (λ p. length p.1.now < length rest.now) }
+{
+    if !is_bracket(rest) {
+        return flow_scalar(alloc, line, rest);
+    }
+    if depth == 0 {
+        return Err(refused(Code::TOO_DEEP, line, rest));
+    }
+    let place = spot(line, rest);
+    if begins('[', rest) {
+        match flow_elements(alloc, depth - 1, line, behind(rest, 1)) {
+            Ok((elements, after)) => Ok((Node::list(place, elements), after)),
+            Err(halt) => Err(inside_open(place, ']', halt)),
+        }
+    } else {
+        match flow_entries(alloc, depth - 1, line, behind(rest, 1)) {
+            Ok((entries, after)) => Ok((map_from(place, entries), after)),
+            Err(halt) => Err(inside_open(place, '}', halt)),
+        }
+    }
 }

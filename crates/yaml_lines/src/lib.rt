@@ -10,4 +10,5 @@ mod line;
 mod plain;
 pub mod quote;
 mod scan;
+mod seen;
 mod word;
