@@ -6,3 +6,4 @@ pub mod Key
 pub mod View
 pub mod Quotes
 pub mod SeenKeys
+pub mod Keys

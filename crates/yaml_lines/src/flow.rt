@@ -38,7 +38,7 @@ pub fn is_bracket(rest: &[char]) -> bool
 }
 
 /// The reading stops here for a code.
-fn refused(code: Code, line: &Line<'_>, rest: &[char]) -> Halt
+pub fn refused(code: Code, line: &Line<'_>, rest: &[char]) -> Halt
     requires { length rest.now ≤ length line.now.text.now }
     ensures { halt_view result ≡ Some (spec_line.refused code (spec_line.spot (line_view line.now) rest.now)) }
 {
@@ -57,7 +57,7 @@ pub fn no_reading(line: &Line<'_>) -> Halt
 }
 
 /// The line's end is reached where something is open.
-fn runs_out(alloc: Global, line: &Line<'_>) -> Halt
+pub fn runs_out(alloc: Global, line: &Line<'_>) -> Halt
     ensures { halt_view result ≡ Some (unclosed line.now.number []) }
 {
     Halt::Unclosed(line.number, Vec::new(alloc))

@@ -4,11 +4,12 @@
 pub use halt::{Halt, Opening};
 pub use line::Line;
 
-mod flow;
+pub mod flow;
 mod halt;
+pub mod key;
 mod line;
-mod plain;
+pub mod plain;
 pub mod quote;
-mod scan;
+pub mod scan;
 mod seen;
-mod word;
+pub mod word;
