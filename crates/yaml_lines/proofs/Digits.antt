@@ -4,7 +4,7 @@ use Rattle.std.specs.List.{list_all}
 use Rattle.std.proofs.lemmas.List.{drop_more, at_drop_all}
 use Rattle.std.proofs.lemmas.Bool.Decides.{nat_tests}
 use Rattle.yaml_lines.specs.File.{is_empty}
-use Rattle.yaml_lines.specs.Scalar.{is_digit, digits_from, are_digits, value_within}
+use Rattle.yaml_lines.specs.Scalar.{is_digit, digits_from, value_within}
 
 -- the number of digits behind n, if it is at most this large
 abbrev pub value_from : ℕ → ℕ → List ℕ → Option ℕ

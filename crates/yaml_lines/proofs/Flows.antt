@@ -1,10 +1,10 @@
 -- The loops over the elements and the entries of flow collections, a turn at a time.
-use Rattle.std.proofs.Common.{◌≡◌, ℕ, zero, suc, ◌+◌, ◌-◌, ◌<◌, ◌≤◌, Bool, true, false, not, cond, ◌||◌, List, [], ◌∷◌, ◌++◌, length, drop, Result, Ok, Err, refl, sym, ap, ◌∙◌, arith, subst}
+use Rattle.std.proofs.Common.{◌≡◌, ℕ, zero, suc, ◌<◌, ◌≤◌, Bool, true, false, ◌||◌, List, [], ◌∷◌, ◌++◌, length, drop, Ok, Err, refl, sym, ap, ◌∙◌, arith}
 use Rattle.std.specs.Prelude.{map as list_map}
-use Rattle.yaml_tree.specs.Tree.{At, Tree, list, map, Elements, no_elements, element, Members, no_members, member, Member}
+use Rattle.yaml_tree.specs.Tree.{At, Tree, list, Elements, no_elements, element, Members, no_members, member, Member}
 use Rattle.yaml_tree.specs.View.{elements_of, members_of}
-use Rattle.yaml_lines.specs.File.{Line, begins, skip_blanks, ends_line}
-use Rattle.yaml_lines.specs.Line.{spot, Stop, refused, unclosed, Read, ◌>>=◌}
+use Rattle.yaml_lines.specs.File.{Line, begins, ends_line}
+use Rattle.yaml_lines.specs.Line.{spot, Stop, refused, unclosed, ◌>>=◌}
 use Rattle.yaml_lines.specs.Flow.{Front, front_map, opened, inside_open, flow_element, flow_elements, flow_entry, flow_members, flow_scalar, flow_node, is_bracket, map_from}
 use Rattle.yaml_lines.specs.Quotes.{IsNext}
 
@@ -93,10 +93,10 @@ module _ (node : Line → List ℕ → Front Tree) (l : Line) where
         fuel = k;
         room = omega (arith, is.within);
         same =
-          far.same
-          ∙ (ap (front_map (put_elements ts)) (step ∙ ap (λ (r : Front Tree). r >>= (λ e. front_map (element e.0) (flow_elements node k l e.1))) e)
-          ∙ (map_map (put_elements ts) (element t) (flow_elements node k l after)
-          ∙ ap (λ (f : Elements → Elements). front_map f (flow_elements node k l after)) (λ i. λ es. put_elements-push ts t es i)))
+            far.same
+            ∙ (ap (front_map (put_elements ts)) (step ∙ ap (λ (r : Front Tree). r >>= (λ e. front_map (element e.0) (flow_elements node k l e.1))) e)
+            ∙ (map_map (put_elements ts) (element t) (flow_elements node k l after)
+            ∙ ap (λ (f : Elements → Elements). front_map f (flow_elements node k l after)) (λ i. λ es. put_elements-push ts t es i)));
       }
 
   -- The same of the entries of a map.
@@ -143,11 +143,11 @@ module _ (node : Line → List ℕ → Front Tree) (l : Line) where
         fuel = k;
         room = omega (arith, is.within);
         same =
-          far.same
-          ∙ (ap (front_map (put_members us)) (step ∙ ap (λ (r : Front Member). r >>= (λ e. front_map (member e.0.key e.0.place e.0.value) (flow_members node k (keys_of us ++ e.0.key ∷ []) l e.1))) e)
-          ∙ (map_map (put_members us) (member m.key m.place m.value) (flow_members node k (keys_of us ++ m.key ∷ []) l after)
-          ∙ (ap (λ (f : Members → Members). front_map f (flow_members node k (keys_of us ++ m.key ∷ []) l after)) (λ i. λ ms. put_members-push us m ms i)
-          ∙ ap (λ (ks : List (List ℕ)). front_map (put_members (us ++ m ∷ [])) (flow_members node k ks l after)) (sym (keys_of-push us m)))))
+            far.same
+            ∙ (ap (front_map (put_members us)) (step ∙ ap (λ (r : Front Member). r >>= (λ e. front_map (member e.0.key e.0.place e.0.value) (flow_members node k (keys_of us ++ e.0.key ∷ []) l e.1))) e)
+            ∙ (map_map (put_members us) (member m.key m.place m.value) (flow_members node k (keys_of us ++ m.key ∷ []) l after)
+            ∙ (ap (λ (f : Members → Members). front_map f (flow_members node k (keys_of us ++ m.key ∷ []) l after)) (λ i. λ ms. put_members-push us m ms i)
+            ∙ ap (λ (ks : List (List ℕ)). front_map (put_members (us ++ m ∷ [])) (flow_members node k ks l after)) (sym (keys_of-push us m)))));
       }
 
 pub map_push : {A B : Type 0} (f : A → B) (xs : List A) (x : A) → list_map f (xs ++ x ∷ []) ≡ list_map f xs ++ f x ∷ []

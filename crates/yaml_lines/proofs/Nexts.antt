@@ -1,10 +1,8 @@
 -- What stands behind blanks, and where a plain scalar has a character.
-use Rattle.std.proofs.Common.{◌≡◌, ℕ, suc, ◌+◌, ◌<◌, ◌≤◌, Bool, true, false, not, cond, ◌&&◌, ◌||◌, ◌==◌, List, [], ◌∷◌, length, drop, refl, sym, ap, ◌∙◌, arith, subst}
+use Rattle.std.proofs.Common.{◌≡◌, ℕ, suc, ◌+◌, ◌<◌, ◌≤◌, Bool, true, false, not, ◌&&◌, ◌||◌, ◌==◌, List, [], ◌∷◌, length, refl, ap, ◌∙◌, arith}
 use Rattle.std.specs.List.{prefix_len}
-use Rattle.std.proofs.lemmas.Bool.Decides.{nat_tests}
 use Rattle.std.proofs.lemmas.List.{length-drop}
-use Rattle.std.proofs.lemmas.List.Sums.{prefix_len-le-length}
-use Rattle.yaml_lines.specs.File.{is_blank, is_empty, begins, blank_or_end, skip_blanks, carries_nothing, ends_line}
+use Rattle.yaml_lines.specs.File.{is_blank, is_empty, blank_or_end, skip_blanks, carries_nothing, ends_line}
 use Rattle.yaml_lines.specs.Line.{is_flow, is_indicator, starts_plain, stops, plain_len, plain_rest}
 use Rattle.yaml_lines.specs.Quotes.{IsNext}
 

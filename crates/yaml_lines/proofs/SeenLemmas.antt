@@ -59,7 +59,7 @@ pub knows_more : (s n : Seen) (ks : List (List ℕ)) (k : List ℕ) → Knows s 
 knows_more s n ks k known one more =
     record {
       texts = all-push k ks known.texts one;
-      same = λ bs. more bs ∙ (ap (λ (b : Bool). bytes_eq (encode_utf8_all k) bs || b) (known.same bs) ∙ sym (is_seen-push bs k ks))
+      same = λ bs. more bs ∙ (ap (λ (b : Bool). bytes_eq (encode_utf8_all k) bs || b) (known.same bs) ∙ sym (is_seen-push bs k ks));
     }
 
 pub fresh_ok : (ks : List (List ℕ)) (l : Line) (cs k after : List ℕ) → flow_key l cs ≡ Ok (k, after) → is_seen k ks ≡ false → fresh_key ks l cs ≡ Ok (k, after)

@@ -1,5 +1,5 @@
 -- A key of a block map, on one line (YAML 1.2, 8.2.2).
-use Rattle.std.specs.Prelude.{ℕ, Bool, true, false, ◌&&◌, ◌==◌, if◌then◌else◌, List, [], ◌∷◌, Ok, Err}
+use Rattle.std.specs.Prelude.{ℕ, false, ◌&&◌, ◌==◌, if◌then◌else◌, List, [], ◌∷◌, Ok, Err}
 use Rattle.std.specs.Str.{bytes_eq}
 use Rattle.yaml_lines.specs.File.{Line, begins, blank_or_end, skip_blanks}
 use Rattle.yaml_lines.specs.Line.{spot, Stop, refused, starts_plain, plain_front, plain_rest, is_left_out}

@@ -1,6 +1,5 @@
 -- A line, and why a reading stops, as plain data; and how a result stands to what a definition gives.
-use Rattle.std.specs.Prelude.{◌≡◌, ℕ, List, [], ◌∷◌, map as list_map, Option, Some, None, IfSome, Result, Ok, Err}
-use Rattle.sig_base.specs.declared.refusal.Place.{Place}
+use Rattle.std.specs.Prelude.{◌≡◌, ℕ, List, map as list_map, Option, Some, None, IfSome, Result, Ok, Err}
 use Rattle.yaml_tree.specs.Tree.{At, Tree, Elements, Members, Member}
 use Rattle.std.specs.Borrow.{Bor}
 use Rattle.std.specs.declared.vec.Vec.{Vec}

@@ -12,4 +12,6 @@ pub mod plain;
 pub mod quote;
 pub mod scan;
 mod seen;
+#[cfg(test)]
+mod tests;
 pub mod word;

@@ -1,9 +1,9 @@
-use Rattle.std.proofs.Common.{◌≡◌, ℕ, suc, ◌-◌, ◌<◌, List, [], ◌∷◌, ◌++◌, length, drop, true, false, Result, Ok, Err, refl, sym, ap, ◌∙◌, subst, arith}
+use Rattle.std.proofs.Common.{◌≡◌, ℕ, ◌-◌, ◌<◌, List, [], ◌∷◌, ◌++◌, length, drop, true, false, Ok, Err, sym, ap, ◌∙◌, subst, arith}
 use Rattle.yaml_tree.specs.Tree.{Tree, list}
 use Rattle.yaml_tree.specs.View.{place_view, node_view, entry_view, nodes_view, entries_view, elements_of, members_of}
 use Rattle.yaml_lines.specs.File.{begins}
-use Rattle.yaml_lines.specs.Line.{spot, Stop, refused, unclosed}
-use Rattle.yaml_lines.specs.Flow.{Front, opened, is_bracket, map_from, flow_element, flow_elements, flow_entry, flow_members, flow_node, flow_scalar}
+use Rattle.yaml_lines.specs.Line.{spot, refused, unclosed}
+use Rattle.yaml_lines.specs.Flow.{Front, opened, is_bracket, map_from, flow_element, flow_elements, flow_entry, flow_members, flow_node}
 use Rattle.yaml_lines.specs.SeenKeys.{Knows}
 use Rattle.yaml_lines.specs.View.{line_view, node_front, elements_front, entries_front, Gives}
 use Rattle.yaml_lines.proofs.Failing.{fails_as, fails_more, fails_open, gives_err}
@@ -15,7 +15,7 @@ pub flow_elements-elements-init : goal.flow_elements-elements-init
 flow_elements-elements-init t c =
     record {
       within = omega arith;
-      far = λ n h. rw c.new-elements.ensures.items (elements_start (flow_node c.args.depth) (line_view c.args.line.now) n c.args.rest.now h)
+      far = λ n h. rw c.new-elements.ensures.items (elements_start (flow_node c.args.depth) (line_view c.args.line.now) n c.args.rest.now h);
     }
 
 pub flow_elements-returns-in_default-clause-elements : goal.flow_elements-returns-in_default-clause-elements
@@ -51,7 +51,7 @@ flow_elements-elements-preserved t c =
       within = omega (arith, c.in-Some.ensures.within, c.in_ok-element.ensures.shorter, c.elements.invariant.within);
       far = λ n h.
           subst (λ (us : List Tree). ElementsSoFar node l n c.args.rest.now us after) grown
-          (elements_more node l n c.args.rest.now ts c.elements.rest.now c.in-Some.next.now u after (c.elements.invariant.far n h) c.in-Some.ensures (sym c.begins.ensures ∙ c.if-begins.false) c.in_ok-element.ensures.element c.in_ok-element.ensures.shorter)
+          (elements_more node l n c.args.rest.now ts c.elements.rest.now c.in-Some.next.now u after (c.elements.invariant.far n h) c.in-Some.ensures (sym c.begins.ensures ∙ c.if-begins.false) c.in_ok-element.ensures.element c.in_ok-element.ensures.shorter);
     }
 
 pub flow_entries-entries-init : goal.flow_entries-entries-init
@@ -59,7 +59,7 @@ flow_entries-entries-init t c =
     record {
       within = omega arith;
       far = λ n h. rw c.new-entries.ensures.items (entries_start (flow_node c.args.depth) (line_view c.args.line.now) n c.args.rest.now h);
-      known = rw c.new-entries.ensures.items (knows_none c.new-seen.result c.new-seen.ensures)
+      known = rw c.new-entries.ensures.items (knows_none c.new-seen.result c.new-seen.ensures);
     }
 
 pub flow_entries-returns-in_default-clause-entries : goal.flow_entries-returns-in_default-clause-entries
@@ -99,7 +99,7 @@ flow_entries-entries-preserved t c =
           subst (λ vs. EntriesSoFar node l n c.args.rest.now vs after) grown
           (entries_more node l n c.args.rest.now us c.entries.rest.now c.in-Some.next.now m after (c.entries.invariant.far n h) c.in-Some.ensures (sym c.begins.ensures ∙ c.if-begins.false) (c.in_ok-entry.ensures.entry (keys_of us) known) c.in_ok-entry.ensures.shorter);
       known =
-          subst (λ (ks : List (List ℕ)). Knows c.flow_entry.new.seen ks) (sym (keys_of-push us m) ∙ ap keys_of grown) (c.in_ok-entry.ensures.seen (keys_of us) known)
+          subst (λ (ks : List (List ℕ)). Knows c.flow_entry.new.seen ks) (sym (keys_of-push us m) ∙ ap keys_of grown) (c.in_ok-entry.ensures.seen (keys_of us) known);
     }
 
 pub flow_node-returns-then-not-is_bracket-clause-node : goal.flow_node-returns-then-not-is_bracket-clause-node
@@ -133,8 +133,8 @@ flow_node-returns-in-Err-clause-node t c =
     let inner = flow_elements (flow_node (c.args.depth - 1)) (length cs) l in
     fails_open (place_view c.spot-place.result) 93 c.in-Err.halt c.inside_open.result (inner c.behind.result.now) (flow_node c.args.depth l cs) (c.in-Err.ensures.elements (length cs) room) c.inside_open.ensures.stop c.inside_open.ensures.memory
     (λ s p.
-        collection_err (list (spot l cs)) (spot l cs) 93 (flow_node c.args.depth l cs) (inner (drop 1 cs)) s (node_list c.args.depth (c.args.depth - 1) l cs (omega arith) bracket) (ap inner (sym c.behind.ensures) ∙ p)
-        ∙ ap (λ a. Err (opened a 93 s)) (sym c.spot-place.ensures))
+    collection_err (list (spot l cs)) (spot l cs) 93 (flow_node c.args.depth l cs) (inner (drop 1 cs)) s (node_list c.args.depth (c.args.depth - 1) l cs (omega arith) bracket) (ap inner (sym c.behind.ensures) ∙ p)
+    ∙ ap (λ a. Err (opened a 93 s)) (sym c.spot-place.ensures))
 
 pub flow_node-returns-in-Ok-flow_entries-clause-node : goal.flow_node-returns-in-Ok-flow_entries-clause-node
 flow_node-returns-in-Ok-flow_entries-clause-node t c =
@@ -161,5 +161,5 @@ flow_node-returns-in-Err-flow_entries-clause-node t c =
     let outer = c.inside_open-in-Err-flow_entries in
     fails_open (place_view c.spot-place.result) 125 halt outer.result (inner c.behind-else-begins.result.now) (flow_node c.args.depth l cs) (c.in-Err-flow_entries.ensures.entries (length cs) room) outer.ensures.stop outer.ensures.memory
     (λ s p.
-        collection_err (map_from (spot l cs)) (spot l cs) 125 (flow_node c.args.depth l cs) (inner (drop 1 cs)) s (node_map c.args.depth (c.args.depth - 1) l cs (omega arith) bracket other) (ap inner (sym c.behind-else-begins.ensures) ∙ p)
-        ∙ ap (λ a. Err (opened a 125 s)) (sym c.spot-place.ensures))
+    collection_err (map_from (spot l cs)) (spot l cs) 125 (flow_node c.args.depth l cs) (inner (drop 1 cs)) s (node_map c.args.depth (c.args.depth - 1) l cs (omega arith) bracket other) (ap inner (sym c.behind-else-begins.ensures) ∙ p)
+    ∙ ap (λ a. Err (opened a 125 s)) (sym c.spot-place.ensures))

@@ -27,7 +27,7 @@ decreases-flow_value l = 4 * l.depth + 1
 abbrev pub invariant-flow_elements-elements : goal.invariant-flow_elements-elements
 invariant-flow_elements-elements l = record {
   within : length l.rest ≤ length l.fn.rest;
-  far : (n : ℕ) → length l.fn.rest < n → ElementsSoFar (flow_node l.fn.depth) (line_view l.line) n l.fn.rest (nodes_view l.elements.items) l.rest
+  far : (n : ℕ) → length l.fn.rest < n → ElementsSoFar (flow_node l.fn.depth) (line_view l.line) n l.fn.rest (nodes_view l.elements.items) l.rest;
 }
 
 abbrev pub decreases-flow_elements-elements : goal.decreases-flow_elements-elements
@@ -37,7 +37,7 @@ abbrev pub invariant-flow_entries-entries : goal.invariant-flow_entries-entries
 invariant-flow_entries-entries l = record {
   within : length l.rest ≤ length l.fn.rest;
   far : (n : ℕ) → length l.fn.rest < n → EntriesSoFar (flow_node l.fn.depth) (line_view l.line) n l.fn.rest (entries_view l.entries.items) l.rest;
-  known : Knows l.seen (keys_of (entries_view l.entries.items))
+  known : Knows l.seen (keys_of (entries_view l.entries.items));
 }
 
 abbrev pub decreases-flow_entries-entries : goal.decreases-flow_entries-entries

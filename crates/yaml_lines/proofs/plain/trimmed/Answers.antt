@@ -1,5 +1,4 @@
-use Rattle.std.proofs.Common.{◌≡◌, ◌≤◌, ◌-◌, false, length, sym, ◌∙◌, arith}
-use Rattle.yaml_lines.specs.File.{is_blank}
+use Rattle.std.proofs.Common.{◌-◌, sym, ◌∙◌, arith}
 use Rattle.yaml_lines.proofs.Fronts.{trimmed_end, trimmed_none}
 use Rattle.yaml_lines.proofs.plain.trimmed.Goals as goal
 use Rattle.yaml_lines.proofs.plain.trimmed.Goals.{then-loop-end-test+else-is_blank, else-loop-end-test}

@@ -1,7 +1,7 @@
-use Rattle.std.proofs.Common.{◌≡◌, ◌+◌, ◌<◌, ◌≤◌, length, drop, Some, sym, ap, ◌∙◌, arith}
+use Rattle.std.proofs.Common.{◌≡◌, ◌+◌, ◌≤◌, length, drop, Some, arith}
 use Rattle.std.proofs.lemmas.Grind.{common_steps}
-use Rattle.yaml_lines.specs.Scalar.{double, escape}
-use Rattle.yaml_lines.proofs.Quoting.{moved, double_escape}
+use Rattle.yaml_lines.specs.Scalar.{escape}
+use Rattle.yaml_lines.proofs.Quoting.{double_escape}
 use Rattle.yaml_lines.proofs.quote.double.Goals as goal
 
 pub loop-at-preserved-then-c-eq92 : goal.loop-at-preserved-then-c-eq92
