@@ -4,3 +4,4 @@ pub mod Lays
 pub mod Form
 pub mod Laws
 pub mod Documents
+pub mod Views
