@@ -7,7 +7,7 @@ use Rattle.yaml_lines.specs.Line.{spot, Stop, Read, ◌>>=◌, indent, body, bar
 use Rattle.yaml_lines.specs.Scalar.{plain_joint, resolved}
 use Rattle.yaml_lines.specs.Flow.{quoted, is_quote, is_bracket, flow_node, is_seen}
 use Rattle.yaml_lines.specs.Key.{Keyed, keyed, unkeyed, key_stop, key_at}
-use Rattle.yaml_blocks.specs.Blocks.{rest_while, front_while, skip_void, nothing_from, nothing_in, Part, Parts, put_line, inside, divide, alone, more_plain, plain_text, head_of, first_indent, is_content, lines_at, scalar_lines, block_scalar}
+use Rattle.yaml_blocks.specs.Blocks.{rest_while, front_while, skip_void, nothing_from, nothing_in, Part, Parts, put_line, inside, divide, alone, Further, empty_line, comment_line, text_line, last_line, further, add_line, more_plain, plain_text, head_of, first_indent, is_content, lines_at, scalar_lines, block_scalar}
 use Rattle.yaml_blocks.specs.Reading.{Item, item_of, items_of, offset, is_level, after_spaces, element_in, elements_in, value_in, new_key, head_in, entries_in, lone_in, node_in, block_from, block_with, block_in, too_deep}
 use Rattle.yaml_blocks.proofs.Tools.{choose, bind_err, bind_ok}
 use Rattle.yaml_blocks.proofs.Cases.{lists, maps, node_cases}
@@ -42,26 +42,24 @@ alone_more l rest a b x s e =
 
 -- ---- scalars over lines
 
+add_line_more : (n : ℕ) (f : Further) (e e2 b b2 : Read (List ℕ)) (o o2 : Read (Unit {0})) (s : Stop)
+    → (e ≡ Err s → e2 ≡ Err s) → (b ≡ Err s → b2 ≡ Err s) → (o ≡ Err s → o2 ≡ Err s) → add_line n f e b o ≡ Err s → add_line n f e2 b2 o2 ≡ Err s
+add_line_more n empty_line e e2 b b2 o o2 s empty behind ended h = empty h
+add_line_more n comment_line e e2 b b2 o o2 s empty behind ended h = elim (bind_err o _ s h) [ | inl g ↦ rw (ended g) refl | inr g ↦ cc ]
+add_line_more n (text_line t) e e2 b b2 o o2 s empty behind ended h = elim (bind_err b _ s h) [ | inl g ↦ rw (behind g) refl | inr g ↦ cc ]
+add_line_more n (last_line t) e e2 b b2 o o2 s empty behind ended h = elim (bind_err o _ s h) [ | inl g ↦ rw (ended g) refl | inr g ↦ cc ]
+
 more_plain_more : (m n : ℕ) (a b : List Line) (s : Stop) → more_plain m n a ≡ Err s → more_plain m n (a ++ b) ≡ Err s
 unfolding more_plain
 more_plain_more m n [] b s e = cc
 more_plain_more m n (l ∷ ls) b s e =
-    elim (choose (is_bare l) _ _ _ e) [ | inl h ↦ rw h.0 (more_plain_more m (suc n) ls b s h.1) | inr bare ↦
-    elim (choose (is_void l) _ _ _ bare.1) [
-      | inl h ↦ elim (bind_err (nothing_in ls) _ s h.1) [
-          | inl g ↦ rw (bare.0, h.0, nothing_more ls b s g) refl
-          | inr g ↦ cc
-        ]
-      | inr void ↦
-    elim (choose (is_some (barred l)) _ _ _ void.1) [ | inl h ↦ rw (bare.0, void.0, h.0) h.1 | inr bar ↦
-    elim (choose (nat_lt (indent l) m || not (ends_line (plain_rest false (body l)))) _ _ _ bar.1) [ | inl h ↦ rw (bare.0, void.0, bar.0, h.0) h.1 | inr fit ↦
-    elim (choose (is_empty (plain_rest false (body l))) _ _ _ fit.1) [
-      | inl h ↦ elim (bind_err (more_plain m 0 ls) _ s h.1) [
-          | inl g ↦ rw (bare.0, void.0, bar.0, fit.0, h.0, more_plain_more m 0 ls b s g) refl
-          | inr g ↦ cc
-        ]
-      | inr h ↦ rw (bare.0, void.0, bar.0, fit.0, h.0) (alone_more l _ ls b _ s h.1)
-    ] ] ] ] ]
+    elim (bind_err (further m l) _ s e) [
+      | inl h ↦ rw h refl
+      | inr h ↦
+          rw h.1
+          (add_line_more n h.0 (more_plain m (suc n) ls) (more_plain m (suc n) (ls ++ b)) (more_plain m 0 ls) (more_plain m 0 (ls ++ b)) (nothing_in ls) (nothing_in (ls ++ b)) s
+          (more_plain_more m (suc n) ls b s) (more_plain_more m 0 ls b s) (nothing_more ls b s) h.2)
+    ]
 
 plain_text_more : (m : ℕ) (l : Line) (cs : List ℕ) (a b : List Line) (s : Stop) → plain_text m l cs a ≡ Err s → plain_text m l cs (a ++ b) ≡ Err s
 unfolding plain_text

@@ -56,17 +56,35 @@ divide in_map j (l ∷ ls) = put_line (inside in_map j l) l (divide in_map j ls)
 abbrev pub alone : {A : Type 0} → Line → List ℕ → List Line → A → Read A
 alone l rest ls x = if ends_line rest then nothing_in ls >>= (λ u. Ok x) else Err (syntax l)
 
+-- a line behind a plain scalar: empty, a comment, text, or text that a comment ends
+pub data Further : Type 0 where
+  empty_line : Further
+  comment_line : Further
+  text_line : List ℕ → Further
+  last_line : List ℕ → Further
+
+-- What a line is that is to be indented at least m. A colon before a blank or the end may not stand there.
+unfoldable pub further : ℕ → Line → Read Further
+further m l =
+    if is_bare l then Ok empty_line
+    else if is_void l then Ok comment_line
+    else if is_some (barred l) then Err (stray l)
+    else if nat_lt (indent l) m || not (ends_line (plain_rest false (body l))) then Err (syntax l)
+    else if is_empty (plain_rest false (body l)) then Ok (text_line (plain_front false (body l)))
+    else Ok (last_line (plain_front false (body l)))
+
+-- What a line adds behind n empty ones, where the lines behind it add so much, behind it or behind one more
+-- empty line, or where nothing may stand behind it.
+abbrev pub add_line : ℕ → Further → Read (List ℕ) → Read (List ℕ) → Read (Unit {0}) → Read (List ℕ)
+add_line n empty_line behind_empty behind ended = behind_empty
+add_line n comment_line behind_empty behind ended = ended >>= (λ u. Ok [])
+add_line n (text_line t) behind_empty behind ended = behind >>= (λ more. Ok (plain_joint n ++ t ++ more))
+add_line n (last_line t) behind_empty behind ended = ended >>= (λ u. Ok (plain_joint n ++ t))
+
 -- What the lines of a block add to a plain scalar, behind n empty lines. They are indented at least m.
 unfoldable pub more_plain : ℕ → ℕ → List Line → Read (List ℕ)
 more_plain m n [] = Ok []
-more_plain m n (l ∷ ls) =
-    if is_bare l then more_plain m (suc n) ls
-    else if is_void l then nothing_in ls >>= (λ u. Ok [])
-    else if is_some (barred l) then Err (stray l)
-    else if nat_lt (indent l) m || not (ends_line (plain_rest false (body l))) then Err (syntax l)
-    else if is_empty (plain_rest false (body l))
-    then more_plain m 0 ls >>= (λ more. Ok (plain_joint n ++ (plain_front false (body l) ++ more)))
-    else alone l (plain_rest false (body l)) ls (plain_joint n ++ plain_front false (body l))
+more_plain m n (l ∷ ls) = further m l >>= (λ f. add_line n f (more_plain m (suc n) ls) (more_plain m 0 ls) (nothing_in ls))
 
 -- the text of a plain scalar that begins here
 unfoldable pub plain_text : ℕ → Line → List ℕ → List Line → Read (List ℕ)

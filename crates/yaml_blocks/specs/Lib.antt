@@ -5,3 +5,4 @@ pub mod Form
 pub mod Laws
 pub mod Documents
 pub mod Views
+pub mod Furthers

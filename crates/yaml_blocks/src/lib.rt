@@ -3,3 +3,5 @@
 
 pub mod laws;
 pub mod lines;
+mod plain;
+mod texts;

@@ -9,7 +9,7 @@ ghost use Rattle.yaml_blocks.specs.Blocks as blocks;
 ghost use Rattle.yaml_blocks.specs.Views.{lines_view, three_view, done};
 
 use sig_base::{Code, Place};
-use yaml_lines::flow::no_reading;
+use yaml_lines::flow::{no_reading, refused};
 use yaml_lines::scan::{begins, behind, blank_or_end, carries_nothing, ends_line, skip_blanks};
 use yaml_lines::{Halt, Line};
 
@@ -95,4 +95,43 @@ pub fn is_barred(line: &Line<'_>) -> bool
     ensures { result ≡ is_some (spec.barred (line_view line.now)) }
 {
     is_marker(line) || begins('\t', body(line))
+}
+
+/// Why nothing may stand on the line.
+#[tactic(auto, unfolding(yaml_lines::specs::Line::stray, yaml_lines::specs::Line::barred))]
+pub fn stray(line: &Line<'_>) -> Halt
+    ensures { halt_view result ≡ Some (spec.stray (line_view line.now)) }
+{
+    if is_marker(line) {
+        return refused(Code::UNSUPPORTED, line, line.text);
+    }
+    if !begins('\t', body(line)) {
+        return no_reading(line);
+    }
+    let place = Place {
+        line: line.number,
+        column: indent(line) as u32 + 1,
+    };
+    Halt::Refused(Code::TAB, place)
+}
+
+/// Nothing more may stand on these lines.
+#[tactic(auto, using(crate::proofs::Turns::nothing_void, crate::proofs::Turns::nothing_stray, crate::proofs::Turns::nothing_end, yaml_lines::proofs::Failing::fails_as))]
+pub fn nothing_in(lines: &[Line<'_>]) -> Result<(), Halt>
+    ensures { Gives done result (blocks.nothing_in (lines_view lines.now)) }
+{
+    for line in lines {
+        if !is_void(line) {
+            return Err(stray(line));
+        }
+    }
+    Ok(())
+}
+
+/// What follows the first lines.
+pub fn lines_behind<'a, 't>(lines: &'a [Line<'t>], count: usize) -> &'a [Line<'t>]
+    requires { count ≤ length lines.now }
+    ensures { result.now ≡ drop count lines.now }
+{
+    lines.split_at(count).1
 }
