@@ -41,7 +41,7 @@ solid_is (c ∷ cs) e = refl
 
 drop_empty-solid : (ts : List (List ℕ)) (t : List ℕ) → is_empty t ≡ false → drop_empty (ts ++ t ∷ []) ≡ ts ++ t ∷ []
 drop_empty-solid [] t e = rw e refl
-drop_empty-solid (u ∷ []) t e = rw e (kept (is_empty u) u t)  where
+drop_empty-solid (u ∷ []) t e = rw e (kept (is_empty u) u t) where
   kept : (b : Bool) (u t : List ℕ) → cond (b && false) [] (u ∷ t ∷ []) ≡ u ∷ t ∷ []
   kept true u t = refl
   kept false u t = refl

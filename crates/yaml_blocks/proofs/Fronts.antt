@@ -24,17 +24,17 @@ front_more p xs i x h x_is e far =
     let d = ap lines_view (drop_at xs i x h x_is) in
     let more : i + 1 ≡ suc i = omega arith in
     let t : lines_view (take (i + 1) xs) ≡ lines_view (take i xs) ++ line_view x ∷ [] =
-        ap (λ (k : ℕ). lines_view (take k xs)) more ∙ (ap lines_view (take-suc xs i x h ∙ ap (λ (y : code.Line). take i xs ++ (y ∷ [])) (sym x_is)) ∙ map_push line_view (take i xs) x) in
+    ap (λ (k : ℕ). lines_view (take k xs)) more ∙ (ap lines_view (take-suc xs i x h ∙ ap (λ (y : code.Line). take i xs ++ (y ∷ [])) (sym x_is)) ∙ map_push line_view (take i xs) x) in
     let step : front_while p (line_view x ∷ lines_view (drop (i + 1) xs)) ≡ line_view x ∷ front_while p (lines_view (drop (i + 1) xs)) = rw e refl in
     let others : rest_while p (line_view x ∷ lines_view (drop (i + 1) xs)) ≡ rest_while p (lines_view (drop (i + 1) xs)) = rw e refl in
     record {
       front =
-        far.front
-        ∙ (ap (λ (ys : List Line). lines_view (take i xs) ++ front_while p ys) d
-        ∙ (ap (λ (ys : List Line). lines_view (take i xs) ++ ys) step
-        ∙ (sym (append_assoc (lines_view (take i xs)) (line_view x ∷ []) (front_while p (lines_view (drop (i + 1) xs))))
-        ∙ ap (λ (ys : List Line). ys ++ front_while p (lines_view (drop (i + 1) xs))) (sym t))));
-      rest = far.rest ∙ (ap (rest_while p) d ∙ others)
+          far.front
+          ∙ (ap (λ (ys : List Line). lines_view (take i xs) ++ front_while p ys) d
+          ∙ (ap (λ (ys : List Line). lines_view (take i xs) ++ ys) step
+          ∙ (sym (append_assoc (lines_view (take i xs)) (line_view x ∷ []) (front_while p (lines_view (drop (i + 1) xs))))
+          ∙ ap (λ (ys : List Line). ys ++ front_while p (lines_view (drop (i + 1) xs))) (sym t))));
+      rest = far.rest ∙ (ap (rest_while p) d ∙ others);
     }
 
 pub front_stop : (p : Line → Bool) (xs : List code.Line) (i : ℕ) (x : code.Line) → i < length xs → x ≡ get_or xs i x → p (line_view x) ≡ false → CountsFront p xs i
@@ -42,16 +42,18 @@ pub front_stop : (p : Line → Bool) (xs : List code.Line) (i : ℕ) (x : code.L
 front_stop p xs i x h x_is e far =
     let d = ap lines_view (drop_at xs i x h x_is) in
     let none : front_while p (line_view x ∷ lines_view (drop (i + 1) xs)) ≡ [] = rw e refl in
-    let all : rest_while p (line_view x ∷ lines_view (drop (i + 1) xs)) ≡ line_view x ∷ lines_view (drop (i + 1) xs) = rw e refl in
-    (sym (far.front ∙ (ap (λ (ys : List Line). lines_view (take i xs) ++ ys) (ap (front_while p) d ∙ none) ∙ append-nil _)),
-     sym (far.rest ∙ (ap (rest_while p) d ∙ (all ∙ sym d))))
+    let all : rest_while p (line_view x ∷ lines_view (drop (i + 1) xs)) ≡ line_view x ∷ lines_view (drop (i + 1) xs) = rw e refl in (
+      sym (far.front ∙ (ap (λ (ys : List Line). lines_view (take i xs) ++ ys) (ap (front_while p) d ∙ none) ∙ append-nil _)),
+      sym (far.rest ∙ (ap (rest_while p) d ∙ (all ∙ sym d))),
+    )
 
 pub front_end : (p : Line → Bool) (xs : List code.Line) (i : ℕ) → length xs ≤ i → CountsFront p xs i
     → (lines_view (take i xs) ≡ front_while p (lines_view xs)) × (lines_view (drop i xs) ≡ rest_while p (lines_view xs))
 front_end p xs i h far =
-    let none = at_drop_all (λ (ys : List code.Line). front_while p (lines_view ys)) xs i h in
-    (sym (far.front ∙ (ap (λ (ys : List Line). lines_view (take i xs) ++ ys) none ∙ append-nil _)),
-     at_drop_all lines_view xs i h ∙ sym (far.rest ∙ at_drop_all (λ (ys : List code.Line). rest_while p (lines_view ys)) xs i h))
+    let none = at_drop_all (λ (ys : List code.Line). front_while p (lines_view ys)) xs i h in (
+      sym (far.front ∙ (ap (λ (ys : List Line). lines_view (take i xs) ++ ys) none ∙ append-nil _)),
+      at_drop_all lines_view xs i h ∙ sym (far.rest ∙ at_drop_all (λ (ys : List code.Line). rest_while p (lines_view ys)) xs i h),
+    )
 
 -- ---- texts
 
@@ -60,7 +62,7 @@ pub texts_turn : (f : Line → List ℕ) (old now grown : List (List ℕ)) (xs :
 texts_turn f old now grown xs i x h x_is e g =
     let more : i + 1 ≡ suc i = omega arith in
     let t : lines_view (take (i + 1) xs) ≡ lines_view (take i xs) ++ line_view x ∷ [] =
-        ap (λ (k : ℕ). lines_view (take k xs)) more ∙ (ap lines_view (take-suc xs i x h ∙ ap (λ (y : code.Line). take i xs ++ (y ∷ [])) (sym x_is)) ∙ map_push line_view (take i xs) x) in
+    ap (λ (k : ℕ). lines_view (take k xs)) more ∙ (ap lines_view (take-suc xs i x h ∙ ap (λ (y : code.Line). take i xs ++ (y ∷ [])) (sym x_is)) ∙ map_push line_view (take i xs) x) in
     g
     ∙ (ap (λ (ts : List (List ℕ)). ts ++ f (line_view x) ∷ []) e
     ∙ (append_assoc old (list_map f (lines_view (take i xs))) (f (line_view x) ∷ [])
@@ -106,7 +108,7 @@ scalar_less m xs n texts x more front rest within e shape less =
     record {
       texts_are = e ∙ sym (ap (λ (p : List (List ℕ) × List Line). p.0) whole);
       behind = shape ∙ sym (ap (λ (p : List (List ℕ) × List Line). p.1) whole);
-      within = within
+      within = within;
     }
 
 pub scalar_some : (m : ℕ) (xs ys : List code.Line) (n k inner : ℕ) (first texts : List (List ℕ)) (x : code.Line) (more : List Line)
@@ -122,12 +124,12 @@ scalar_some m xs ys n k inner first texts x more front rest within e ys_is shape
     let outside : lines_view (drop k ys) ≡ rest_while (is_content i) (line_view x ∷ more) = rest2 ∙ (ap (λ (j : ℕ). rest_while (is_content j) (lines_view ys)) inner_is ∙ ap (rest_while (is_content i)) view) in
     record {
       texts_are =
-        e2
-        ∙ (ap (λ (ts : List (List ℕ)). ts ++ list_map (content inner) (lines_view (take k ys))) e
-        ∙ (ap (λ (j : ℕ). list_map none_of_line (lines_view (take n xs)) ++ list_map (content j) (lines_view (take k ys))) inner_is
-        ∙ (ap (λ (ls : List Line). list_map none_of_line (lines_view (take n xs)) ++ list_map (content i) ls) inside
-        ∙ sym (ap (λ (p : List (List ℕ) × List Line). p.0) whole))));
+          e2
+          ∙ (ap (λ (ts : List (List ℕ)). ts ++ list_map (content inner) (lines_view (take k ys))) e
+          ∙ (ap (λ (j : ℕ). list_map none_of_line (lines_view (take n xs)) ++ list_map (content j) (lines_view (take k ys))) inner_is
+          ∙ (ap (λ (ls : List Line). list_map none_of_line (lines_view (take n xs)) ++ list_map (content i) ls) inside
+          ∙ sym (ap (λ (p : List (List ℕ) × List Line). p.0) whole))));
       behind =
-        ap lines_view (sym (drop-drop k n xs) ∙ ap (drop k) (sym ys_is)) ∙ (outside ∙ sym (ap (λ (p : List (List ℕ) × List Line). p.1) whole));
-      within = omega (arith, ap length ys_is, length-drop n xs)
+          ap lines_view (sym (drop-drop k n xs) ∙ ap (drop k) (sym ys_is)) ∙ (outside ∙ sym (ap (λ (p : List (List ℕ) × List Line). p.1) whole));
+      within = omega (arith, ap length ys_is, length-drop n xs);
     }

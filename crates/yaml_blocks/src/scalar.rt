@@ -139,11 +139,7 @@ fn fold_line(
 
 /// Folds further lines behind one that begins with a blank or not.
 #[tactic(auto, using(crate::proofs::Folds::folds_turn, crate::proofs::Folds::folds_end))]
-fn push_folded_from(
-    content: &mut Text,
-    begins: bool,
-    texts: &[&[char]],
-) -> Result<(), AllocError>
+fn push_folded_from(content: &mut Text, begins: bool, texts: &[&[char]]) -> Result<(), AllocError>
     ensures { OnOk result (content.new ≡ content.old ++ scalar.fold_from begins 0 (texts_view texts.now)) }
 {
     let mut before = begins;

@@ -1,4 +1,4 @@
-use Rattle.std.proofs.Common.{◌≡◌, ◌++◌, ◌<◌, ◌≤◌, true, false, nat_lt, List, length, take, drop, sym, ap, ◌∙◌, arith}
+use Rattle.std.proofs.Common.{◌≡◌, ◌++◌, true, false, nat_lt, take, sym, ap, ◌∙◌, arith}
 use Rattle.std.proofs.lemmas.Bool.Decides.{nat_tests}
 use Rattle.std.specs.Prelude.{map}
 use Rattle.yaml_lines.specs.Line.{indent}
@@ -16,9 +16,9 @@ returns-then-is_empty c =
     let n = c.count_bare-front.result in
     let k = c.count_bare-front.ensures in
     let e : texts_view c.push_empty.new.texts.items ≡ map none_of_line (lines_view (take n xs)) =
-        c.in_ok-push_empty.ensures
-        ∙ (ap (λ vs. texts_view vs ++ map none_of_line (lines_view c.split_at.result.0.now)) c.new-texts.ensures.items
-        ∙ ap (λ ls. map none_of_line (lines_view ls)) c.split_at.ensures.front) in
+    c.in_ok-push_empty.ensures
+    ∙ (ap (λ vs. texts_view vs ++ map none_of_line (lines_view c.split_at.result.0.now)) c.new-texts.ensures.items
+    ∙ ap (λ ls. map none_of_line (lines_view ls)) c.split_at.ensures.front) in
     let none = ap lines_view (sym c.lines_behind-rest.ensures) ∙ view_empty c.lines_behind-rest.result.now (sym c.is_empty.ensures ∙ c.if-is_empty.true) in
     scalar_none c.args.least xs n (texts_view c.push_empty.new.texts.items) k.front k.rest k.within e none
 
@@ -29,9 +29,9 @@ returns-then-inner-least c =
     let k = c.count_bare-front.ensures in
     let x = c.index-rest-0.result in
     let e : texts_view c.push_empty.new.texts.items ≡ map none_of_line (lines_view (take n xs)) =
-        c.in_ok-push_empty.ensures
-        ∙ (ap (λ vs. texts_view vs ++ map none_of_line (lines_view c.split_at.result.0.now)) c.new-texts.ensures.items
-        ∙ ap (λ ls. map none_of_line (lines_view ls)) c.split_at.ensures.front) in
+    c.in_ok-push_empty.ensures
+    ∙ (ap (λ vs. texts_view vs ++ map none_of_line (lines_view c.split_at.result.0.now)) c.new-texts.ensures.items
+    ∙ ap (λ ls. map none_of_line (lines_view ls)) c.split_at.ensures.front) in
     let shape = ap lines_view (sym c.lines_behind-rest.ensures) ∙ view_first c.lines_behind-rest.result.now x (sym c.is_empty.ensures ∙ c.if-is_empty.false) c.index-rest-0.is in
     let inner = c.indent-inner.ensures.indent in
     let less : nat_lt (indent (line_view x)) c.args.least ≡ true = grind (arith, nat_tests) in
@@ -47,9 +47,9 @@ returns c =
     let x = c.index-rest-0.result in
     let first = texts_view c.push_empty.new.texts.items in
     let e : first ≡ map none_of_line (lines_view (take n xs)) =
-        c.in_ok-push_empty.ensures
-        ∙ (ap (λ vs. texts_view vs ++ map none_of_line (lines_view c.split_at.result.0.now)) c.new-texts.ensures.items
-        ∙ ap (λ ls. map none_of_line (lines_view ls)) c.split_at.ensures.front) in
+    c.in_ok-push_empty.ensures
+    ∙ (ap (λ vs. texts_view vs ++ map none_of_line (lines_view c.split_at.result.0.now)) c.new-texts.ensures.items
+    ∙ ap (λ ls. map none_of_line (lines_view ls)) c.split_at.ensures.front) in
     let shape = ap lines_view (sym c.lines_behind-rest.ensures) ∙ view_first ys x (sym c.is_empty.ensures ∙ c.if-is_empty.false) c.index-rest-0.is in
     let inner = c.indent-inner.ensures.indent in
     let less : nat_lt (indent (line_view x)) c.args.least ≡ false = grind (arith, nat_tests) in
