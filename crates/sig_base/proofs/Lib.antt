@@ -1,1 +1,3 @@
+pub mod Puts
+pub mod Shelving
 pub mod TextLemmas

@@ -1,6 +1,5 @@
 -- Texts of ASCII are their own bytes; two texts are equal where their characters are.
 use Rattle.std.proofs.Common.{◌≡◌, ℕ, ◌<◌, Bool, true, List, [], ◌∷◌, ◌++◌, refl, ap, sym, ◌∙◌, arith, nat_lt, append-nil}
-use Rattle.std.specs.List.{list_all}
 use Rattle.std.specs.Prelude.{encode_utf8_all, encode_utf8, Result, Ok, Err, is_ok, OnOk, if◌then◌else◌}
 use Rattle.std.specs.Str.{chars, all_scalars, bytes_eq, IsUtf8}
 use Rattle.std.proofs.lemmas.Bool.{and_parts, and_from, ltb-true}

@@ -3,14 +3,30 @@
 
 pub use bytes::Bytes;
 pub use code::Code;
+pub use faults::{Failed, LineFault, LineStep, ShelfFault};
 pub use folding::fold;
 pub use limits::Limits;
+pub use memory::{MemoryShelf, MemorySink, MemorySource};
+pub use put::put_all;
+pub use real::{FileShelf, InputSource, OutputSink};
 pub use refusal::{Detail, Fault, Place, Refusal};
+pub use shelf::Shelf;
+pub use streams::{Sink, Source};
 pub use text::Text;
+pub use texts::Texts;
 
 mod bytes;
 mod code;
+mod faults;
 mod folding;
 mod limits;
+mod memory;
+mod put;
+mod real;
 mod refusal;
+mod shelf;
+mod streams;
+#[cfg(test)]
+mod tests;
 mod text;
+mod texts;

@@ -75,4 +75,10 @@ impl Text {
     {
         self.as_str() == text
     }
+    /// Whether both texts have the same characters.
+    pub fn equals(&self, other: &Text) -> bool
+        ensures { result ≡ bytes_eq self.now other.now }
+    {
+        self.is(other.as_str())
+    }
 }

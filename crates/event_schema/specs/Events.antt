@@ -1,0 +1,37 @@
+-- Events of a schema: each field has no value, or one value of its kind.
+use Rattle.std.specs.Prelude.{◌≡◌, ℕ, ◌-◌, ◌^◌, nat_lt, ℤ, pos, negsuc, ◌≤ℤ◌, true, List, [], ◌∷◌, Option, Some, None, ⊤}
+use Rattle.std.specs.List.{list_all}
+use Rattle.std.specs.Str.{all_scalars}
+use Rattle.event_schema.specs.Addresses.{IsAddress}
+use Rattle.event_schema.specs.declared.schema.Field.{Field}
+use Rattle.event_schema.specs.declared.schema.FieldKind.{FieldKind}
+use Rattle.event_schema.specs.declared.schema.FieldKind.TheVariants as kinds
+use Rattle.event_schema.specs.declared.value.Value.{Value}
+use Rattle.event_schema.specs.declared.value.Value.TheVariants as values
+
+-- a text without U+0000
+abbrev pub IsPlainText : List ℕ → Type 0
+IsPlainText text = (all_scalars text ≡ true) × (list_all (λ c. nat_lt 0 c) text ≡ true)
+
+-- a whole number from -(2^63 - 1) to 2^63 - 1
+abbrev pub IsWholeNumber : ℤ → Type 0
+IsWholeNumber n = (negsuc (2 ^ 63 - 2) ≤ℤ n) × (n ≤ℤ pos (2 ^ 63 - 1))
+
+abbrev pub IsOfKind : FieldKind → Value → Type 0
+IsOfKind kinds.Text (values.Text text) = IsPlainText text
+IsOfKind kinds.Text (values.Whole n) = ⊥
+IsOfKind kinds.Whole (values.Text text) = ⊥
+IsOfKind kinds.Whole (values.Whole n) = IsWholeNumber n
+IsOfKind kinds.Address (values.Text text) = IsPlainText text × IsAddress text
+IsOfKind kinds.Address (values.Whole n) = ⊥
+
+abbrev pub IsIfAny : FieldKind → Option Value → Type 0
+IsIfAny kind None = ⊤
+IsIfAny kind (Some value) = IsOfKind kind value
+
+-- the values of an event, in the order of the fields
+abbrev pub IsEvent : List Field → List (Option Value) → Type 0
+IsEvent [] [] = ⊤
+IsEvent [] (value ∷ values) = ⊥
+IsEvent (field ∷ fields) [] = ⊥
+IsEvent (field ∷ fields) (value ∷ values) = IsIfAny field.kind value × IsEvent fields values

@@ -1,0 +1,10 @@
+//! What events look like: schemas with their fields, and the values of fields.
+#![tactic(auto)]
+
+pub use fields::Fields;
+pub use schema::{Field, FieldKind, Schema, Time, TimeForm};
+pub use value::Value;
+
+mod fields;
+mod schema;
+mod value;

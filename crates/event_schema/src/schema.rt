@@ -1,0 +1,46 @@
+//! Schemas: the fields that events have, and where their times stand.
+
+use crate::fields::Fields;
+use sig_base::{Text, Texts};
+
+/// What values a field takes: texts, whole numbers of 64 bits, or texts that aren't nearly an IPv4 address.
+#[derive(Clone, Copy, Debug, PartialEq, Eq)]
+pub enum FieldKind {
+    Text,
+    Whole,
+    Address,
+}
+
+/// A field: its name, its kind, the keys that lead to its value in an event, whether keywords search it, and whether
+/// a Lucene index keeps its case in a twin.
+#[derive(Drop, Debug)]
+pub struct Field {
+    pub name: Text,
+    pub kind: FieldKind,
+    pub at: Texts,
+    pub search: bool,
+    pub cased: bool,
+}
+
+/// How an event's time is written.
+#[derive(Clone, Copy, Debug, PartialEq, Eq)]
+pub enum TimeForm {
+    Text,
+    Seconds,
+    Millis,
+}
+
+/// Where an event's time stands, and how it's written.
+#[derive(Drop, Debug)]
+pub struct Time {
+    pub at: Texts,
+    pub form: TimeForm,
+}
+
+/// The table's name, its fields in order, and where an event's time stands.
+#[derive(Drop, Debug)]
+pub struct Schema {
+    pub table: Text,
+    pub fields: Fields,
+    pub time: Option<Time>,
+}

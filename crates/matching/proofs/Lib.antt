@@ -1,0 +1,2 @@
+pub mod SuffixLemmas
+mod WalkLemmas

@@ -1,0 +1,22 @@
+//! One matcher for every pattern language with runs: a pattern is read from its front, step by step, and the
+//! matcher decides whether it matches a text, without memory of its own and without going further back than to
+//! the last run.
+//!
+//! A language takes part by a small `Copy` type that stands somewhere in a pattern, such as the `&str` or the slice
+//! of parts that is left of it, and implements `Cursor`: `holds` is the language's own definition, and `step`
+//! reads what stands at the front.
+#![tactic(auto)]
+
+mod cursor;
+mod first;
+mod seeking;
+mod step;
+mod taking;
+mod walk;
+mod walking;
+mod whole;
+
+pub use cursor::Cursor;
+pub use first::first_char;
+pub use step::{Step, Taker};
+pub use whole::matches_whole;

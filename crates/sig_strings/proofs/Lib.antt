@@ -1,0 +1,6 @@
+mod EditsLemmas
+mod FitsLemmas
+mod HoleLemmas
+mod ReadingLemmas
+mod SpellsLemmas
+mod TotalLemmas

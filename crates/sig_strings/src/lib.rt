@@ -1,0 +1,19 @@
+//! Patterns: what a value of a Sigma rule spells, and which texts it fits.
+#![tactic(auto)]
+
+mod copying;
+mod edits;
+mod fitting;
+mod hole;
+mod law;
+mod part;
+mod pattern;
+mod reading;
+mod sign;
+#[cfg(test)]
+mod tests;
+mod writing;
+
+pub use law::{joined_fits, one_pattern, plain_fits, runs_fit, stays_written};
+pub use part::Part;
+pub use pattern::Pattern;

@@ -1,0 +1,128 @@
+ghost use Rattle.std.specs.Prelude.{◌≡◌, ◌↔◌, ◌<◌, ◌⊎◌, ◌∷◌, true, false, length, IfOk, IfErr};
+ghost use Rattle.std.specs.Str.{chars};
+ghost use Rattle.sig_strings.specs.Spells.{Spells};
+ghost use Rattle.sig_strings.specs.Signs.{Begins, part_at};
+ghost use Rattle.sig_strings.specs.Edits.{all_written};
+ghost use Rattle.sig_strings.specs.Refused as refused;
+
+use crate::hole::{hole_end, hole_name, is_special};
+use crate::part::Part;
+use crate::pattern::Pattern;
+use crate::sign::Sign;
+use matching::first_char;
+use sig_base::{Code, Detail, Fault, Limits, Place, Refusal};
+use std::alloc::Global;
+
+/// What stands at the front of a text behind its first backslash, and the rest.
+fn read_escape(behind: &str, expand: bool) -> (Sign, &str)
+    ensures { let text = 92 ∷ chars behind.now in Begins expand text (part_at text result.0) (chars result.1.now) }
+{
+    let Some((c, rest)) = first_char(behind) else {
+        return (Sign::Plain('\\'), behind);
+    };
+    if is_special(c) {
+        return (Sign::Plain(c), rest);
+    }
+    (Sign::Plain('\\'), behind)
+}
+
+/// What stands at the front of a text behind its first percent sign, where placeholders are read, and the
+/// rest.
+fn read_percent(behind: &str) -> (Sign, &str)
+    ensures { let text = 37 ∷ chars behind.now in Begins true text (part_at text result.0) (chars result.1.now) }
+{
+    let Some(rest) = hole_end(behind) else {
+        return (Sign::Plain('%'), behind);
+    };
+    (Sign::Named, rest)
+}
+
+/// What stands at the front of a text, and the rest.
+fn read_front(text: &str, expand: bool) -> (Sign, &str)
+    ensures { Begins expand (chars text.now) (part_at (chars text.now) result.0) (chars result.1.now) }
+{
+    let Some((c, rest)) = first_char(text) else {
+        return (Sign::End, text);
+    };
+    if c == '*' {
+        return (Sign::Star, rest);
+    }
+    if c == '?' {
+        return (Sign::Question, rest);
+    }
+    if c == '\\' {
+        return read_escape(rest, expand);
+    }
+    if expand && c == '%' {
+        return read_percent(rest);
+    }
+    (Sign::Plain(c), rest)
+}
+
+/// The part that a sign at the front of a text stands for.
+fn part_of(alloc: Global, text: &str, sign: Sign) -> Result<Option<Part>, Fault>
+    ensures ok { IfOk result (λ part. part ≡ part_at (chars text.now) sign) }
+    ensures err { IfErr result (λ e. e ≡ Fault.Memory) }
+{
+    match sign {
+        Sign::End => Ok(None),
+        Sign::Star => Ok(Some(Part::Run)),
+        Sign::Question => Ok(Some(Part::One)),
+        Sign::Plain(c) => Ok(Some(Part::Char(c))),
+        Sign::Named => {
+            let name = hole_name(alloc, text)?;
+            Ok(Some(Part::Hole(name)))
+        }
+    }
+}
+
+/// Reads a text of any length.
+fn read_parts(alloc: Global, text: &str, expand: bool) -> Result<Pattern, Fault>
+    ensures spelled { IfOk result (λ pattern. Spells expand (chars text.now) pattern) }
+    ensures err { IfErr result (λ e. e ≡ Fault.Memory) }
+{
+    let mut parts = Vec::new(alloc);
+    let mut left = text;
+    loop {
+        let (sign, rest) = read_front(left, expand);
+        let Some(part) = part_of(alloc, left, sign)? else {
+            return Ok(Pattern::of_parts(parts));
+        };
+        parts.push(part)?;
+        left = rest;
+    }
+}
+
+/// How many characters a text has.
+fn count_of(text: &str) -> usize
+    ensures { result ≡ length (chars text.now) }
+{
+    text.chars().count()
+}
+
+impl Pattern {
+    /// Reads the text of a value: `*` is any run, `?` any one character, a backslash makes `*`, `?` and the
+    /// backslash plain, and with `expand` a name between percent signs is a placeholder. A text of more
+    /// characters than `value_chars` is refused at `place`.
+    pub fn read(
+        alloc: Global,
+        limits: &Limits,
+        text: &str,
+        expand: bool,
+        place: Place,
+    ) -> Result<Pattern, Fault>
+        ensures spelled { IfOk result (λ pattern. Spells expand (chars text.now) pattern) }
+        ensures written { IfOk result (λ pattern. expand ≡ false → all_written pattern ≡ true) }
+        ensures refused { (result ≡ Err (refused.too_long place)) ↔ (limits.now.value_chars < length (chars text.now)) }
+        ensures only { IfErr result (λ e. (e ≡ Fault.Memory) ⊎ (e ≡ refused.too_long place)) }
+    {
+        if count_of(text) > limits.value_chars {
+            return Err(Fault::Refused(Refusal {
+                code: Code::VALUE_TOO_LONG,
+                place,
+                detail: Detail::None,
+            }));
+        }
+        read_parts(alloc, text, expand)
+    }
+}

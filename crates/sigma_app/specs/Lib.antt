@@ -1,0 +1,10 @@
+pub mod Codes
+pub mod Commands
+pub mod Converted
+pub mod Documents
+pub mod Ends
+pub mod Going
+pub mod Matching
+pub mod Reports
+pub mod Served
+pub mod Verdicts

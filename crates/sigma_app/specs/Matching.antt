@@ -1,0 +1,24 @@
+-- What a simple rule means, and when a query means the same.
+use Rattle.std.specs.Prelude.{◌≡◌, ◌↔◌, ℕ, List, [], ◌∷◌, Option, Some}
+use Rattle.event_schema.specs.Events.{IsEvent}
+use Rattle.event_schema.specs.Inferred.{text_schema}
+use Rattle.event_schema.specs.declared.value.Value.{Value}
+use Rattle.event_schema.specs.declared.value.Value.TheVariants.{Text}
+use Rattle.sig_base.specs.Folding.{folded}
+use Rattle.sql_lang.specs.Expression.{Expr}
+use Rattle.sql_lang.specs.Meaning.{SqlSelects}
+use Rattle.sql_lang.specs.Reading.{Reads}
+use Rattle.yaml_profile.specs.SevenLines.{Simple}
+
+-- The rule matches an event where its field has a text that is the rule's value after folding (Sigma specification 2.0:
+-- values are compared without regard to case). The row has the values of the schema's one field.
+abbrev pub Matches : Simple → List (Option Value) → Type 0
+Matches rule row = (text : List ℕ) × (row ≡ Some (Text text) ∷ []) × (folded text ≡ folded rule.value)
+
+-- The bytes are read as exactly one query of the rule's schema, and for every event of this schema the query selects the
+-- event exactly where the rule matches it.
+pub record Converts (rule : Simple) (query : List ℕ) : Type 0 where
+  pub expression : Expr
+  pub reads : Reads (text_schema rule.field) query expression
+  pub only : (other : Expr) → Reads (text_schema rule.field) query other → other ≡ expression
+  pub selects : (row : List (Option Value)) → IsEvent (text_schema rule.field).fields row → (SqlSelects expression row ↔ Matches rule row)

@@ -1,0 +1,42 @@
+-- The lines that the program writes beside its queries.
+use Rattle.std.specs.Prelude.{ℕ, nat_lt, if◌then◌else◌, List, [], ◌∷◌, ◌++◌, map, codes, encode_utf8_all}
+use Rattle.std.specs.Fmt.{decimal, signed_decimal}
+use Rattle.std.specs.List.{flat_map}
+use Rattle.sig_base.specs.Codes.{code_name}
+use Rattle.sig_base.specs.declared.refusal.Detail.{Detail}
+use Rattle.sig_base.specs.declared.refusal.Detail.TheVariants.{None, Text, Numbers}
+use Rattle.sig_base.specs.declared.refusal.Place.{Place}
+use Rattle.sig_base.specs.declared.refusal.Refusal.{Refusal}
+
+-- a character below U+0020 is shown as a question mark
+abbrev pub shown : ℕ → ℕ
+shown c = if nat_lt c 32 then 63 else c
+
+-- what a refusal tells, after a space: a text, or two numbers with a space between
+abbrev pub detail_text : Detail → List ℕ
+detail_text None = []
+detail_text (Text text) = 32 ∷ encode_utf8_all (map shown text)
+detail_text (Numbers first second) = 32 ∷ (signed_decimal first ++ (32 ∷ signed_decimal second))
+
+-- FILE:LINE:COLUMN: CODE NAME, and what follows
+abbrev pub line_of : List ℕ → Place → ℕ → List ℕ → List ℕ → List ℕ
+line_of file place number cause rest =
+    file ++ (58 ∷ (decimal place.line ++ (58 ∷ (decimal place.column ++ (58 ∷ 32 ∷ (decimal number ++ (32 ∷ (cause ++ rest))))))))
+
+-- the line of a refusal in a file, with its detail
+abbrev pub refusal_line : List ℕ → Refusal → List ℕ
+refusal_line name r = line_of (encode_utf8_all name) r.place r.code (code_name r.code) (detail_text r.detail)
+
+-- the line about a file that can't be read
+abbrev pub unread_line : List ℕ → List ℕ
+unread_line name = codes "sigma: cannot read " ++ encode_utf8_all name
+
+abbrev pub usage_line : List ℕ
+usage_line = codes "sigma: bad usage"
+
+-- each line is ended by a line feed
+abbrev pub ended : List ℕ → List ℕ
+ended line = line ++ 10 ∷ []
+
+abbrev pub lines_text : List (List ℕ) → List ℕ
+lines_text lines = flat_map ended lines

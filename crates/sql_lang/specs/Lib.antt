@@ -1,0 +1,13 @@
+pub mod Tokens
+pub mod Grammar
+pub mod Names
+pub mod Expression
+pub mod Faults
+pub mod Reading
+pub mod Meaning
+pub mod Layout
+pub mod Trees
+pub mod Leaves
+pub mod Escaped
+pub mod SameText
+pub mod View

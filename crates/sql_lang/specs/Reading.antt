@@ -1,0 +1,78 @@
+-- Which text is which query under a schema, and which refusal comes first.
+use Rattle.std.specs.Prelude.{ℕ, zero, suc, ◌≡◌, ◌≤◌, ◌<◌, ◌+◌, Bool, true, false, ◌||◌, nat_lt, if◌then◌else◌, List, [], ◌∷◌, length, Option, Some, None, encode_utf8_all}
+use Rattle.std.specs.Str.{all_scalars}
+use Rattle.sql_lang.specs.Tokens.{At, Token, Sort, Word, Opening, Closing, Other, NOT, origin, place_after, tokens, sorts, places}
+use Rattle.sql_lang.specs.Grammar.{Query, spell_query, StopsAt}
+use Rattle.event_schema.specs.declared.schema.Schema.{Schema}
+use Rattle.sql_lang.specs.Expression.{Expr, or_expr, depth}
+use Rattle.sql_lang.specs.Faults.{Fault, fault, query_faults}
+
+-- These characters are a query of this schema with this expression: their tokens spell it, its names are the schema's,
+-- its operands are of fitting kinds, and its patterns are written right.
+pub record SqlReads (schema : Schema) (characters : List ℕ) (e : Expr) : Type 0 where
+  pub query : Query
+  pub spelled : spell_query query ≡ sorts (tokens characters)
+  pub faultless : query_faults schema query (places (tokens characters)) ≡ []
+  pub means : e ≡ or_expr schema.fields query.condition
+
+-- these bytes are UTF-8 characters whose tokens are a query of this schema with this expression
+pub record Reads (schema : Schema) (bytes : List ℕ) (e : Expr) : Type 0 where
+  pub characters : List ℕ
+  pub scalars : all_scalars characters ≡ true
+  pub encoded : bytes ≡ encode_utf8_all characters
+  pub reads : SqlReads schema characters e
+
+-- ---- limits
+
+-- Up to some token the signs ( are more than the signs ) by more than the limit: so many opened and closed before these.
+unfoldable pub opens_too_far : ℕ → ℕ → ℕ → List Sort → Bool
+opens_too_far limit opened closed [] = false
+opens_too_far limit opened closed (Opening ∷ ts) = nat_lt (closed + limit) (suc opened) || opens_too_far limit (suc opened) closed ts
+opens_too_far limit opened closed (Closing ∷ ts) = opens_too_far limit opened (suc closed) ts
+opens_too_far limit opened closed (t ∷ ts) = opens_too_far limit opened closed ts
+
+-- more than the limit of words NOT follow one another directly, of which there are n right before these
+unfoldable pub nots_too_many : ℕ → ℕ → List Sort → Bool
+nots_too_many limit n [] = false
+nots_too_many limit n (Word NOT ∷ ts) = nat_lt limit (suc n) || nots_too_many limit (suc n) ts
+nots_too_many limit n (t ∷ ts) = nots_too_many limit 0 ts
+
+abbrev pub nests_too_far : ℕ → List Sort → Bool
+nests_too_far limit ts = opens_too_far limit 0 0 ts || nots_too_many limit 0 ts
+
+-- a query within the limit of depth
+pub record ReadsWithin (limit : ℕ) (schema : Schema) (characters : List ℕ) (e : Expr) : Type 0 where
+  pub reads : SqlReads schema characters e
+  pub nests : nests_too_far limit (sorts (tokens characters)) ≡ false
+  pub deep : depth e ≤ limit
+
+-- ---- the first refusal of characters that are no query within the limit
+
+abbrev pub is_other : Sort → Bool
+is_other Other = true
+is_other s = false
+
+-- the first token that is none of the language's
+abbrev pub first_other : List Token → Option At
+first_other [] = None
+first_other (t ∷ ts) = if is_other t.sort then Some t.place else first_other ts
+
+-- the place of the first token behind so many, or of the end
+abbrev pub place_of : List ℕ → List Token → ℕ → At
+place_of cs [] k = place_after origin cs
+place_of cs (t ∷ ts) zero = t.place
+place_of cs (t ∷ ts) (suc k) = place_of cs ts k
+
+-- In this order: 121, a token that is none; 124, parentheses or words NOT that nest too far; 120, the place where the
+-- tokens stop being a query's; 124, an expression too deep; 122, 123 and 125, the first of the query's faults.
+pub data Refuses (limit : ℕ) (schema : Schema) (cs : List ℕ) (f : Fault) : Type 0 where
+  no_token : (place : At) → first_other (tokens cs) ≡ Some place → f ≡ fault 121 place → Refuses limit schema cs f
+  nested : first_other (tokens cs) ≡ None → nests_too_far limit (sorts (tokens cs)) ≡ true → f ≡ fault 124 origin → Refuses limit schema cs f
+  stopped : (front rest : List Sort) → first_other (tokens cs) ≡ None → nests_too_far limit (sorts (tokens cs)) ≡ false
+      → StopsAt (sorts (tokens cs)) front rest → f ≡ fault 120 (place_of cs (tokens cs) (length front)) → Refuses limit schema cs f
+  deep : (q : Query) → first_other (tokens cs) ≡ None → nests_too_far limit (sorts (tokens cs)) ≡ false
+      → spell_query q ≡ sorts (tokens cs) → limit < depth (or_expr schema.fields q.condition)
+      → f ≡ fault 124 origin → Refuses limit schema cs f
+  faulty : (q : Query) → first_other (tokens cs) ≡ None → nests_too_far limit (sorts (tokens cs)) ≡ false
+      → spell_query q ≡ sorts (tokens cs) → depth (or_expr schema.fields q.condition) ≤ limit
+      → (more : List Fault) → query_faults schema q (places (tokens cs)) ≡ f ∷ more → Refuses limit schema cs f

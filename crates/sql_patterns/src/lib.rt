@@ -1,0 +1,12 @@
+//! The patterns of SQL's LIKE and GLOB: what written patterns mean, and matching without memory.
+#![tactic(auto)]
+
+mod glob;
+mod law;
+mod like;
+#[cfg(test)]
+mod tests;
+
+pub use glob::is_glob;
+pub use law::{glob_means, like_means};
+pub use like::is_like;

@@ -1,0 +1,4 @@
+pub mod Reading
+pub mod SevenLines
+pub mod View
+pub mod Words

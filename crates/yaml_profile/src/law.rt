@@ -1,0 +1,22 @@
+//! What holds of the form of a simple rule file.
+
+ghost use Rattle.std.specs.Prelude.{◌≡◌, ◌⊎◌, ℕ, List, true, nat_lt};
+ghost use Rattle.std.specs.List.{list_all};
+ghost use Rattle.sig_base.specs.Texts.{is_ascii};
+ghost use Rattle.yaml_profile.specs.SevenLines.{Simple, Says};
+
+/// A file has one reading.
+pub fn one_reading()
+    ensures { (value_chars : ℕ) (bytes : List ℕ) (s t : Simple) → Says value_chars bytes s → Says value_chars bytes t → s ≡ t }
+{}
+
+/// A file says something, or nothing at all.
+pub fn says_or_not()
+    ensures { (value_chars : ℕ) (bytes : List ℕ) → ((s : Simple) × Says value_chars bytes s) ⊎ ((s : Simple) → Says value_chars bytes s → ⊥) }
+{}
+
+/// What a file says is spelled in ASCII, without U+0000.
+pub fn words_are_ascii()
+    ensures { (value_chars : ℕ) (bytes : List ℕ) (s : Simple) → Says value_chars bytes s
+        → (is_ascii s.field ≡ true) × (is_ascii s.value ≡ true) × (list_all (λ c. nat_lt 0 c) s.value ≡ true) }
+{}
