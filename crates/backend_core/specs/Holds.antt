@@ -1,0 +1,46 @@
+-- Whether a tree holds of an event's row: of each leaf its field's value decides, and the rest is two-valued.
+use Rattle.std.specs.Prelude.{ℕ, zero, suc, List, [], ◌∷◌, ◌⊎◌, Option, Some, None, ⊤}
+use Rattle.std.specs.Fmt.{signed_decimal}
+use Rattle.event_schema.specs.declared.value.Value.{Value}
+use Rattle.event_schema.specs.declared.value.Value.TheVariants as values
+use Rattle.sig_strings.specs.Fits.{Fits}
+use Rattle.backend_core.specs.declared.tree.LeafTest.{LeafTest}
+use Rattle.backend_core.specs.declared.tree.LeafTest.TheVariants as tests
+use Rattle.backend_core.specs.Trees.{Plain, all, any, negated, leaf, Plains, no_parts, a_part}
+
+-- the value of field k, of a row that has one value or none for each field, in their order
+abbrev pub field_value : List (Option Value) → ℕ → Option Value
+field_value [] k = None
+field_value (v ∷ vs) zero = v
+field_value (v ∷ vs) (suc k) = field_value vs k
+
+-- a text, or a number's decimal
+abbrev pub value_text : Value → List ℕ
+value_text (values.Text text) = text
+value_text (values.Whole n) = signed_decimal n
+
+-- what a test says of a field's value; where there is none, no pattern fits
+abbrev pub TestHolds : LeafTest → Option Value → Type 0
+TestHolds tests.Has None = ⊥
+TestHolds tests.Has (Some v) = ⊤
+TestHolds tests.Absent None = ⊤
+TestHolds tests.Absent (Some v) = ⊥
+TestHolds (tests.Fits pattern cased) None = ⊥
+TestHolds (tests.Fits pattern cased) (Some v) = Fits pattern (value_text v) cased
+
+-- an all where each of its parts holds, an any where one of them does, and a negated tree where its part doesn't
+module _ (row : List (Option Value)) where
+  abbrev mutual
+    pub TreeHolds : Plain → Type 0
+    TreeHolds (all ts) = EachHolds ts
+    TreeHolds (any ts) = OneHolds ts
+    TreeHolds (negated t) = TreeHolds t → ⊥
+    TreeHolds (leaf l) = TestHolds l.test (field_value row l.field)
+
+    pub EachHolds : Plains → Type 0
+    EachHolds no_parts = ⊤
+    EachHolds (a_part t ts) = TreeHolds t × EachHolds ts
+
+    pub OneHolds : Plains → Type 0
+    OneHolds no_parts = ⊥
+    OneHolds (a_part t ts) = TreeHolds t ⊎ OneHolds ts

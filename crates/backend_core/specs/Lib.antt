@@ -1,0 +1,4 @@
+pub mod Holds
+pub mod Sound
+pub mod Trees
+pub mod View

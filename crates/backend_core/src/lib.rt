@@ -1,0 +1,7 @@
+//! Trees of tests: what a rule asks of an event, in a form that every query language can write.
+#![tactic(auto)]
+
+mod copying;
+mod tree;
+
+pub use tree::{Leaf, LeafTest, Tree};

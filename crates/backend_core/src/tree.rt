@@ -1,0 +1,33 @@
+//! Trees of tests on the fields of a schema.
+
+use sig_base::Place;
+use sig_strings::Pattern;
+
+/// All of some parts, any of them, not a part, or one test.
+#[derive(Drop, Debug)]
+pub enum Tree {
+    All(Vec<Tree>),
+    Any(Vec<Tree>),
+    Not(Box<Tree>),
+    Leaf(Leaf),
+}
+
+/// A test of a field, which goes by its place in the schema, counted from 0, and where the rule asks
+/// for it.
+#[derive(Drop, Debug)]
+pub struct Leaf {
+    pub field: u32,
+    pub test: LeafTest,
+    pub place: Place,
+}
+
+/// What is asked of a field's value.
+#[derive(Drop, Debug)]
+pub enum LeafTest {
+    /// there is one
+    Has,
+    /// there is none
+    Absent,
+    /// it is a text that the pattern fits, as written or without regard to the case of A to Z
+    Fits { pattern: Pattern, cased: bool },
+}
