@@ -1,6 +1,9 @@
-ghost use Rattle.std.specs.Prelude.{◌≡◌, IfOk, IfErr};
+//! Copies of trees and of their tests.
 
-use crate::tree::{Leaf, LeafTest};
+ghost use Rattle.std.specs.Prelude.{◌≡◌, IfOk, IfErr};
+ghost use Rattle.backend_core.specs.View.{tree_view};
+
+use crate::tree::{Leaf, LeafTest, Tree};
 use sig_base::Fault;
 use std::alloc::Global;
 
@@ -36,5 +39,35 @@ impl Leaf {
             test,
             place: self.place,
         })
+    }
+}
+
+impl Tree {
+    /// The same tree; only want of memory is answered.
+    pub fn copy(&self, alloc: Global) -> Result<Tree, Fault>
+        ensures ok { IfOk result (λ tree. tree_view tree ≡ tree_view self.now) }
+        ensures err { IfErr result (λ e. e ≡ Fault.Memory) }
+    {
+        match self {
+            Tree::All(parts) => {
+                let mut copies = Vec::new(alloc);
+                for part in parts {
+                    copies.push(part.copy(alloc)?)?;
+                }
+                Ok(Tree::All(copies))
+            }
+            Tree::Any(parts) => {
+                let mut copies = Vec::new(alloc);
+                for part in parts {
+                    copies.push(part.copy(alloc)?)?;
+                }
+                Ok(Tree::Any(copies))
+            }
+            Tree::Not(part) => {
+                let copy = part.copy(alloc)?;
+                Ok(Tree::Not(Box::new(alloc, copy)?))
+            }
+            Tree::Leaf(leaf) => Ok(Tree::Leaf(leaf.copy(alloc)?)),
+        }
     }
 }

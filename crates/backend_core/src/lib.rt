@@ -2,6 +2,8 @@
 #![tactic(auto)]
 
 mod copying;
+#[cfg(test)]
+mod tests;
 mod tree;
 
 pub use tree::{Leaf, LeafTest, Tree};

@@ -1,0 +1,35 @@
+//! Copies, once each.
+
+use crate::{Leaf, LeafTest, Tree};
+use sig_base::{Limits, Place};
+use sig_strings::Pattern;
+use std::test::Fail;
+
+#[test]
+fn copies_are_the_same(rt: HostRuntime) -> Result<(), Fail> {
+    let alloc = rt.alloc();
+    let place = Place { line: 6, column: 5 };
+    let mut parts = Vec::new(alloc);
+    for (field, text) in [(1, "cmd*"), (2, "a?b")] {
+        let pattern = Pattern::read(alloc, &Limits::standard(), text, false, place)?;
+        parts.push(Tree::Leaf(Leaf {
+            field,
+            test: LeafTest::Fits {
+                pattern,
+                cased: true,
+            },
+            place,
+        }))?;
+    }
+    parts.push(Tree::Leaf(Leaf {
+        field: 3,
+        test: LeafTest::Has,
+        place,
+    }))?;
+    let tree = Tree::Not(Box::new(alloc, Tree::Any(parts))?);
+    let copy = tree.copy(alloc)?;
+    let shown = format!(in alloc; "{tree:?}")?;
+    let again = format!(in alloc; "{copy:?}")?;
+    assert_eq!(rt; again.as_str(), shown.as_str());
+    Ok(())
+}

@@ -1,0 +1,36 @@
+use Rattle.std.proofs.Common.{refl, sym, ◌∙◌, false}
+use Rattle.sql_lang.specs.Trees.{layout_query, IsSound as IsSoundLeaf}
+use Rattle.sqlite_writer.specs.Guarded.{name_at}
+use Rattle.sqlite_writer.specs.Queries.{query_tree, query_text, query_bytes, query_expr}
+use Rattle.sqlite_writer.proofs.Nested.{IsCalm}
+use Rattle.sqlite_writer.proofs.Calm.{calm_guarded}
+use Rattle.sqlite_writer.proofs.Sounds.{named_sound, tree_each}
+use Rattle.sqlite_writer.proofs.Laws.{writable_layout, within}
+use Rattle.sqlite_writer.proofs.law.tree_is_query.Goals as goal
+
+pub returns : goal.returns
+returns c = λ limit schema t texts sound some deep scalars.
+    let fields = schema.fields in
+    let leaves = c.leaves_are_sound.ensures in
+    let sound_named = named_sound fields (leaves.value fields) (leaves.no_value fields) (leaves.text fields) (leaves.like fields) (leaves.glob fields)
+    texts.texts texts.found in
+    let each_sound = tree_each fields (IsSoundLeaf fields) sound_named false t sound in
+    let each_calm = tree_each fields (IsCalm limit)
+    (λ guarded k test in_range fit. calm_guarded limit some fields guarded (name_at fields k) test (sound_named guarded k test in_range fit)) false t sound in
+    let tree = query_tree schema t in
+    let writable = writable_layout limit fields schema.table tree texts.table each_calm in
+    let scanned = c.spelling_is_scanned.ensures (layout_query schema.table tree) writable in
+    let reads = c.layout_is_read.ensures schema tree texts.table each_sound in
+    record {
+      characters = query_text schema t;
+      scalars = scalars;
+      encoded = refl;
+      expr = query_expr schema t;
+      reads = within limit schema tree each_calm deep scanned reads;
+      only = λ other r. c.one_reading.ensures schema (query_bytes schema t) other (query_expr schema t) r reads;
+      fine = (layout_query schema.table tree, sym scanned, c.layout_is_fine.ensures tree);
+      selects = λ row event.
+          let same = c.layout_means_tree.ensures fields tree row in
+          let holds = c.polarity.ensures.even schema t row texts sound event in
+          ((λ h. holds.0 (sym same ∙ h)), (λ h. same ∙ holds.1 h));
+    }

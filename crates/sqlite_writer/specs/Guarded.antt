@@ -1,0 +1,64 @@
+-- Which tests a tree is in SQL. Where a field has no value a test of its text is unknown, and unknown stays unknown behind
+-- NOT; so below an odd number of words NOT such a test stands behind the test that there is a value (SQLite, expressions:
+-- NULL and the operators).
+use Rattle.std.specs.Prelude.{ℕ, zero, suc, Bool, true, false, not, ◌&&◌, if◌then◌else◌, List, [], ◌∷◌}
+use Rattle.event_schema.specs.declared.schema.Field.{Field}
+use Rattle.sig_strings.specs.declared.part.Part.{Part}
+use Rattle.sig_strings.specs.Edits.{has_wildcard, plain_text}
+use Rattle.sql_lang.specs.Grammar.{Unsaid, NoCase, Leaf, constant}
+use Rattle.sql_lang.specs.Leaves.{has_value, has_no_value, equals_text, fits_like, fits_glob}
+use Rattle.sql_lang.specs.Escaped.{like_text, glob_text}
+use Rattle.sql_lang.specs.Trees.{Tree, leaf, all, any, negated, Trees, no_trees, a_tree}
+use Rattle.sql_patterns.specs.Writable.{sql_parts}
+use Rattle.backend_core.specs.declared.tree.LeafTest.{LeafTest}
+use Rattle.backend_core.specs.declared.tree.LeafTest.TheVariants as tests
+use Rattle.backend_core.specs.Trees.{Plain, Plains, no_parts, a_part}
+use Rattle.backend_core.specs.Trees as trees
+
+-- the name of field k
+abbrev pub name_at : List Field → ℕ → List ℕ
+name_at [] k = []
+name_at (field ∷ fields) zero = field.name
+name_at (field ∷ fields) (suc k) = name_at fields k
+
+-- "field" GLOB 'pattern' by case, and "field" LIKE 'pattern' ESCAPE '\' in any case
+abbrev pub wildcard_test : List ℕ → Bool → List Part → Leaf
+wildcard_test field true parts = fits_glob field (glob_text (sql_parts parts))
+wildcard_test field false parts = fits_like field (like_text (sql_parts parts))
+
+-- "field" = 'text', and in any case with COLLATE NOCASE
+abbrev pub plain_test : List ℕ → Bool → List Part → Leaf
+plain_test field true parts = equals_text field (plain_text parts) Unsaid
+plain_test field false parts = equals_text field (plain_text parts) NoCase
+
+abbrev pub written_test : List ℕ → LeafTest → Leaf
+written_test field tests.Has = has_value field
+written_test field tests.Absent = has_no_value field
+written_test field (tests.Fits pattern cased) =
+    if has_wildcard pattern then wildcard_test field cased pattern else plain_test field cased pattern
+
+-- a test that is unknown where there is no value
+abbrev pub is_unsure : LeafTest → Bool
+is_unsure tests.Has = false
+is_unsure tests.Absent = false
+is_unsure (tests.Fits pattern cased) = true
+
+abbrev pub guarded_test : Bool → List ℕ → LeafTest → Tree
+guarded_test guarded field test =
+    if guarded then all (leaf (has_value field)) (a_tree (leaf (written_test field test)) no_trees) else leaf (written_test field test)
+
+-- the tests of a tree that stands below an odd number of words NOT, or below an even one; an all of no parts is 1 and an
+-- any of none 0
+module _ (fields : List Field) where
+  abbrev mutual
+    pub sql_tree : Bool → Plain → Tree
+    sql_tree odd (trees.all no_parts) = leaf (constant true)
+    sql_tree odd (trees.all (a_part t ts)) = all (sql_tree odd t) (sql_trees odd ts)
+    sql_tree odd (trees.any no_parts) = leaf (constant false)
+    sql_tree odd (trees.any (a_part t ts)) = any (sql_tree odd t) (sql_trees odd ts)
+    sql_tree odd (trees.negated t) = negated (sql_tree (not odd) t)
+    sql_tree odd (trees.leaf l) = guarded_test (odd && is_unsure l.test) (name_at fields l.field) l.test
+
+    pub sql_trees : Bool → Plains → Trees
+    sql_trees odd no_parts = no_trees
+    sql_trees odd (a_part t ts) = a_tree (sql_tree odd t) (sql_trees odd ts)

@@ -1,0 +1,7 @@
+pub mod Guarded
+pub mod Schemas
+pub mod Pieces
+pub mod Depths
+pub mod Queries
+pub mod Signs
+pub mod Refused

@@ -1,0 +1,18 @@
+-- Why a tree isn't written: its expression is too deep, or else its text is too long.
+use Rattle.std.specs.Prelude.{ℕ, ◌≡◌, ◌≤◌, ◌<◌, ◌-◌, ◌^◌, ◌⊎◌, min, pos, ⊤}
+use Rattle.sig_base.specs.declared.refusal.Detail.TheVariants.{Numbers}
+use Rattle.sig_base.specs.declared.refusal.Fault.{Fault}
+use Rattle.sig_base.specs.declared.refusal.Fault.TheVariants.{Memory, Refused}
+use Rattle.sig_base.specs.declared.refusal.Place.{Place}
+use Rattle.sig_base.specs.declared.refusal.Refusal.{Refusal}
+
+-- this code, here, with what there is and what is allowed
+abbrev pub refusal : ℕ → Place → ℕ → ℕ → Refusal
+refusal code place count limit = record { code = code; place = place; detail = Numbers (pos count) (pos limit) }
+
+-- 112 with the depth, counted up to 2^64 - 1, and the limit; else 114 with the bytes and the limit
+abbrev pub IsUnwritten : (depths bytes : ℕ) → Place → (deep long : ℕ) → Fault → Type 0
+IsUnwritten depths bytes place deep long Memory = ⊤
+IsUnwritten depths bytes place deep long (Refused r) =
+    ((depths < deep) × (r ≡ refusal 112 place (min deep (2 ^ 64 - 1)) depths))
+    ⊎ ((deep ≤ depths) × (bytes < long) × (r ≡ refusal 114 place long bytes))

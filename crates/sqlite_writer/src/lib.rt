@@ -1,0 +1,17 @@
+//! Trees written as SQLite queries: with the least parentheses, and with guards where NOT would
+//! leave a missing value unknown.
+#![tactic(auto)]
+
+mod deep;
+mod law;
+mod patterns;
+mod place;
+mod putting;
+#[cfg(test)]
+mod tests;
+mod tests_of;
+mod walk;
+mod writer;
+
+pub use law::{polarity, tree_is_query};
+pub use writer::Sqlite;

@@ -1,0 +1,112 @@
+//! The query of a tree.
+
+ghost use Rattle.std.specs.Prelude.{◌≡◌, ◌≤◌, ◌^◌, ◌-◌, ℕ, length, min, pos, IfOk, IfErr};
+ghost use Rattle.backend_core.specs.Sound.{IsSound};
+ghost use Rattle.backend_core.specs.View.{tree_view};
+ghost use Rattle.sql_lang.specs.Expression.{depth};
+ghost use Rattle.sqlite_writer.specs.Queries.{query_text, query_bytes, query_expr, IsQueryOf};
+ghost use Rattle.sqlite_writer.specs.Refused.{refusal, IsUnwritten};
+ghost use Rattle.sqlite_writer.specs.Schemas.{IsTextSchema};
+
+use crate::deep::tree_depth;
+use crate::law::tree_is_query;
+use crate::place::Standing;
+use crate::putting::{characters_of, put, put_quoted};
+use crate::walk::put_tree;
+use backend_core::Tree;
+use event_schema::Schema;
+use sig_base::{Bytes, Code, Detail, Fault, Limits, Place, Refusal, Text};
+use std::alloc::Global;
+
+/// The writer of queries for SQLite.
+#[derive(Clone, Copy, Debug)]
+pub struct Sqlite;
+
+/// The characters of a tree's query.
+fn query_of(alloc: Global, schema: &Schema, tree: &Tree) -> Result<Text, Fault>
+    ensures ok { IsSound schema.now.fields (tree_view tree.now)
+        → IfOk result (λ text. text ≡ query_text schema.now (tree_view tree.now)) }
+    ensures err { IfErr result (λ e. e ≡ Fault.Memory) }
+{
+    let table = characters_of(alloc, &schema.table)?;
+    let mut out = Text::new(alloc);
+    put(&mut out, b"SELECT * FROM ")?;
+    put_quoted(&mut out, '"', table.as_slice())?;
+    put(&mut out, b" WHERE ")?;
+    put_tree(
+        alloc,
+        &mut out,
+        schema.fields.as_slice(),
+        tree,
+        Standing::InOr,
+        false,
+    )?;
+    Ok(out)
+}
+
+/// The depth of a tree's query.
+fn query_depth(schema: &Schema, tree: &Tree) -> usize
+    ensures { IsSound schema.now.fields (tree_view tree.now)
+        → result ≡ min (depth (query_expr schema.now (tree_view tree.now))) (2 ^ 64 - 1) }
+{
+    tree_depth(tree, Standing::InOr, false, None)
+}
+
+fn refused(code: Code, place: Place, count: usize, limit: usize) -> Fault
+    ensures { result ≡ Fault.Refused (refusal code place count limit) }
+{
+    Fault::Refused(Refusal {
+        code,
+        place,
+        detail: Detail::Numbers(count as i128, limit as i128),
+    })
+}
+
+impl Sqlite {
+    /// The query of a sound tree, without a line feed, however deep and long it is.
+    pub fn text(&self, alloc: Global, schema: &Schema, tree: &Tree) -> Result<Bytes, Fault>
+        ensures bytes { IsSound schema.now.fields (tree_view tree.now)
+            → IfOk result (λ bytes. bytes ≡ query_bytes schema.now (tree_view tree.now)) }
+        ensures law { IsSound schema.now.fields (tree_view tree.now) → IsTextSchema schema.now
+            → IfOk result (λ bytes. (limit : ℕ) → 1 ≤ limit
+            → depth (query_expr schema.now (tree_view tree.now)) ≤ limit
+            → IsQueryOf limit schema.now (tree_view tree.now) bytes) }
+        ensures err { IfErr result (λ e. e ≡ Fault.Memory) }
+    {
+        tree_is_query();
+        let query = query_of(alloc, schema, tree)?;
+        Bytes::copy(alloc, query.as_str().as_bytes())
+    }
+
+    /// The query of a sound tree, without a line feed. It is refused at `place` where it's deeper than
+    /// `sql_depth` (112), or else longer than `query_bytes` (114).
+    pub fn write(
+        &self,
+        alloc: Global,
+        limits: &Limits,
+        schema: &Schema,
+        tree: &Tree,
+        place: Place,
+    ) -> Result<Bytes, Fault>
+        ensures bytes { IsSound schema.now.fields (tree_view tree.now)
+            → IfOk result (λ bytes. bytes ≡ query_bytes schema.now (tree_view tree.now)) }
+        ensures law { IsSound schema.now.fields (tree_view tree.now) → IsTextSchema schema.now
+            → IfOk result (λ bytes. IsQueryOf limits.now.sql_depth schema.now (tree_view tree.now) bytes) }
+        ensures deep { IsSound schema.now.fields (tree_view tree.now)
+            → IfOk result (λ bytes. depth (query_expr schema.now (tree_view tree.now)) ≤ limits.now.sql_depth) }
+        ensures long { IfOk result (λ bytes. length bytes ≤ limits.now.query_bytes) }
+        ensures refused { IsSound schema.now.fields (tree_view tree.now) → IfErr result (λ e. IsUnwritten limits.now.sql_depth limits.now.query_bytes place
+            (depth (query_expr schema.now (tree_view tree.now))) (length (query_bytes schema.now (tree_view tree.now))) e) }
+    {
+        let depth = query_depth(schema, tree);
+        if depth > limits.sql_depth {
+            return Err(refused(Code::QUERY_TOO_DEEP, place, depth, limits.sql_depth));
+        }
+        let bytes = self.text(alloc, schema, tree)?;
+        let count = bytes.as_slice().len();
+        if count > limits.query_bytes {
+            return Err(refused(Code::QUERY_TOO_LONG, place, count, limits.query_bytes));
+        }
+        Ok(bytes)
+    }
+}
