@@ -1,6 +1,6 @@
 -- The form as a whole: what is written so is read, and what is read was written so.
 use Rattle.std.proofs.Common.{◌≡◌, ℕ, Bool, true, false, List, [], ◌∷◌, ◌++◌, refl, ap, sym, ◌∙◌, subst, Option, Some, None, append_assoc, append-nil}
-use Rattle.std.specs.Prelude.{codes, ⊤, option_map, IfSome, IfNone}
+use Rattle.std.specs.Prelude.{codes, ⊤}
 use Rattle.std.proofs.lemmas.Bool.{and_parts, and_from, eqb-true, cond-true}
 use Rattle.std.proofs.lemmas.List.{nil_from_length}
 use Rattle.std.proofs.lemmas.Slice.Eq.{bytes_eq-Decides}

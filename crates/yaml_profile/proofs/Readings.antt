@@ -1,5 +1,5 @@
 -- What the reader answers says what the bytes say.
-use Rattle.std.proofs.Common.{◌≡◌, ℕ, ◌+◌, ◌≤◌, Bool, List, [], ◌∷◌, ◌++◌, length, refl, ap, sym, ◌∙◌, arith, Option, Some, None, option_map, length-append}
+use Rattle.std.proofs.Common.{◌≡◌, ℕ, ◌+◌, ◌≤◌, Bool, List, [], ◌∷◌, ◌++◌, length, refl, ap, ◌∙◌, arith, Option, Some, None, option_map, length-append}
 use Rattle.std.specs.Prelude.{codes}
 use Rattle.yaml_profile.proofs.Cuts.{some_same}
 use Rattle.yaml_profile.proofs.Forms.{spelled, in_order, whole_parts, said, says_from, none_says}

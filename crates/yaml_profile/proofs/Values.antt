@@ -1,6 +1,6 @@
 -- Values: a plain word, or a text in single quotes, is read as it is written.
-use Rattle.std.proofs.Common.{◌≡◌, ℕ, Bool, true, false, not, List, [], ◌∷◌, ◌++◌, refl, ap, sym, ◌∙◌, subst, cond, Option, Some, None, option_map, append-nil, append_assoc}
-use Rattle.std.specs.Prelude.{codes, ◌==◌, ◌&&◌, Result, Ok, Err, IfOk}
+use Rattle.std.proofs.Common.{◌≡◌, ℕ, Bool, true, false, List, [], ◌∷◌, ◌++◌, refl, ap, sym, ◌∙◌, subst, cond, Option, Some, None, option_map, append-nil, append_assoc}
+use Rattle.std.specs.Prelude.{codes, ◌==◌, Result, Ok, Err, IfOk}
 use Rattle.std.specs.List.{list_all, flat_map}
 use Rattle.std.proofs.lemmas.Bool.{and_parts, and_from, eqb-true, cond-true, cond-false, both_ways}
 use Rattle.yaml_profile.proofs.Cuts.{lacks, lacks-append, lacks_from, some_same, cond_some, text_again, text_parts}

@@ -1,4 +1,4 @@
-use Rattle.std.proofs.Common.{◌≡◌, true, false, ap, sym, ◌∙◌}
+use Rattle.std.proofs.Common.{◌≡◌, true, false, sym}
 use Rattle.yaml_profile.proofs.Keys.{key_alone, key_alone_refused, field_refused, words_refused, words_taken}
 use Rattle.yaml_profile.specs.Words.{is_field}
 use Rattle.yaml_profile.proofs.key.key_of.Goals as goal

@@ -1,6 +1,6 @@
-use Rattle.std.proofs.Common.{◌≡◌, true, false, ◌<◌, length, ap, sym, ◌∙◌, arith}
+use Rattle.std.proofs.Common.{◌≡◌, true, false, sym}
 use Rattle.yaml_profile.proofs.Cuts.{until_shorter}
-use Rattle.yaml_profile.proofs.Keys.{ReadTo, at_first, next_word, word_refused, last_refused, last_word}
+use Rattle.yaml_profile.proofs.Keys.{next_word, word_refused, last_refused, last_word}
 use Rattle.yaml_profile.specs.Words.{is_modifier}
 use Rattle.yaml_profile.proofs.key.words_of.Goals as goal
 

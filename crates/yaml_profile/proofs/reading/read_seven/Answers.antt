@@ -1,4 +1,4 @@
-use Rattle.std.proofs.Common.{◌≡◌, ℕ, ◌≤◌, length, List, Option, Some, None, option_map, sym, arith}
+use Rattle.std.proofs.Common.{◌≤◌, length, sym, arith}
 use Rattle.yaml_profile.proofs.Readings.{no_parts, no_key, no_value, is_read, key_short}
 use Rattle.yaml_profile.specs.View.{view}
 use Rattle.yaml_profile.proofs.reading.read_seven.Goals as goal

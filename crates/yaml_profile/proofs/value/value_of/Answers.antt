@@ -1,4 +1,4 @@
-use Rattle.std.proofs.Common.{◌≡◌, ℕ, true, false, [], List, ap, sym, ◌∙◌}
+use Rattle.std.proofs.Common.{◌≡◌, true, false, sym}
 use Rattle.yaml_profile.proofs.Values.{quoted_read, plain_read, plain_refused}
 use Rattle.yaml_profile.specs.Words.{is_plain}
 use Rattle.yaml_profile.proofs.value.value_of.Goals as goal
