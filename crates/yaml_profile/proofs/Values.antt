@@ -12,7 +12,7 @@ use Rattle.yaml_profile.specs.Words.{is_word_char, is_printable, is_plain}
 abbrev pub doubled : List ℕ → List ℕ
 doubled text = flat_map (λ c. cond (c == 39) (codes "''") (c ∷ [])) text
 
--- what a text says whose value stands in quotes or not
+-- a value as it is written
 abbrev pub written_as : Bool → List ℕ → List ℕ
 written_as quoted value = cond quoted (in_quotes value) value
 
@@ -40,17 +40,17 @@ unquoted_again text (c ∷ cs) all =
     quoted_step text cs (39 ∷ []) c (c == 39) refl parts.0
     ∙ (unquoted_again (text ++ c ∷ []) cs parts.1 ∙ ap Some (move text cs c))
 
--- the quote that stands open, and what follows
-abbrev pub with_open : Bool → List ℕ → List ℕ
-with_open true rest = 39 ∷ rest
-with_open false rest = rest
+-- the quote that was read last, and what follows
+abbrev pub with_quote : Bool → List ℕ → List ℕ
+with_quote true rest = 39 ∷ rest
+with_quote false rest = rest
 
 -- what is read of the rest is the end of the text
-pub record Reads (open_quote : Bool) (text rest read : List ℕ) : Type 0 where
+pub record Reads (after_quote : Bool) (text rest read : List ℕ) : Type 0 where
   pub value : List ℕ
   pub whole : read ≡ text ++ value
   pub printable : list_all is_printable value ≡ true
-  pub spelled : with_open open_quote rest ≡ doubled value ++ 39 ∷ []
+  pub spelled : with_quote after_quote rest ≡ doubled value ++ 39 ∷ []
 
 -- a choice that gives something chose it
 cond_option : {A : Type 0} (b : Bool) (o : Option A) (x : A) → cond b o None ≡ Some x → (b ≡ true) × (o ≡ Some x)
@@ -93,7 +93,7 @@ reads_char text cs read c false is quoted other found =
     reads_other text cs read c is chosen.0 (other chosen.1)
 
 -- a text in quotes that is read was written so
-pub unquoted_parts : (open_quote : Bool) (text rest read : List ℕ) → unquoted open_quote text rest ≡ Some read → Reads open_quote text rest read
+pub unquoted_parts : (after_quote : Bool) (text rest read : List ℕ) → unquoted after_quote text rest ≡ Some read → Reads after_quote text rest read
 unquoted_parts true text [] read found = reads_end text read (some_same text read found)
 unquoted_parts false text [] read found = absurd cc
 unquoted_parts true text (c ∷ cs) read found =

@@ -31,6 +31,7 @@ pub record Slot : Type 0 where
   pub passes : List ℕ → Bool
   pub stop : ℕ
 
+-- a part that is judged later
 abbrev pub any_text : List ℕ → Bool
 any_text text = true
 
@@ -87,7 +88,8 @@ words_of text = if list_all is_modifier ((pieces text).0 ∷ (pieces text).1) th
 unfoldable pub key_of : List ℕ → Option (List ℕ × List (List ℕ))
 key_of key = if is_field (pieces key).0 && list_all is_modifier (pieces key).1 then Some (pieces key) else None
 
--- what follows a single quote: the text so far, and whether a quote stands open, which ends the text at the end
+-- the text of which this follows the opening quote, behind the text that was read so far; the flag says that the last
+-- byte was a quote, which is the closing one where nothing follows, and else the first of two
 abbrev pub unquoted : Bool → List ℕ → List ℕ → Option (List ℕ)
 unquoted true text [] = Some text
 unquoted false text [] = None

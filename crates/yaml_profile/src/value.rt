@@ -15,22 +15,26 @@ fn unquoted(alloc: Global, behind: &[u8]) -> Result<Option<Text>, Fault>
     ensures err { IfErr result (λ e. e ≡ Fault.Memory) }
 {
     let mut text = Text::new(alloc);
-    let mut open = false;
+    let mut after_quote = false;
     for b in behind {
-        if open && *b != b'\'' {
+        if after_quote && *b != b'\'' {
             return Ok(None);
         }
-        if !open && *b == b'\'' {
-            open = true;
+        if !after_quote && *b == b'\'' {
+            after_quote = true;
         } else {
             if !is_printable(*b) {
                 return Ok(None);
             }
             text.push(*b as char)?;
-            open = false;
+            after_quote = false;
         }
     }
-    if open { Ok(Some(text)) } else { Ok(None) }
+    if after_quote {
+        Ok(Some(text))
+    } else {
+        Ok(None)
+    }
 }
 
 /// Reads a value.
