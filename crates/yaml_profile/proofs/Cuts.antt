@@ -3,8 +3,9 @@ use Rattle.std.proofs.Common.{◌≡◌, ℕ, suc, ◌+◌, ◌<◌, Bool, true,
 use Rattle.std.specs.Prelude.{◌==◌, position, nat_lt, unwrap_or}
 use Rattle.std.specs.List.{list_all, position_or_len}
 use Rattle.std.specs.Str.{bytes_eq}
-use Rattle.std.proofs.lemmas.Bool.{and_parts, and_from, eqb-true, eq-eqb, ne_eqb, lt-ltb, not_from_false, cond-true, cond-false, both_ways}
-use Rattle.std.proofs.lemmas.List.{take-append-drop}
+use Rattle.std.proofs.lemmas.Bool.{and_parts, and_from, eqb-true, eq-eqb, ne_eqb, lt-ltb, ltb-false, not_from_false, cond-true, cond-false, both_ways}
+use Rattle.std.proofs.lemmas.List.{take-append-drop, take_all}
+use Rattle.std.proofs.lemmas.List.Folds.{list_all-append}
 use Rattle.std.proofs.lemmas.List.Quantifiers.{position-Some}
 use Rattle.std.proofs.lemmas.Slice.Eq.{bytes_eq-Decides}
 use Rattle.std.proofs.Math.Seq.{take-append_seam, drop-append_seam, drop-append-add}
@@ -13,6 +14,9 @@ use Rattle.yaml_profile.specs.Reading.{◌>>=◌, text_at, until, entry_at}
 -- the part has no byte of this kind
 abbrev pub lacks : ℕ → List ℕ → Bool
 lacks stop part = list_all (λ b. not (b == stop)) part
+
+pub lacks-append : (stop : ℕ) (xs ys : List ℕ) → lacks stop xs ≡ true → lacks stop ys ≡ true → lacks stop (xs ++ ys) ≡ true
+lacks-append stop xs ys first second = list_all-append (λ b. not (b == stop)) xs ys ∙ and_from _ _ first second
 
 -- what passes a test that the byte fails isn't the byte
 pub other_than : (p : ℕ → Bool) (stop b : ℕ) → p stop ≡ false → p b ≡ true → (b == stop) ≡ false
@@ -71,6 +75,49 @@ until_parts_at stop bytes part rest (Some at) is cut =
 pub until_parts : (stop : ℕ) (bytes part rest : List ℕ) → until stop bytes ≡ Some (part, rest) → bytes ≡ part ++ stop ∷ rest
 unfolding until
 until_parts stop bytes part rest cut = until_parts_at stop bytes part rest (position (λ b. b == stop) bytes) refl cut
+
+-- what stands behind a stop is shorter
+pub until_shorter : (stop : ℕ) (bytes part rest : List ℕ) → until stop bytes ≡ Some (part, rest) → length rest < length bytes
+until_shorter stop bytes part rest cut =
+    let whole : bytes ≡ part ++ stop ∷ rest = until_parts stop bytes part rest cut in
+    omega (arith, ap length whole, length-append part (stop ∷ rest))
+
+front_lacks_at : (stop b : ℕ) (bs : List ℕ) (same : Bool) → (b == stop) ≡ same → lacks stop (take (position_or_len (λ c. c == stop) bs) bs) ≡ true → lacks stop (take (position_or_len (λ c. c == stop) (b ∷ bs)) (b ∷ bs)) ≡ true
+front_lacks_at stop b bs true same later =
+    let here : position_or_len (λ c. c == stop) (b ∷ bs) ≡ 0 = cond-false (not (b == stop)) _ 0 (ap not same) in
+    ap (λ (n : ℕ). lacks stop (take n (b ∷ bs))) here
+front_lacks_at stop b bs false same later =
+    let next : position_or_len (λ c. c == stop) (b ∷ bs) ≡ suc (position_or_len (λ c. c == stop) bs) =
+    cond-true (not (b == stop)) (1 + position_or_len (λ c. c == stop) bs) 0 (ap not same) ∙ omega arith in
+    ap (λ (n : ℕ). lacks stop (take n (b ∷ bs))) next ∙ and_from _ _ (ap not same) later
+
+-- what stands before the first byte of a kind has none of it
+pub front_lacks : (stop : ℕ) (bytes : List ℕ) → lacks stop (take (position_or_len (λ b. b == stop) bytes) bytes) ≡ true
+front_lacks stop [] = refl
+front_lacks stop (b ∷ bs) = front_lacks_at stop b bs (b == stop) refl (front_lacks stop bs)
+
+until_lacks_at : (stop : ℕ) (bytes part rest : List ℕ) (at : Option ℕ) → position (λ b. b == stop) bytes ≡ at → option_map {T = ℕ} {U = List ℕ × List ℕ} (λ n. (take n bytes, drop (n + 1) bytes)) at ≡ Some (part, rest) → lacks stop part ≡ true
+until_lacks_at stop bytes part rest None is cut = absurd cc
+until_lacks_at stop bytes part rest (Some at) is cut =
+    let first = cond_some (nat_lt (position_or_len (λ b. b == stop) bytes) (length bytes)) (position_or_len (λ b. b == stop) bytes) at is in
+    let same : (take at bytes, drop (at + 1) bytes) ≡ (part, rest) = some_same _ _ cut in
+    let front : take at bytes ≡ part = ap {A = List ℕ × List ℕ} (λ p. p.0) same in
+    let before : take (position_or_len (λ b. b == stop) bytes) bytes ≡ part = ap (λ (n : ℕ). take n bytes) first.1 ∙ front in
+    ap (λ (l : List ℕ). lacks stop l) (sym before) ∙ front_lacks stop bytes
+
+pub until_lacks : (stop : ℕ) (bytes part rest : List ℕ) → until stop bytes ≡ Some (part, rest) → lacks stop part ≡ true
+unfolding until
+until_lacks stop bytes part rest cut = until_lacks_at stop bytes part rest (position (λ b. b == stop) bytes) refl cut
+
+until_none_at : (stop : ℕ) (bytes : List ℕ) (before : Bool) → nat_lt (position_or_len (λ b. b == stop) bytes) (length bytes) ≡ before → option_map {T = ℕ} {U = List ℕ × List ℕ} (λ n. (take n bytes, drop (n + 1) bytes)) (cond before (Some (position_or_len (λ b. b == stop) bytes)) None) ≡ None → lacks stop bytes ≡ true
+until_none_at stop bytes true is cut = absurd cc
+until_none_at stop bytes false is cut =
+    let whole : take (position_or_len (λ b. b == stop) bytes) bytes ≡ bytes = take_all _ bytes (ltb-false _ _ is) in
+    ap (λ (l : List ℕ). lacks stop l) (sym whole) ∙ front_lacks stop bytes
+
+pub until_none : (stop : ℕ) (bytes : List ℕ) → until stop bytes ≡ None → lacks stop bytes ≡ true
+unfolding until
+until_none stop bytes cut = until_none_at stop bytes (nat_lt (position_or_len (λ b. b == stop) bytes) (length bytes)) refl cut
 
 pub text_again : (text rest : List ℕ) → text_at text (text ++ rest) ≡ Some rest
 text_again text rest =

@@ -1,15 +1,17 @@
 -- The form as a whole: what is written so is read, and what is read was written so.
-use Rattle.std.proofs.Common.{◌≡◌, ℕ, true, false, List, [], ◌∷◌, ◌++◌, refl, ap, sym, ◌∙◌, subst, Option, Some, None, append_assoc, append-nil}
-use Rattle.std.specs.Prelude.{codes, ⊤, option_map, IfSome, IfNone}
-use Rattle.std.proofs.lemmas.Bool.{and_parts, and_from, eqb-true, leb-true, le-leb, cond-true}
+use Rattle.std.proofs.Common.{◌≡◌, ℕ, Bool, true, false, List, [], ◌∷◌, ◌++◌, refl, ap, sym, ◌∙◌, subst, Option, Some, None, append_assoc, append-nil}
+use Rattle.std.specs.Prelude.{codes, ⊤}
+use Rattle.std.proofs.lemmas.Bool.{and_parts, and_from, eqb-true, cond-true}
 use Rattle.std.proofs.lemmas.List.{nil_from_length}
 use Rattle.std.proofs.lemmas.Slice.Eq.{bytes_eq-Decides}
 use Rattle.std.specs.Prelude.{◌⊎◌}
 use Rattle.std.proofs.Common.{inl, inr}
-use Rattle.yaml_profile.proofs.Cuts.{lacks, lacks_from, some_same, cond_some, bind_some, entry_again, entry_parts}
-use Rattle.yaml_profile.specs.Reading.{◌>>=◌, entry_at, Slot, slots, parts_at, is_whole, simple_of, all_of}
-use Rattle.yaml_profile.specs.SevenLines.{Simple, spelling, Says}
-use Rattle.yaml_profile.specs.Words.{is_word_char, is_name_char, is_word, is_field, is_detection}
+use Rattle.yaml_profile.proofs.Cuts.{lacks, some_same, cond_some, bind_some, entry_again, entry_parts}
+use Rattle.yaml_profile.proofs.Keys.{field_lacks, key_again, key_parts, key_lacks}
+use Rattle.yaml_profile.proofs.Values.{plain_lacks, value_again, value_parts, value_lacks}
+use Rattle.yaml_profile.specs.Reading.{◌>>=◌, entry_at, Slot, slots, parts_at, Parts, is_whole, whole_of, parts_of, key_of, value_of, simple_of, all_of}
+use Rattle.yaml_profile.specs.SevenLines.{Simple, key_text, value_text, spelling, Says}
+use Rattle.yaml_profile.specs.Words.{is_name_char, is_word, is_detection}
 
 -- the parts in a row, each after its text and before its stop, and then a rest
 abbrev pub spelled : List Slot → List (List ℕ) → List ℕ → List ℕ
@@ -54,21 +56,19 @@ regroup : (a b c d e g i t k n x y : List ℕ) →
     ≡ ((a ++ t) ++ 10 ∷ []) ++ ((b ++ 10 ∷ []) ++ (((c ++ k) ++ 10 ∷ []) ++ ((d ++ 10 ∷ []) ++ ((((e ++ n) ++ 58 ∷ []) ++ 10 ∷ []) ++ (((((g ++ x) ++ 58 ∷ 32 ∷ []) ++ y) ++ 10 ∷ []) ++ (((i ++ n) ++ 10 ∷ []) ++ []))))))
 regroup a b c d e g i t k n x y = simp (append_assoc, append-nil) refl
 
--- the parts of the form
-abbrev pub parts_of : Simple → List (List ℕ)
-parts_of s = s.title ∷ s.category ∷ s.name ∷ s.field ∷ s.value ∷ s.name ∷ []
+-- the parts of the form, in their order
+abbrev pub in_order : Parts → List (List ℕ)
+in_order p = p.title ∷ p.category ∷ p.name ∷ p.key ∷ p.written ∷ p.name ∷ []
 
-pub spelled_parts : (s : Simple) → spelled slots (parts_of s) [] ≡ spelling s
-spelled_parts s = regroup (codes "title: ") (codes "logsource:") (codes "  category: ") (codes "detection:") (codes "  ") (codes "    ") (codes "  condition: ") s.title s.category s.name s.field s.value
+-- the parts as they are written
+abbrev pub written_parts : Simple → Parts
+written_parts s = record { title = s.title; category = s.category; name = s.name; key = key_text s; written = value_text s }
+
+pub spelled_parts : (s : Simple) → spelled slots (in_order (written_parts s)) [] ≡ spelling s
+spelled_parts s = regroup (codes "title: ") (codes "logsource:") (codes "  category: ") (codes "detection:") (codes "  ") (codes "    ") (codes "  condition: ") s.title s.category s.name (key_text s) (value_text s)
 
 pub word_lacks : (part : List ℕ) → is_word part ≡ true → lacks 10 part ≡ true
-word_lacks part ok =
-    let outer = and_parts _ _ ok in
-    let inner = and_parts _ _ outer.0 in
-    lacks_from is_word_char 10 part refl inner.1
-
-pub field_lacks : (stop : ℕ) (part : List ℕ) → is_name_char stop ≡ false → is_field part ≡ true → lacks stop part ≡ true
-field_lacks stop part other ok = lacks_from is_name_char stop part other (and_parts _ _ ok).1
+word_lacks part ok = plain_lacks part (and_parts _ _ ok).0
 
 pub detection_lacks : (stop : ℕ) (part : List ℕ) → is_name_char stop ≡ false → is_detection part ≡ true → lacks stop part ≡ true
 detection_lacks stop part other ok =
@@ -76,76 +76,105 @@ detection_lacks stop part other ok =
     let inner = and_parts _ _ outer.0 in
     field_lacks stop part other inner.0
 
--- what says something is read as it
-pub all_again : (value_chars : ℕ) (bytes : List ℕ) (s : Simple) → Says value_chars bytes s → all_of value_chars bytes ≡ Some s
-unfolding all_of
-all_again value_chars bytes s says =
-    let f = says.fits in
-    let passing : Passing slots (parts_of s) = (f.title, (f.category, (f.name, (f.field, (f.value, (f.name, tt)))))) in
-    let lacking : Lacking slots (parts_of s) =
-    (word_lacks s.title f.title, (word_lacks s.category f.category, (detection_lacks 58 s.name refl f.name, (field_lacks 58 s.field refl f.field, (word_lacks s.value f.value, (detection_lacks 10 s.name refl f.name, tt)))))) in
-    let written : bytes ≡ spelled slots (parts_of s) [] = says.spelled ∙ sym (spelled_parts s) in
-    let read : parts_at slots bytes ≡ Some (parts_of s, []) = ap (λ (b : List ℕ). parts_at slots b) written ∙ parts_again slots (parts_of s) [] passing lacking in
-    let whole : is_whole value_chars s.name s.value s.name [] ≡ true =
-    and_from _ _ (and_from _ _ ((bytes_eq-Decides s.name s.name).1 refl) (le-leb _ _ f.short)) refl in
-    ap (λ (o : Option (List (List ℕ) × List ℕ)). o >>= simple_of value_chars) read ∙ cond-true (is_whole value_chars s.name s.value s.name []) (Some s) None whole
+-- parts that are written so are read
+pub whole_again : (bytes : List ℕ) (p : Parts) → bytes ≡ spelled slots (in_order p) [] → Passing slots (in_order p) → Lacking slots (in_order p) → parts_of bytes ≡ Some p
+unfolding parts_of
+whole_again bytes p written passing lacking =
+    let read : parts_at slots bytes ≡ Some (in_order p, []) = ap (λ (b : List ℕ). parts_at slots b) written ∙ parts_again slots (in_order p) [] passing lacking in
+    let whole : is_whole p.name p.name [] ≡ true = and_from _ _ ((bytes_eq-Decides p.name p.name).1 refl) refl in
+    ap (λ (o : Option (List (List ℕ) × List ℕ)). o >>= whole_of) read ∙ cond-true (is_whole p.name p.name []) (Some p) None whole
 
--- what the parts say
-says_from : (value_chars : ℕ) (bytes rest : List ℕ) (parts : List (List ℕ)) (s : Simple) → bytes ≡ spelled slots parts rest → Passing slots parts → simple_of value_chars (parts, rest) ≡ Some s → Says value_chars bytes s
-says_from v bytes rest [] s is ok found = absurd ok
-says_from v bytes rest (t ∷ []) s is ok found = absurd ok.1
-says_from v bytes rest (t ∷ k ∷ []) s is ok found = absurd ok.1.1
-says_from v bytes rest (t ∷ k ∷ n ∷ []) s is ok found = absurd ok.1.1.1
-says_from v bytes rest (t ∷ k ∷ n ∷ x ∷ []) s is ok found = absurd ok.1.1.1.1
-says_from v bytes rest (t ∷ k ∷ n ∷ x ∷ y ∷ []) s is ok found = absurd ok.1.1.1.1.1
-says_from v bytes rest (t ∷ k ∷ n ∷ x ∷ y ∷ a ∷ z ∷ zs) s is ok found = absurd ok.1.1.1.1.1.1
-says_from v bytes rest (t ∷ k ∷ n ∷ x ∷ y ∷ a ∷ []) s is ok found =
-    let read : Simple = record { title = t; category = k; name = n; field = x; value = y } in
-    let chosen = cond_some (is_whole v n y a rest) read s found in
+-- what says something is read as it
+pub all_again : (bytes : List ℕ) (s : Simple) → Says bytes s → all_of bytes ≡ Some s
+unfolding all_of
+all_again bytes s says =
+    let f = says.fits in
+    let passing : Passing slots (in_order (written_parts s)) = (f.title, (f.category, (f.name, (refl, (refl, (f.name, tt)))))) in
+    let lacking : Lacking slots (in_order (written_parts s)) =
+    (word_lacks s.title f.title, (word_lacks s.category f.category, (detection_lacks 58 s.name refl f.name, (key_lacks 58 s.field s.words refl refl refl f.field f.words, (value_lacks s.quoted s.value f.value, (detection_lacks 10 s.name refl f.name, tt)))))) in
+    let read : parts_of bytes ≡ Some (written_parts s) = whole_again bytes (written_parts s) (says.spelled ∙ sym (spelled_parts s)) passing lacking in
+    let key : key_of (key_text s) ≡ Some (s.field, s.words) = key_again s.field s.words f.field f.words in
+    let value : value_of (value_text s) ≡ Some (s.quoted, s.value) = value_again s.quoted s.value f.value in
+    ap (λ (o : Option Parts). o >>= simple_of) read ∙ rw (key, value) refl
+
+-- what is read of the parts was written so
+pub record WrittenAs (bytes : List ℕ) (p : Parts) : Type 0 where
+  pub spelled : bytes ≡ spelled slots (in_order p) []
+  pub title : is_word p.title ≡ true
+  pub category : is_word p.category ≡ true
+  pub name : is_detection p.name ≡ true
+
+whole_from : (bytes rest : List ℕ) (parts : List (List ℕ)) (p : Parts) → bytes ≡ spelled slots parts rest → Passing slots parts → whole_of (parts, rest) ≡ Some p → WrittenAs bytes p
+whole_from bytes rest [] p is ok found = absurd ok
+whole_from bytes rest (t ∷ []) p is ok found = absurd ok.1
+whole_from bytes rest (t ∷ k ∷ []) p is ok found = absurd ok.1.1
+whole_from bytes rest (t ∷ k ∷ n ∷ []) p is ok found = absurd ok.1.1.1
+whole_from bytes rest (t ∷ k ∷ n ∷ x ∷ []) p is ok found = absurd ok.1.1.1.1
+whole_from bytes rest (t ∷ k ∷ n ∷ x ∷ y ∷ []) p is ok found = absurd ok.1.1.1.1.1
+whole_from bytes rest (t ∷ k ∷ n ∷ x ∷ y ∷ a ∷ z ∷ zs) p is ok found = absurd ok.1.1.1.1.1.1
+whole_from bytes rest (t ∷ k ∷ n ∷ x ∷ y ∷ a ∷ []) p is ok found =
+    let read : Parts = record { title = t; category = k; name = n; key = x; written = y } in
+    let chosen = cond_some (is_whole n a rest) read p found in
     let outer = and_parts _ _ chosen.0 in
-    let inner = and_parts _ _ outer.0 in
-    let same : a ≡ n = (bytes_eq-Decides a n).0 inner.0 in
+    let same : a ≡ n = (bytes_eq-Decides a n).0 outer.0 in
     let empty : rest ≡ [] = nil_from_length rest (eqb-true _ _ outer.1) in
-    let written : bytes ≡ spelling read =
-    is ∙ (ap (λ (p : List ℕ). spelled slots (t ∷ k ∷ n ∷ x ∷ y ∷ p ∷ []) rest) same ∙ (ap (λ (r : List ℕ). spelled slots (parts_of read) r) empty ∙ spelled_parts read)) in
-    let says : Says v bytes read = record {
-      fits = record { title = ok.0; category = ok.1.0; name = ok.1.1.0; field = ok.1.1.1.0; value = ok.1.1.1.1.0; short = leb-true _ _ inner.1 };
-      spelled = written;
-    } in
-    subst (λ (r : Simple). Says v bytes r) chosen.1 says
+    let written : bytes ≡ spelled slots (in_order read) [] =
+    is ∙ (ap (λ (l : List ℕ). spelled slots (t ∷ k ∷ n ∷ x ∷ y ∷ l ∷ []) rest) same ∙ ap (λ (r : List ℕ). spelled slots (in_order read) r) empty) in
+    let one : WrittenAs bytes read = record { spelled = written; title = ok.0; category = ok.1.0; name = ok.1.1.0 } in
+    subst (λ (r : Parts). WrittenAs bytes r) chosen.1 one
+
+-- parts that are read were written so
+pub whole_parts : (bytes : List ℕ) (p : Parts) → parts_of bytes ≡ Some p → WrittenAs bytes p
+unfolding parts_of
+whole_parts bytes p found =
+    let middle = bind_some (parts_at slots bytes) whole_of p found in
+    let written = parts_parts slots bytes middle.0 middle.1 in
+    whole_from bytes middle.0.1 middle.0.0 p written.0 written.1 middle.2
+
+abbrev parts_with : Parts → List ℕ → List ℕ → Parts
+parts_with p key written = record { title = p.title; category = p.category; name = p.name; key = key; written = written }
+
+-- what the parts that were read say
+abbrev pub said : Parts → List ℕ × List (List ℕ) → Bool × List ℕ → Simple
+said p key value =
+    record { title = p.title; category = p.category; name = p.name; field = key.0; words = key.1; quoted = value.0; value = value.1 }
+
+pub says_from : (bytes : List ℕ) (p : Parts) (key : List ℕ × List (List ℕ)) (value : Bool × List ℕ) → parts_of bytes ≡ Some p → key_of p.key ≡ Some key → value_of p.written ≡ Some value → Says bytes (said p key value)
+says_from bytes p key value read key_read value_read =
+    let whole = whole_parts bytes p read in
+    let k = key_parts p.key key key_read in
+    let v = value_parts p.written value value_read in
+    let s : Simple = said p key value in
+    let parts : p ≡ written_parts s =
+    ap (λ (l : List ℕ). parts_with p l p.written) k.0 ∙ ap (λ (l : List ℕ). parts_with p (key_text s) l) v.spelled in
+    record {
+      fits = record { title = whole.title; category = whole.category; name = whole.name; field = k.1; words = k.2; value = v.fits };
+      spelled = whole.spelled ∙ (ap (λ (q : Parts). spelled slots (in_order q) []) parts ∙ spelled_parts s);
+    }
 
 -- what is read was said
-pub all_parts : (value_chars : ℕ) (bytes : List ℕ) (s : Simple) → all_of value_chars bytes ≡ Some s → Says value_chars bytes s
+pub all_parts : (bytes : List ℕ) (s : Simple) → all_of bytes ≡ Some s → Says bytes s
 unfolding all_of
-all_parts value_chars bytes s found =
-    let middle = bind_some (parts_at slots bytes) (simple_of value_chars) s found in
-    let written = parts_parts slots bytes middle.0 middle.1 in
-    says_from value_chars bytes middle.0.1 middle.0.0 s written.0 written.1 middle.2
+all_parts bytes s found =
+    let first = bind_some (parts_of bytes) simple_of s found in
+    let second = bind_some (key_of first.0.key) _ s first.2 in
+    let third = bind_some (value_of first.0.written) _ s second.2 in
+    subst (λ (r : Simple). Says bytes r) (some_same _ _ third.2) (says_from bytes first.0 second.0 third.0 first.1 second.1 third.1)
 
 -- a file has one reading
-pub says_once : (value_chars : ℕ) (bytes : List ℕ) (s t : Simple) → Says value_chars bytes s → Says value_chars bytes t → s ≡ t
-says_once value_chars bytes s t first second =
-    some_same s t (sym (all_again value_chars bytes s first) ∙ all_again value_chars bytes t second)
+pub says_once : (bytes : List ℕ) (s t : Simple) → Says bytes s → Says bytes t → s ≡ t
+says_once bytes s t first second = some_same s t (sym (all_again bytes s first) ∙ all_again bytes t second)
 
--- a reader that gives what `all_of` gives, with its own way of holding it
-pub found_says : {T : Type 0} (view : T → Simple) (value_chars : ℕ) (bytes : List ℕ) (result : Option T) → option_map view result ≡ all_of value_chars bytes → IfSome result (λ s. Says value_chars bytes (view s))
-found_says view value_chars bytes None gives = tt
-found_says view value_chars bytes (Some s) gives = all_parts value_chars bytes (view s) (sym gives)
-
-pub none_says : {T : Type 0} (view : T → Simple) (value_chars : ℕ) (bytes : List ℕ) (result : Option T) → option_map view result ≡ all_of value_chars bytes → IfNone result ((s : Simple) → Says value_chars bytes s → ⊥)
-none_says view value_chars bytes (Some s) gives = tt
-none_says view value_chars bytes None gives = λ s says. nothing s (gives ∙ all_again value_chars bytes s says)
+pub none_says : (bytes : List ℕ) → all_of bytes ≡ None → (s : Simple) → Says bytes s → ⊥
+none_says bytes none s says = nothing s (sym none ∙ all_again bytes s says)
   where
     nothing : (s : Simple) → None ≡ Some s → ⊥
     nothing s same = cc
 
-judged_at : (value_chars : ℕ) (bytes : List ℕ) (read : Option Simple) → all_of value_chars bytes ≡ read → ((s : Simple) × Says value_chars bytes s) ⊎ ((s : Simple) → Says value_chars bytes s → ⊥)
-judged_at value_chars bytes (Some s) is = inl (s, all_parts value_chars bytes s is)
-judged_at value_chars bytes None is = inr (λ s says. nothing s (sym is ∙ all_again value_chars bytes s says))
-  where
-    nothing : (s : Simple) → None ≡ Some s → ⊥
-    nothing s same = cc
+judged_at : (bytes : List ℕ) (read : Option Simple) → all_of bytes ≡ read → ((s : Simple) × Says bytes s) ⊎ ((s : Simple) → Says bytes s → ⊥)
+judged_at bytes (Some s) is = inl (s, all_parts bytes s is)
+judged_at bytes None is = inr (none_says bytes is)
 
 -- a file says something, or nothing at all
-pub judged : (value_chars : ℕ) (bytes : List ℕ) → ((s : Simple) × Says value_chars bytes s) ⊎ ((s : Simple) → Says value_chars bytes s → ⊥)
-judged value_chars bytes = judged_at value_chars bytes (all_of value_chars bytes) refl
+pub judged : (bytes : List ℕ) → ((s : Simple) × Says bytes s) ⊎ ((s : Simple) → Says bytes s → ⊥)
+judged bytes = judged_at bytes (all_of bytes) refl

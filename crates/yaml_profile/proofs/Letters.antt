@@ -1,11 +1,12 @@
 -- The characters of words and names are of ASCII, and none is U+0000.
-use Rattle.std.proofs.Common.{◌≡◌, ℕ, ◌<◌, ◌≤◌, Bool, true, List, [], ◌∷◌, refl, arith, inl, inr, nat_lt}
+use Rattle.std.proofs.Common.{◌≡◌, ℕ, ◌<◌, ◌≤◌, Bool, true, false, List, [], ◌∷◌, refl, arith, inl, inr, nat_lt}
 use Rattle.std.specs.Prelude.{◌==◌, nat_le, ◌&&◌, ◌||◌}
 use Rattle.std.specs.List.{list_all}
 use Rattle.std.proofs.lemmas.Bool.{and_parts, and_from, or_cases, leb-true, eqb-true, lt-ltb}
 use Rattle.sig_base.specs.Texts.{is_ascii}
 use Rattle.yaml_profile.specs.SevenLines.{Simple, Says}
-use Rattle.yaml_profile.specs.Words.{is_letter, is_digit, is_word_char, is_name_char}
+use Rattle.yaml_profile.specs.Words.{is_letter, is_digit, is_word_char, is_name_char, is_printable, is_modifier_char, is_modifier}
+use Rattle.yaml_profile.proofs.Values.{is_value}
 
 -- what passes one test passes a weaker one
 pub all_weaker : (p q : ℕ → Bool) (text : List ℕ) → ((c : ℕ) → p c ≡ true → q c ≡ true) → list_all p text ≡ true → list_all q text ≡ true
@@ -45,11 +46,30 @@ word_between c =
     (either (is_letter c || is_digit c || c == 95) (c == 46) c (name_between c) (exact 46 c (omega arith) (omega arith)))
     (exact 39 c (omega arith) (omega arith))
 
-pub says_ascii : (value_chars : ℕ) (bytes : List ℕ) (s : Simple) → Says value_chars bytes s → (is_ascii s.field ≡ true) × (is_ascii s.value ≡ true) × (list_all (λ c. nat_lt 0 c) s.value ≡ true)
-says_ascii value_chars bytes s says =
+modifier_between : (c : ℕ) → is_modifier_char c ≡ true → Between c
+modifier_between c = either (nat_le 97 c && nat_le c 122) (is_digit c) c (range 97 122 c (omega arith) (omega arith)) (range 48 57 c (omega arith) (omega arith))
+
+-- what passes such a test is of ASCII, and has no U+0000
+ascii_from : (p : ℕ → Bool) (text : List ℕ) → ((c : ℕ) → p c ≡ true → Between c) → list_all p text ≡ true → is_ascii text ≡ true
+ascii_from p text between all = all_weaker p (λ c. nat_lt c 128) text (λ c ok. lt-ltb c 128 (between c ok).1) all
+
+above_from : (p : ℕ → Bool) (text : List ℕ) → ((c : ℕ) → p c ≡ true → Between c) → list_all p text ≡ true → list_all (λ c. nat_lt 0 c) text ≡ true
+above_from p text between all = all_weaker p (λ c. nat_lt 0 c) text (λ c ok. lt-ltb 0 c (between c ok).0) all
+
+words_ascii : (words : List (List ℕ)) → list_all is_modifier words ≡ true → list_all is_ascii words ≡ true
+words_ascii [] _ = refl
+words_ascii (w ∷ ws) all =
+    let parts = and_parts (is_modifier w) (list_all is_modifier ws) all in
+    and_from _ _ (ascii_from is_modifier_char w modifier_between (and_parts _ _ parts.0).1) (words_ascii ws parts.1)
+
+value_ascii : (quoted : Bool) (value : List ℕ) → is_value quoted value ≡ true → (is_ascii value ≡ true) × (list_all (λ c. nat_lt 0 c) value ≡ true)
+value_ascii true value ok = (ascii_from is_printable value (λ c. range 32 126 c (omega arith) (omega arith)) ok, above_from is_printable value (λ c. range 32 126 c (omega arith) (omega arith)) ok)
+value_ascii false value ok =
+    let chars : list_all is_word_char value ≡ true = (and_parts _ _ (and_parts _ _ ok).0).1 in
+    (ascii_from is_word_char value word_between chars, above_from is_word_char value word_between chars)
+
+pub says_ascii : (bytes : List ℕ) (s : Simple) → Says bytes s → (is_ascii s.field ≡ true) × (list_all is_ascii s.words ≡ true) × (is_ascii s.value ≡ true) × (list_all (λ c. nat_lt 0 c) s.value ≡ true)
+says_ascii bytes s says =
     let names : list_all is_name_char s.field ≡ true = (and_parts _ _ says.fits.field).1 in
-    let letters : list_all is_word_char s.value ≡ true = (and_parts _ _ (and_parts _ _ says.fits.value).0).1 in (
-      all_weaker is_name_char (λ c. nat_lt c 128) s.field (λ c ok. lt-ltb c 128 (name_between c ok).1) names,
-      all_weaker is_word_char (λ c. nat_lt c 128) s.value (λ c ok. lt-ltb c 128 (word_between c ok).1) letters,
-      all_weaker is_word_char (λ c. nat_lt 0 c) s.value (λ c ok. lt-ltb 0 c (word_between c ok).0) letters,
-    )
+    let value = value_ascii s.quoted s.value says.fits.value in
+    (ascii_from is_name_char s.field name_between names, words_ascii s.words says.fits.words, value.0, value.1)

@@ -37,8 +37,24 @@ first_is passes [] = false
 first_is passes (c ∷ cs) = passes c
 
 -- a text that a plain scalar spells
+abbrev pub is_plain : List ℕ → Bool
+is_plain text = first_is is_letter text && list_all is_word_char text && not (is_one_of reserved_scalars text)
+
+-- a text that a plain scalar spells, of at most 128 characters
 abbrev pub is_word : List ℕ → Bool
-is_word text = first_is is_letter text && nat_le (length text) 128 && list_all is_word_char text && not (is_one_of reserved_scalars text)
+is_word text = is_plain text && nat_le (length text) 128
+
+-- from U+0020 to U+007E
+abbrev pub is_printable : ℕ → Bool
+is_printable c = nat_le 32 c && nat_le c 126
+
+-- a small letter or a digit
+abbrev pub is_modifier_char : ℕ → Bool
+is_modifier_char c = nat_le 97 c && nat_le c 122 || is_digit c
+
+-- a word behind a field's name
+abbrev pub is_modifier : List ℕ → Bool
+is_modifier word = not (length word == 0) && list_all is_modifier_char word
 
 -- the name of a field
 abbrev pub is_field : List ℕ → Bool

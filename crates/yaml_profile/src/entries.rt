@@ -5,12 +5,12 @@ ghost use Rattle.std.specs.Option.{option_copied};
 ghost use Rattle.yaml_profile.specs.Reading as reading;
 ghost use Rattle.yaml_profile.specs.Words as words;
 
-use crate::words::{is_detection, is_field, is_word};
+use crate::words::{is_detection, is_word};
 
 /// What an entry is, and what follows it.
 pub(super) type Cut<'a> = (&'a [u8], &'a [u8]);
 
-fn text_at<'a>(text: &[u8], bytes: &'a [u8]) -> Option<&'a [u8]>
+pub(super) fn text_at<'a>(text: &[u8], bytes: &'a [u8]) -> Option<&'a [u8]>
     ensures { option_copied result ≡ reading.text_at text.now bytes.now }
 {
     bytes.strip_prefix(text)
@@ -23,7 +23,7 @@ fn place_of(stop: u8, bytes: &[u8]) -> Option<usize>
 }
 
 #[tactic(auto, unfolding(crate::specs::Reading::until))]
-fn until(stop: u8, bytes: &[u8]) -> Option<Cut<'_>>
+pub(super) fn until(stop: u8, bytes: &[u8]) -> Option<Cut<'_>>
     ensures { option_map (λ cut. (cut.0.now, cut.1.now)) result ≡ reading.until stop bytes.now }
 {
     let at = place_of(stop, bytes)?;
@@ -57,15 +57,10 @@ pub(super) fn detection_entry<'a>(text: &[u8], stop: u8, bytes: &'a [u8]) -> Opt
     }
 }
 
+/// Any text, up to `stop`.
 #[tactic(auto, unfolding(crate::specs::Reading::entry_at))]
-pub(super) fn field_entry<'a>(text: &[u8], bytes: &'a [u8]) -> Option<Cut<'a>>
-    ensures { option_map (λ cut. (cut.0.now, cut.1.now)) result ≡ reading.entry_at text.now words.is_field 58 bytes.now }
+pub(super) fn any_entry<'a>(text: &[u8], stop: u8, bytes: &'a [u8]) -> Option<Cut<'a>>
+    ensures { option_map (λ cut. (cut.0.now, cut.1.now)) result ≡ reading.entry_at text.now reading.any_text stop bytes.now }
 {
-    let rest = text_at(text, bytes)?;
-    let (part, after) = until(b':', rest)?;
-    if is_field(part) {
-        Some((part, after))
-    } else {
-        None
-    }
+    until(stop, text_at(text, bytes)?)
 }

@@ -7,16 +7,16 @@ ghost use Rattle.yaml_profile.specs.SevenLines.{Simple, Says};
 
 /// A file has one reading.
 pub fn one_reading()
-    ensures { (value_chars : ℕ) (bytes : List ℕ) (s t : Simple) → Says value_chars bytes s → Says value_chars bytes t → s ≡ t }
+    ensures { (bytes : List ℕ) (s t : Simple) → Says bytes s → Says bytes t → s ≡ t }
 {}
 
 /// A file says something, or nothing at all.
 pub fn says_or_not()
-    ensures { (value_chars : ℕ) (bytes : List ℕ) → ((s : Simple) × Says value_chars bytes s) ⊎ ((s : Simple) → Says value_chars bytes s → ⊥) }
+    ensures { (bytes : List ℕ) → ((s : Simple) × Says bytes s) ⊎ ((s : Simple) → Says bytes s → ⊥) }
 {}
 
-/// What a file says is spelled in ASCII, without U+0000.
+/// What a file says is spelled in ASCII, the value without U+0000.
 pub fn words_are_ascii()
-    ensures { (value_chars : ℕ) (bytes : List ℕ) (s : Simple) → Says value_chars bytes s
-        → (is_ascii s.field ≡ true) × (is_ascii s.value ≡ true) × (list_all (λ c. nat_lt 0 c) s.value ≡ true) }
+    ensures { (bytes : List ℕ) (s : Simple) → Says bytes s
+        → (is_ascii s.field ≡ true) × (list_all is_ascii s.words ≡ true) × (is_ascii s.value ≡ true) × (list_all (λ c. nat_lt 0 c) s.value ≡ true) }
 {}

@@ -3,10 +3,15 @@
 
 pub use law::{one_reading, says_or_not, words_are_ascii};
 pub use reading::read_seven;
-pub use seven_lines::SevenLines;
+pub use simple_rule::SimpleRule;
 
 mod entries;
+mod key;
 mod law;
 mod reading;
 mod seven_lines;
+mod simple_rule;
+#[cfg(test)]
+mod tests;
+mod value;
 mod words;

@@ -1,14 +1,14 @@
-//! What a simple rule file says.
+//! The parts of a simple rule file.
 
-/// The five words of a simple rule file, lent by its bytes; all of them are ASCII.
+/// The parts that differ from file to file, lent by its bytes.
 #[derive(Clone, Copy, Debug)]
-pub struct SevenLines<'a> {
-    pub title: &'a [u8],
-    pub category: &'a [u8],
+pub(super) struct SevenLines<'a> {
+    pub(super) title: &'a [u8],
+    pub(super) category: &'a [u8],
     /// The name of the one detection.
-    pub name: &'a [u8],
-    /// The one field of the detection.
-    pub field: &'a [u8],
-    /// The value that the field is to have.
-    pub value: &'a [u8],
+    pub(super) name: &'a [u8],
+    /// The key of the detection: a field and its modifiers.
+    pub(super) key: &'a [u8],
+    /// The value, as it is written.
+    pub(super) written: &'a [u8],
 }

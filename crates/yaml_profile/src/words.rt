@@ -87,25 +87,55 @@ fn begins_as_name(text: &[u8]) -> bool
     }
 }
 
-/// Whether the text is one that a plain scalar spells: 1 to 128 letters, digits and some signs, the first a letter.
-pub fn is_word(text: &[u8]) -> bool
+/// Whether the text is one that a plain scalar spells: letters, digits and some signs, the first a letter.
+pub(super) fn is_plain(text: &[u8]) -> bool
+    ensures { result ≡ words.is_plain text.now }
+{
+    begins_with_letter(text) && are_word_chars(text) && !is_reserved_scalar(text)
+}
+
+/// Whether the text is one that a plain scalar spells, of at most 128 characters.
+pub(super) fn is_word(text: &[u8]) -> bool
     ensures { result ≡ words.is_word text.now }
 {
-    begins_with_letter(text)
-        && text.len() <= 128
-        && are_word_chars(text)
-        && !is_reserved_scalar(text)
+    is_plain(text) && text.len() <= 128
+}
+
+/// Whether the character is one that may stand in single quotes.
+pub(super) fn is_printable(c: u8) -> bool
+    ensures { result ≡ words.is_printable c }
+{
+    (b' '..=b'~').contains(&c)
+}
+
+fn is_modifier_char(c: u8) -> bool
+    ensures { result ≡ words.is_modifier_char c }
+{
+    c.is_ascii_lowercase() || c.is_ascii_digit()
+}
+
+fn are_modifier_chars(word: &[u8]) -> bool
+    ensures { result ≡ list_all words.is_modifier_char word.now }
+{
+    word.iter().all(|c| is_modifier_char(*c))
+}
+
+/// Whether the text is a word behind a field's name: small letters and digits, at least one.
+pub(super) fn is_modifier(word: &[u8]) -> bool
+    ensures { result ≡ words.is_modifier word.now }
+{
+    !word.is_empty() && are_modifier_chars(word)
 }
 
 /// Whether the text is a field's name: 1 to 64 letters, digits and `_`, the first not a digit.
-pub fn is_field(text: &[u8]) -> bool
+pub(super) fn is_field(text: &[u8]) -> bool
     ensures { result ≡ words.is_field text.now }
 {
     begins_as_name(text) && text.len() <= 64 && are_name_chars(text)
 }
 
 /// Whether the text is a detection's name: a field's name that means nothing else in a rule.
-pub fn is_detection(text: &[u8]) -> bool
+pub(super) fn is_detection(text: &[u8]) -> bool
     ensures { result ≡ words.is_detection text.now }
 {
     is_field(text) && !is_reserved_scalar(text) && !is_reserved_name(text)
