@@ -1,0 +1,183 @@
+-- What the blocks' reading gives is laid out in the lines.
+use Rattle.std.proofs.Common.{◌≡◌, ℕ, zero, suc, Bool, true, false, not, cond, ◌&&◌, ◌||◌, ◌==◌, ◌⊎◌, inl, inr, List, [], ◌∷◌, ◌++◌, drop, None, is_some, Result, Ok, Err, refl, sym, ap, ◌∙◌, subst}
+use Rattle.yaml_tree.specs.Tree.{At, Scalar, null, text, Tree, scalar, list, map, Elements, no_elements, element, Members, no_members, member}
+use Rattle.yaml_lines.specs.File.{Line, begins, skip_blanks, carries_nothing, ends_line}
+use Rattle.yaml_lines.specs.Line.{spot, Stop, refused, unclosed, Read, ◌>>=◌, body, barred, stray, is_dash, is_left_out, starts_plain}
+use Rattle.yaml_lines.specs.Scalar.{resolved}
+use Rattle.yaml_lines.specs.Flow.{quoted, is_quote, is_bracket, flow_node, flow_scalar, flow_elements, flow_members, inside_open, front_map, map_from, Front, is_seen}
+use Rattle.yaml_lines.specs.Key.{Keyed, keyed, unkeyed, key_stop, key_at}
+use Rattle.yaml_blocks.specs.Blocks.{skip_void, alone, plain_text, block_scalar}
+use Rattle.yaml_blocks.specs.Reading.{Item, items_of, offset, is_level, after_spaces, element_in, elements_in, value_in, new_key, head_in, entries_in, sequence_in, map_in, lone_in, node_in, node_with, block_from, block_with, block_in, too_deep}
+use Rattle.yaml_blocks.specs.Lays.{IsAlone, IsQuoted, IsFlow, IsBlockScalar, IsPlain, IsScalar, IsNoCollection, IsDashed, IsKeyed, LaysBlock, LaysElement, LaysValue, LaysNode, LaysElements, LaysMembers, Lays}
+use Rattle.yaml_blocks.proofs.Tools.{choose, allowed, bind_ok, ok_same, either, neither, both, none_of, not_false}
+use Rattle.yaml_blocks.proofs.Cases.{lists, maps, node_cases, nothing_ok, alone_ok}
+
+-- ---- flow collections
+
+front_ok : {A B : Type 0} (f : A → B) (r : Front A) (q : B × List ℕ) → front_map f r ≡ Ok q → (x : A) × (f x ≡ q.0)
+front_ok f r q e = let (p, at, same) = bind_ok r _ q e in (p.0, cc)
+
+inside_ok : {A : Type 0} (a : At) (c : ℕ) (r : Read A) (x : A) → inside_open a c r ≡ Ok x → r ≡ Ok x
+inside_ok a c (Ok y) x e = e
+inside_ok a c (Err (refused code place)) x e = cc
+inside_ok a c (Err (unclosed n opens)) x e = cc
+
+-- a bracket makes a collection
+map_from-scalar : (bracket a : At) (s : Scalar) (ms : Members) → map_from bracket ms ≡ scalar a s → ⊥
+map_from-scalar bracket a s no_members e = cc
+map_from-scalar bracket a s (member k b t ms) e = cc
+
+flow_no_scalar : (d : ℕ) (l : Line) (cs : List ℕ) (a : At) (s : Scalar) (rest : List ℕ) → is_bracket cs ≡ true → flow_node d l cs ≡ Ok (scalar a s, rest) → ⊥
+unfolding flow_node
+flow_no_scalar zero l cs a s rest b e = let (clear, more) = allowed (is_bracket cs) _ _ _ e in cc
+flow_no_scalar (suc d) l cs a s rest b e =
+    elim (choose (begins 91 cs) _ _ _ e) [
+      | inl h ↦ let (es, same) = front_ok _ _ _ (inside_ok _ _ _ _ h.1) in cc
+      | inr h ↦ elim (choose (begins 123 cs) _ _ _ h.1) [
+          | inl g ↦ let (ms, same) = front_ok _ _ _ (inside_ok _ _ _ _ g.1) in map_from-scalar _ a s ms same
+          | inr g ↦ elim (either (begins 91 cs) (begins 123 cs) b) [ inl p ↦ cc | inr p ↦ cc ]
+        ]
+    ]
+
+flow_zero : (l : Line) (cs : List ℕ) (t : Tree) (rest : List ℕ) → is_bracket cs ≡ true → flow_node zero l cs ≡ Ok (t, rest) → ⊥
+unfolding flow_node
+flow_zero l cs t rest b e = let (clear, more) = allowed (is_bracket cs) _ _ _ e in cc
+
+flow_lays : (t : Tree) (d : ℕ) (may : Bool) (m : ℕ) (l : Line) (cs : List ℕ) (ls : List Line) → IsNoCollection may l cs → IsFlow t d l cs ls → LaysNode t d may m l cs ls
+flow_lays (scalar a s) d may m l cs ls none h = absurd (flow_no_scalar d l cs a s h.1 h.0 h.2)
+flow_lays (list a es) zero may m l cs ls none h = flow_zero l cs (list a es) h.1 h.0 h.2
+flow_lays (list a es) (suc d) may m l cs ls none h = inl (none, h)
+flow_lays (map a ms) zero may m l cs ls none h = flow_zero l cs (map a ms) h.1 h.0 h.2
+flow_lays (map a ms) (suc d) may m l cs ls none h = inl (none, h)
+
+-- ---- what begins no block collection
+
+lone_sound : (d : ℕ) (may : Bool) (m : ℕ) (l : Line) (cs : List ℕ) (ls : List Line) (t : Tree) → IsNoCollection may l cs → lone_in d m l cs ls ≡ Ok t → LaysNode t d may m l cs ls
+unfolding lone_in
+lone_sound d may m l cs ls t none e =
+    let P : Tree → Type 0 = λ t. LaysNode t d may m l cs ls in
+    elim (choose (is_left_out cs || (begins 37 cs && offset l cs == 0)) _ _ _ e) [ | inl left ↦ cc | inr left ↦
+    elim (choose (is_quote cs) _ _ _ left.1) [
+      | inl q ↦
+          let (p, at, more) = bind_ok _ _ _ q.1 in
+          let (alone, same) = alone_ok l _ _ _ _ more in
+          let laid : P (scalar (spot l cs) (text p.0)) = (none, refl, inl (p.0, refl, inl (q.0, p.1, at, alone))) in
+          subst P same laid
+      | inr q ↦ elim (choose (is_bracket cs) _ _ _ q.1) [
+          | inl b ↦
+              let (p, at, more) = bind_ok _ _ _ b.1 in
+              let (alone, same) = alone_ok l _ _ _ _ more in
+              subst P same (flow_lays p.0 d may m l cs ls none (b.0, p.1, at, alone))
+          | inr b ↦ elim (choose (begins 124 cs || begins 62 cs) _ _ _ b.1) [
+              | inl k ↦
+                  let (p, at, more) = bind_ok _ _ _ k.1 in
+                  let laid : P (scalar (spot l cs) (text p)) = (none, refl, inl (p, refl, inr (k.0, at))) in
+                  subst P (ok_same _ _ more) laid
+              | inr k ↦ elim (choose (starts_plain cs) _ _ _ k.1) [
+                  | inl s ↦
+                      let (p, at, more) = bind_ok _ _ _ s.1 in
+                      let laid : P (scalar (spot l cs) (resolved p)) = (none, refl, inr (s.0, (neither (is_left_out cs) _ left.0).0, p, at, refl)) in
+                      subst P (ok_same _ _ more) laid
+                  | inr s ↦ cc
+                ]
+            ]
+        ]
+    ] ]
+
+-- ---- blocks, elements and entries, over nodes that are sound
+
+abbrev pub NodesSound : ℕ → Type 0
+NodesSound d = (may : Bool) (m : ℕ) (l : Line) (cs : List ℕ) (ls : List Line) (t : Tree) → node_in d may m l cs ls ≡ Ok t → LaysNode t d may m l cs ls
+
+pub block_sound : (d : ℕ) → NodesSound d → (m : ℕ) (home : At) (ls : List Line) (t : Tree) → block_with (node_in d) m home ls ≡ Ok t
+    → LaysBlock (λ may m l cs ls. LaysNode t d may m l cs ls) t m home ls
+block_sound d sound m home ls t e = by (skip_void ls) refl e where
+  by : (xs : List Line) → skip_void ls ≡ xs → block_from (node_in d) m home xs ≡ Ok t → LaysBlock (λ may m l cs ls. LaysNode t d may m l cs ls) t m home ls
+  by [] is e = inl (is, sym (ok_same _ _ e))
+  by (first ∷ more) is e =
+      let (open_line, at) = allowed (is_some (barred first)) _ _ _ e in
+      inr (first, more, is, none_of _ open_line, sound true m first (body first) more t at)
+
+pub element_sound : (d : ℕ) → NodesSound d → (i : ℕ) (x : Item) (t : Tree) → element_in (block_with (node_in d)) (node_in d) i x ≡ Ok t
+    → LaysElement (λ may m l cs ls. LaysNode t d may m l cs ls) t i x
+unfolding element_in
+element_sound d sound i x t e =
+    elim (choose (carries_nothing (drop 1 x.text)) _ _ _ e) [
+      | inl h ↦ inl (h.0, block_sound d sound _ _ _ t h.1)
+      | inr h ↦ inr (h.0, sound _ _ _ _ _ t h.1)
+    ]
+
+pub value_sound : (d : ℕ) → NodesSound d → (i : ℕ) (x : Item) (rest : List ℕ) (t : Tree) → value_in (block_with (node_in d)) (node_in d) i x rest ≡ Ok t
+    → LaysValue (λ may m l cs ls. LaysNode t d may m l cs ls) t i x rest
+unfolding value_in
+value_sound d sound i x rest t e =
+    elim (choose (carries_nothing rest) _ _ _ e) [
+      | inl h ↦ inl (h.0, block_sound d sound _ _ _ t h.1)
+      | inr h ↦ inr (h.0, sound _ _ _ _ _ t h.1)
+    ]
+
+elements_sound : (d : ℕ) → NodesSound d → (i : ℕ) (xs : List Item) (es : Elements) → elements_in (block_with (node_in d)) (node_in d) i xs ≡ Ok es → LaysElements es d i xs
+elements_sound d sound i [] es e = subst (λ (es : Elements). LaysElements es d i []) (ok_same _ _ e) refl
+elements_sound d sound i (x ∷ xs) es e =
+    let (open_line, e1) = allowed (is_some (barred x.line)) _ _ _ e in
+    let (dash, e2) = allowed (not (is_level i x && is_dash x.text)) _ _ _ e1 in
+    let (t, at, e3) = bind_ok _ _ _ e2 in
+    let (ts, more, same) = bind_ok _ _ _ e3 in
+    let there = both _ _ (not_false _ dash) in
+    let laid : LaysElements (element t ts) d i (x ∷ xs) =
+        (x, xs, refl, record { open_line = none_of _ open_line; level = there.0; dash = there.1 }, element_sound d sound i x t at, elements_sound d sound i xs ts more) in
+    subst (λ (es : Elements). LaysElements es d i (x ∷ xs)) (ok_same _ _ same) laid
+
+pub head_ok : (block : ℕ → At → List Line → Read Tree) (node : Bool → ℕ → Line → List ℕ → List Line → Read Tree) (i : ℕ) (seen : List (List ℕ)) (x : Item) (k : List ℕ × List ℕ) → head_in block node i seen x ≡ Ok k → IsKeyed i seen k.0 k.1 (spot x.line x.text) x
+unfolding head_in
+head_ok block node i seen x k e =
+    let (open_line, e1) = allowed (is_some (barred x.line)) _ _ _ e in
+    let (level, e2) = allowed (not (is_level i x)) _ _ _ e1 in
+    by (key_at x.line x.text) refl (none_of _ open_line) (not_false _ level) e2 where
+      by : (found : Keyed) → key_at x.line x.text ≡ found → barred x.line ≡ None → is_level i x ≡ true → new_key block node seen x found ≡ Ok k → IsKeyed i seen k.0 k.1 (spot x.line x.text) x
+      by (keyed name rest) at open_line level e =
+          let (fresh, same) = allowed (is_seen name seen) _ _ _ e in
+          let one = ok_same _ _ same in
+          subst (λ (k : List ℕ × List ℕ). IsKeyed i seen k.0 k.1 (spot x.line x.text) x) one
+          (record { open_line = open_line; level = level; key = at; fresh = fresh; place = refl })
+      by unkeyed at open_line level e = cc
+      by (key_stop s) at open_line level e = cc
+
+entries_sound : (d : ℕ) → NodesSound d → (i : ℕ) (seen : List (List ℕ)) (xs : List Item) (ms : Members)
+    → entries_in (block_with (node_in d)) (node_in d) i seen xs ≡ Ok ms → LaysMembers ms d i seen xs
+entries_sound d sound i seen [] ms e = subst (λ (ms : Members). LaysMembers ms d i seen []) (ok_same _ _ e) refl
+entries_sound d sound i seen (x ∷ xs) ms e =
+    let (k, key, e1) = bind_ok _ _ _ e in
+    let (t, at, e2) = bind_ok _ _ _ e1 in
+    let (others, more, same) = bind_ok _ _ _ e2 in
+    let laid : LaysMembers (member k.0 (spot x.line x.text) t others) d i seen (x ∷ xs) =
+        (x, xs, refl, k.1, head_ok _ _ i seen x k key, value_sound d sound i x k.1 t at, entries_sound d sound i (seen ++ k.0 ∷ []) xs others more) in
+    subst (λ (ms : Members). LaysMembers ms d i seen (x ∷ xs)) (ok_same _ _ same) laid
+
+-- ---- nodes
+
+pub nodes_sound : (d : ℕ) → NodesSound d
+unfolding node_in
+nodes_sound zero may m l cs ls t e =
+    elim (node_cases too_deep too_deep zero may m l cs ls (Ok t) e) [
+      | inl h ↦ lone_sound zero may m l cs ls t h.0 h.1
+      | inr (inl h) ↦ cc
+      | inr (inr (inl h)) ↦ cc
+      | inr (inr (inr h)) ↦ cc
+    ]
+nodes_sound (suc d) may m l cs ls t e =
+    elim (node_cases (lists d) (maps d) (suc d) may m l cs ls (Ok t) e) [
+      | inl h ↦ lone_sound (suc d) may m l cs ls t h.0 h.1
+      | inr (inl h) ↦
+          let (es, at, same) = bind_ok _ _ _ h.2 in
+          let laid : LaysNode (list (spot l cs) es) (suc d) may m l cs ls = inr (h.0, h.1, refl, elements_sound d (nodes_sound d) _ _ es at) in
+          subst (λ (t : Tree). LaysNode t (suc d) may m l cs ls) (ok_same _ _ same) laid
+      | inr (inr (inl h)) ↦
+          let (ms, at, same) = bind_ok _ _ _ h.5 in
+          let laid : LaysNode (map (spot l cs) ms) (suc d) may m l cs ls = inr (h.0, h.1, refl, entries_sound d (nodes_sound d) _ _ _ ms at) in
+          subst (λ (t : Tree). LaysNode t (suc d) may m l cs ls) (ok_same _ _ same) laid
+      | inr (inr (inr h)) ↦ cc
+    ]
+
+pub reads_trees : (depth : ℕ) (home : At) (ls : List Line) (t : Tree) → block_in depth 0 home ls ≡ Ok t → Lays t depth home ls
+reads_trees depth home ls t e = block_sound depth (nodes_sound depth) 0 home ls t e

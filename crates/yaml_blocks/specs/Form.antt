@@ -1,0 +1,88 @@
+-- Where a reading stops, by cases: what stands before is whole, and at the place a rule asks for something that doesn't stand there.
+use Rattle.std.specs.Prelude.{◌≡◌, ℕ, zero, suc, Bool, true, false, ◌&&◌, ◌⊎◌, List, [], ◌∷◌, ◌++◌, drop, None, is_some, Err}
+use Rattle.yaml_tree.specs.Tree.{Tree}
+use Rattle.yaml_lines.specs.File.{Line, skip_blanks, carries_nothing}
+use Rattle.yaml_lines.specs.Line.{spot, Stop, refused, syntax, body, barred, stray, is_dash}
+use Rattle.yaml_lines.specs.Flow.{is_seen}
+use Rattle.yaml_lines.specs.Key.{keyed, unkeyed, key_stop, key_at}
+use Rattle.yaml_blocks.specs.Blocks.{skip_void}
+use Rattle.yaml_blocks.specs.Reading.{Item, items_of, offset, is_level, after_spaces, lone_in}
+use Rattle.yaml_blocks.specs.Lays.{IsNoCollection, IsDashed, IsKeyed, LaysElement, LaysValue, LaysNode}
+
+-- A node is asked for: no collection begins there, and the scalar, the flow collection or what follows it stops; or the key stops.
+abbrev pub StopsLone : ℕ → Bool → ℕ → Line → List ℕ → List Line → Stop → Type 0
+StopsLone d may m l cs ls s =
+    (IsNoCollection may l cs × (lone_in d m l cs ls ≡ Err s))
+    ⊎ ((may ≡ true) × (is_dash cs ≡ false) × (key_at l cs ≡ key_stop s))
+
+-- a collection begins there
+abbrev pub IsList : Bool → List ℕ → Type 0
+IsList may cs = (may ≡ true) × (is_dash cs ≡ true)
+
+abbrev pub IsMap : Bool → Line → List ℕ → Type 0
+IsMap may l cs = (may ≡ true) × (is_dash cs ≡ false) × (k : List ℕ) × (rest : List ℕ) × (key_at l cs ≡ keyed k rest)
+
+-- The nodes inside are d deep at most, and stop as N says.
+module _ (d : ℕ) (N : Bool → ℕ → Line → List ℕ → List Line → Stop → Type 0) where
+  -- A line's start and its indentation are asked for, and then a node.
+  abbrev pub StopsBlock : ℕ → List Line → Stop → Type 0
+  StopsBlock m ls s =
+      (first : Line) × (more : List Line) × (skip_void ls ≡ first ∷ more)
+      × (((is_some (barred first) ≡ true) × (s ≡ stray first)) ⊎ ((barred first ≡ None) × N true m first (body first) more s))
+
+  -- behind a dash
+  abbrev pub StopsBehindDash : ℕ → Item → Stop → Type 0
+  StopsBehindDash i x s =
+      ((carries_nothing (drop 1 x.text) ≡ true) × StopsBlock (suc i) x.inner s)
+      ⊎ ((carries_nothing (drop 1 x.text) ≡ false) × N (after_spaces (drop 1 x.text)) (suc i) x.line (skip_blanks (drop 1 x.text)) x.inner s)
+
+  -- behind a key and its colon
+  abbrev pub StopsBehindKey : ℕ → Item → List ℕ → Stop → Type 0
+  StopsBehindKey i x rest s =
+      ((carries_nothing rest ≡ true) × StopsBlock (suc i) x.inner s)
+      ⊎ ((carries_nothing rest ≡ false) × N false (suc i) x.line (skip_blanks rest) x.inner s)
+
+  -- A dash is asked for at this indentation.
+  abbrev pub StopsElement : ℕ → Item → Stop → Type 0
+  StopsElement i x s =
+      ((is_some (barred x.line) ≡ true) × (s ≡ stray x.line))
+      ⊎ ((barred x.line ≡ None) × (is_level i x && is_dash x.text ≡ false) × (s ≡ syntax x.line))
+      ⊎ (IsDashed i x × StopsBehindDash i x s)
+
+  -- A key is asked for at this indentation, which isn't one of those seen.
+  abbrev pub StopsEntry : ℕ → List (List ℕ) → Item → Stop → Type 0
+  StopsEntry i seen x s =
+      ((is_some (barred x.line) ≡ true) × (s ≡ stray x.line))
+      ⊎ ((barred x.line ≡ None) × (is_level i x ≡ false) × (s ≡ syntax x.line))
+      ⊎ ((barred x.line ≡ None) × (is_level i x ≡ true) × (key_at x.line x.text ≡ key_stop s))
+      ⊎ ((barred x.line ≡ None) × (is_level i x ≡ true) × (key_at x.line x.text ≡ unkeyed) × (s ≡ syntax x.line))
+      ⊎ ((barred x.line ≡ None) × (is_level i x ≡ true) × (k : List ℕ) × (rest : List ℕ) × (key_at x.line x.text ≡ keyed k rest) × (is_seen k seen ≡ true)
+      × (s ≡ refused 5 (spot x.line x.text)))
+      ⊎ ((k : List ℕ) × (rest : List ℕ) × IsKeyed i seen k rest (spot x.line x.text) x × StopsBehindKey i x rest s)
+
+  -- The first items are whole, and the next one stops.
+  abbrev pub StopsElements : ℕ → List Item → Stop → Type 0
+  StopsElements i [] s = ⊥
+  StopsElements i (x ∷ xs) s =
+      StopsElement i x s
+      ⊎ (IsDashed i x × (t : Tree) × LaysElement (λ may m l cs ls. LaysNode t d may m l cs ls) t i x × StopsElements i xs s)
+
+  abbrev pub StopsEntries : ℕ → List (List ℕ) → List Item → Stop → Type 0
+  StopsEntries i seen [] s = ⊥
+  StopsEntries i seen (x ∷ xs) s =
+      StopsEntry i seen x s
+      ⊎ ((k : List ℕ) × (rest : List ℕ) × IsKeyed i seen k rest (spot x.line x.text) x × (t : Tree)
+      × LaysValue (λ may m l cs ls. LaysNode t d may m l cs ls) t i x rest × StopsEntries i (seen ++ k ∷ []) xs s)
+
+-- A node that begins there stops so: a collection past the depth, or what its items stop for.
+abbrev pub StopsNode : ℕ → Bool → ℕ → Line → List ℕ → List Line → Stop → Type 0
+StopsNode zero may m l cs ls s =
+    StopsLone zero may m l cs ls s ⊎ ((IsList may cs ⊎ IsMap may l cs) × (s ≡ refused 6 (spot l cs)))
+StopsNode (suc d) may m l cs ls s =
+    StopsLone (suc d) may m l cs ls s
+    ⊎ (IsList may cs × StopsElements d (StopsNode d) (offset l cs) (items_of false l cs ls) s)
+    ⊎ (IsMap may l cs × StopsEntries d (StopsNode d) (offset l cs) [] (items_of true l cs ls) s)
+
+-- where and why the reading of a document's lines stops
+abbrev pub Stops : ℕ → List Line → Stop → Type 0
+Stops depth ls s = StopsBlock depth (StopsNode depth) 0 ls s

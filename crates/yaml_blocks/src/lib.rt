@@ -1,0 +1,7 @@
+//! Blocks of a YAML document: how a tree is laid out in lines, where a reading stops, and the laws of both.
+#![tactic(auto)]
+
+pub mod laws;
+pub mod lines;
+mod plain;
+mod texts;

@@ -1,0 +1,96 @@
+//! Plain scalars that go on over further lines (YAML 1.2, 7.3.3 and 6.5 on folding).
+
+ghost use Rattle.std.specs.Prelude.{◌≡◌, ◌≤◌, ◌++◌, length, drop, Ok, IfOk, OnOk};
+ghost use Rattle.yaml_lines.specs.Scalar as scalar;
+ghost use Rattle.yaml_lines.specs.View.{line_view, Gives};
+ghost use Rattle.yaml_blocks.specs.Blocks as spec;
+ghost use Rattle.yaml_blocks.specs.Views.{lines_view, done};
+ghost use Rattle.yaml_blocks.specs.Furthers.{further_view, text_given, behind_text};
+
+use crate::lines::{body, indent, is_barred, is_bare, is_void, lines_behind, nothing_in, stray};
+use crate::texts::{push_all, push_feeds};
+use sig_base::Text;
+use std::alloc::{AllocError, Global};
+use yaml_lines::flow::no_reading;
+use yaml_lines::plain::{plain_front, plain_rest};
+use yaml_lines::scan::ends_line;
+use yaml_lines::{Halt, Line};
+
+/// A line behind a plain scalar: empty, a comment, text, or text that a comment ends.
+enum Further<'t> {
+    Empty,
+    Comment,
+    Text(&'t [char]),
+    Last(&'t [char]),
+}
+
+#[tactic(auto, unfolding(crate::specs::Blocks::further))]
+fn further_line<'t>(least: usize, line: &Line<'t>) -> Result<Further<'t>, Halt>
+    ensures { Gives further_view result (spec.further least (line_view line.now)) }
+{
+    if is_bare(line) {
+        return Ok(Further::Empty);
+    }
+    if is_void(line) {
+        return Ok(Further::Comment);
+    }
+    if is_barred(line) {
+        return Err(stray(line));
+    }
+    let rest = body(line);
+    let after = plain_rest(false, rest);
+    if indent(line) < least || !ends_line(after) {
+        return Err(no_reading(line));
+    }
+    let front = plain_front(false, rest);
+    if after.is_empty() {
+        Ok(Further::Text(front))
+    } else {
+        Ok(Further::Last(front))
+    }
+}
+
+/// The text with what the further lines add to it.
+#[tactic(auto, using(crate::proofs::Turns::plain_stop, crate::proofs::Turns::plain_empty, crate::proofs::Turns::plain_more, crate::proofs::Turns::comment_ok, crate::proofs::Turns::comment_err, crate::proofs::Turns::last_ok, crate::proofs::Turns::last_err, crate::proofs::Turns::plain_end))]
+pub fn more_plain(
+    alloc: Global,
+    least: usize,
+    lines: &[Line<'_>],
+    first: Text,
+) -> Result<Text, Halt>
+    ensures { Gives text_given result (behind_text first (spec.more_plain least 0 (lines_view lines.now))) }
+{
+    let mut content = first;
+    let mut empty = 0;
+    for (at, line) in lines.iter().enumerate() {
+        match further_line(least, line)? {
+            Further::Empty => empty += 1,
+            Further::Comment => {
+                nothing_in(lines_behind(lines, at + 1))?;
+                return Ok(content);
+            }
+            Further::Text(text) => {
+                push_joined(&mut content, empty, text)?;
+                empty = 0;
+            }
+            Further::Last(text) => {
+                nothing_in(lines_behind(lines, at + 1))?;
+                push_joined(&mut content, empty, text)?;
+                return Ok(content);
+            }
+        }
+    }
+    Ok(content)
+}
+
+/// Adds a line's text behind so many empty lines.
+fn push_joined(content: &mut Text, empty: usize, text: &[char]) -> Result<(), AllocError>
+    ensures { OnOk result (content.new ≡ content.old ++ (scalar.plain_joint empty ++ text.now)) }
+{
+    if empty == 0 {
+        content.push(' ')?;
+    } else {
+        push_feeds(content, empty)?;
+    }
+    push_all(content, text)
+}

@@ -1,0 +1,15 @@
+-- What the reader of keys gives.
+use Rattle.std.specs.Prelude.{◌≡◌, ℕ, List, Option, Some, None, IfSome, Result, Ok, Err}
+use Rattle.std.specs.Borrow.{Bor}
+use Rattle.yaml_lines.specs.declared.halt.Halt.{Halt}
+use Rattle.yaml_lines.specs.Key.{Keyed, keyed, unkeyed, key_stop}
+use Rattle.yaml_lines.specs.View.{halt_view}
+
+abbrev pub key_view : Option (List ℕ × Bor (List ℕ)) → Keyed
+key_view None = unkeyed
+key_view (Some p) = keyed p.0 p.1.now
+
+-- the result is what stands there, unless memory ran out
+abbrev pub KeyIs : Result (Option (List ℕ × Bor (List ℕ))) Halt → Keyed → Type 0
+KeyIs (Ok o) found = found ≡ key_view o
+KeyIs (Err h) found = IfSome (halt_view h) (λ s. found ≡ key_stop s)

@@ -1,0 +1,9 @@
+pub mod File
+pub mod Line
+pub mod Scalar
+pub mod Flow
+pub mod Key
+pub mod View
+pub mod Quotes
+pub mod SeenKeys
+pub mod Keys

@@ -1,0 +1,17 @@
+//! One line of YAML: blanks, scalars, quotes, keys and flow collections.
+#![tactic(auto)]
+
+pub use halt::{Halt, Opening};
+pub use line::Line;
+
+pub mod flow;
+mod halt;
+pub mod key;
+mod line;
+pub mod plain;
+pub mod quote;
+pub mod scan;
+mod seen;
+#[cfg(test)]
+mod tests;
+pub mod word;
