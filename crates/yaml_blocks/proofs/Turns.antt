@@ -2,10 +2,11 @@
 use Rattle.std.proofs.Common.{◌≡◌, ℕ, zero, suc, ◌+◌, ◌<◌, ◌≤◌, Bool, true, false, List, [], ◌∷◌, ◌++◌, length, get_or, drop, Result, Ok, Err, refl, sym, ap, ◌∙◌, arith, append_assoc, append-nil}
 use Rattle.std.proofs.lemmas.List.{drop_more, at_drop_all}
 use Rattle.yaml_lines.specs.declared.line.Line as code
-use Rattle.yaml_lines.specs.Line.{Stop, Read, ◌>>=◌, is_void, stray}
+use Rattle.yaml_lines.specs.File.{Line, is_empty, ends_line}
+use Rattle.yaml_lines.specs.Line.{Stop, Read, ◌>>=◌, is_void, stray, plain_front, plain_rest}
 use Rattle.yaml_lines.specs.View.{line_view}
 use Rattle.yaml_lines.specs.Scalar.{feeds, plain_joint}
-use Rattle.yaml_blocks.specs.Blocks.{nothing_from, nothing_in, skip_void, Further, empty_line, comment_line, text_line, last_line, further, add_line, more_plain}
+use Rattle.yaml_blocks.specs.Blocks.{nothing_from, nothing_in, skip_void, Further, empty_line, comment_line, text_line, last_line, further, add_line, more_plain, plain_text}
 use Rattle.yaml_blocks.specs.Furthers.{behind_text}
 use Rattle.yaml_blocks.specs.Views.{lines_view}
 
@@ -80,3 +81,11 @@ pub plain_end : (m n i : ℕ) (t : List ℕ) (xs : List code.Line) → length xs
 unfolding more_plain
 plain_end m n i t xs h =
     at_drop_all (λ (ys : List code.Line). behind_text t (more_plain m n (lines_view ys))) xs i h ∙ ap (λ (ys : List ℕ). Ok ys) (append-nil t)
+
+pub text_goes_on : (m : ℕ) (l : Line) (cs t : List ℕ) (ls : List Line) → is_empty (plain_rest false cs) ≡ true → t ≡ plain_front false cs → plain_text m l cs ls ≡ behind_text t (more_plain m 0 ls)
+unfolding plain_text
+text_goes_on m l cs t ls e t_is = rw (e, t_is) refl
+
+pub text_stops : (m : ℕ) (l : Line) (cs : List ℕ) (ls : List Line) (s : Stop) → is_empty (plain_rest false cs) ≡ false → ends_line (plain_rest false cs) ≡ true → nothing_in ls ≡ Err s → plain_text m l cs ls ≡ Err s
+unfolding plain_text
+text_stops m l cs ls s e ends stop = rw (e, ends, stop) refl

@@ -94,15 +94,16 @@ plain_text m l cs ls =
 
 -- ---- block scalars
 
+abbrev pub digit_first : List ℕ → Bool
+digit_first [] = false
+digit_first (c ∷ cs) = is_digit c
+
 -- what the head of a block scalar asks for
 abbrev pub head_end : Line → Ending → List ℕ → Read Ending
 head_end l e cs =
     if digit_first cs then Err (refused 3 (spot l cs))
     else if ends_line cs then Ok e
-    else Err (syntax l) where
-      digit_first : List ℕ → Bool
-      digit_first [] = false
-      digit_first (c ∷ cs) = is_digit c
+    else Err (syntax l)
 
 abbrev pub head_of : Line → List ℕ → Read Ending
 head_of l cs =

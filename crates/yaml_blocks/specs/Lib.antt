@@ -6,3 +6,4 @@ pub mod Laws
 pub mod Documents
 pub mod Views
 pub mod Furthers
+pub mod Endings

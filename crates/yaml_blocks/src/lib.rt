@@ -3,5 +3,6 @@
 
 pub mod laws;
 pub mod lines;
-mod plain;
+pub mod plain;
+pub mod scalar;
 mod texts;

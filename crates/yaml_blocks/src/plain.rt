@@ -14,6 +14,7 @@ use std::alloc::{AllocError, Global};
 use yaml_lines::flow::no_reading;
 use yaml_lines::plain::{plain_front, plain_rest};
 use yaml_lines::scan::ends_line;
+use yaml_lines::word::text_of;
 use yaml_lines::{Halt, Line};
 
 /// A line behind a plain scalar: empty, a comment, text, or text that a comment ends.
@@ -93,4 +94,27 @@ fn push_joined(content: &mut Text, empty: usize, text: &[char]) -> Result<(), Al
         push_feeds(content, empty)?;
     }
     push_all(content, text)
+}
+
+/// The text of the plain scalar that begins here, which may go on over the lines of its block.
+#[tactic(auto, unfolding(crate::specs::Blocks::plain_text))]
+pub fn plain_text(
+    alloc: Global,
+    least: usize,
+    line: &Line<'_>,
+    rest: &[char],
+    lines: &[Line<'_>],
+) -> Result<Text, Halt>
+    ensures { Gives text_given result (spec.plain_text least (line_view line.now) rest.now (lines_view lines.now)) }
+{
+    let first = text_of(alloc, plain_front(false, rest))?;
+    let after = plain_rest(false, rest);
+    if after.is_empty() {
+        return more_plain(alloc, least, lines, first);
+    }
+    if !ends_line(after) {
+        return Err(no_reading(line));
+    }
+    nothing_in(lines)?;
+    Ok(first)
 }

@@ -1,0 +1,7 @@
+use Rattle.std.proofs.Common.{◌≡◌, take}
+use Rattle.yaml_lines.specs.Scalar.{literal}
+use Rattle.yaml_blocks.specs.Endings.{texts_view}
+use Rattle.yaml_blocks.proofs.scalar.push_literal.Given as goal
+
+abbrev pub invariant-loop-at : goal.invariant-loop-at
+invariant-loop-at l = l.content ≡ literal (texts_view (take l.at l.texts))
