@@ -26,5 +26,7 @@ mod real;
 mod refusal;
 mod shelf;
 mod streams;
+#[cfg(test)]
+mod tests;
 mod text;
 mod texts;

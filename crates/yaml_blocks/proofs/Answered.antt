@@ -1,13 +1,12 @@
 -- Each document with content has exactly one answer.
-use Rattle.std.proofs.Common.{◌≡◌, ℕ, Bool, true, false, not, cond, ◌&&◌, ◌||◌, List, [], ◌∷◌, ◌++◌, ◌⊎◌, inl, inr, Result, Ok, Err, refl, sym, ap, ◌∙◌, subst, append_assoc, append-nil}
+use Rattle.std.proofs.Common.{◌≡◌, ℕ, Bool, true, false, List, [], ◌∷◌, ◌++◌, ◌⊎◌, inl, inr, Err, refl, sym, ap, ◌∙◌, subst, append_assoc, append-nil}
 use Rattle.std.specs.List.{list_any, list_all}
-use Rattle.yaml_tree.specs.Tree.{At, Tree, Answer, tree, refusal}
+use Rattle.yaml_tree.specs.Tree.{At, tree, refusal}
 use Rattle.yaml_lines.specs.File.{Line, is_marker, carries}
-use Rattle.yaml_lines.specs.Line.{Stop, Read}
+use Rattle.yaml_lines.specs.Line.{Stop}
 use Rattle.yaml_blocks.specs.Reading.{block_in}
 use Rattle.yaml_blocks.specs.Laws.{HasTree}
-use Rattle.yaml_blocks.specs.Form.{Stops}
-use Rattle.yaml_blocks.specs.Documents.{home, is_regular, has_content, Alive, IsRefusedAt, IsCode, IsAnswer, code_at, read_code, stop_code, syntax_code, EachAnswered, OneAnswer}
+use Rattle.yaml_blocks.specs.Documents.{home, is_regular, has_content, Alive, IsRefusedAt, IsCode, code_at, EachAnswered, OneAnswer}
 use Rattle.yaml_blocks.proofs.Tools.{neither, both}
 use Rattle.yaml_blocks.proofs.Complete.{reads_all}
 use Rattle.yaml_blocks.proofs.Stopped.{stops_by_cases, cases_stop}

@@ -1,13 +1,13 @@
 -- What a node's reading is, by what begins there.
-use Rattle.std.proofs.Common.{◌≡◌, ℕ, Bool, true, false, not, cond, ◌⊎◌, inl, inr, List, [], ◌∷◌, Result, Ok, Err, refl, sym, ◌∙◌}
-use Rattle.yaml_tree.specs.Tree.{Tree, scalar, null}
+use Rattle.std.proofs.Common.{◌≡◌, ℕ, Bool, true, false, ◌⊎◌, inl, inr, List, [], ◌∷◌, Ok, Err, refl}
+use Rattle.yaml_tree.specs.Tree.{Tree}
 use Rattle.yaml_lines.specs.File.{Line, ends_line}
-use Rattle.yaml_lines.specs.Line.{Stop, Read, ◌>>=◌, is_dash, stray}
+use Rattle.yaml_lines.specs.Line.{Stop, Read, is_dash}
 use Rattle.yaml_lines.specs.Key.{Keyed, keyed, unkeyed, key_stop, key_at}
 use Rattle.yaml_blocks.specs.Blocks.{skip_void, nothing_from, nothing_in, alone}
 use Rattle.yaml_blocks.specs.Reading.{lone_in, keyed_then, node_with, node_in, block_with, sequence_in, map_in}
 use Rattle.yaml_blocks.specs.Lays.{IsAlone, IsNoCollection}
-use Rattle.yaml_blocks.proofs.Tools.{choose, allowed, bind_ok}
+use Rattle.yaml_blocks.proofs.Tools.{choose, bind_ok}
 
 -- the readers of collections whose nodes are at most d deep
 abbrev pub lists : ℕ → Line → List ℕ → List Line → Read Tree

@@ -1,16 +1,14 @@
 -- What is laid out in the lines is what the blocks' reading gives.
-use Rattle.std.proofs.Common.{◌≡◌, ℕ, zero, suc, Bool, true, false, not, cond, ◌&&◌, ◌||◌, ◌==◌, ◌⊎◌, inl, inr, List, [], ◌∷◌, ◌++◌, drop, None, is_some, Result, Ok, Err, refl, sym, ap, ◌∙◌, subst, arith}
+use Rattle.std.proofs.Common.{◌≡◌, ℕ, zero, suc, Bool, true, false, not, ◌&&◌, ◌||◌, ◌==◌, inl, inr, List, [], ◌∷◌, ◌++◌, Ok, refl, sym, ap, ◌∙◌, subst, arith}
 use Rattle.std.proofs.lemmas.Bool.Decides.{nat_tests}
-use Rattle.yaml_tree.specs.Tree.{At, Scalar, null, text, Tree, scalar, list, map, Elements, no_elements, element, Members, no_members, member}
-use Rattle.yaml_lines.specs.File.{Line, begins, skip_blanks, carries_nothing, ends_line, blank_or_end}
-use Rattle.yaml_lines.specs.Line.{spot, Stop, refused, unclosed, Read, ◌>>=◌, body, barred, stray, is_dash, is_left_out, is_indicator, is_flow, starts_plain}
-use Rattle.yaml_lines.specs.Scalar.{resolved}
-use Rattle.yaml_lines.specs.Flow.{quoted, is_quote, is_bracket, flow_node, is_seen}
-use Rattle.yaml_lines.specs.Key.{Keyed, keyed, unkeyed, key_stop, key_at}
-use Rattle.yaml_blocks.specs.Blocks.{skip_void, alone, plain_text, block_scalar}
-use Rattle.yaml_blocks.specs.Reading.{Item, items_of, offset, is_level, after_spaces, element_in, elements_in, value_in, new_key, head_in, entries_in, sequence_in, map_in, lone_in, node_in, node_with, keyed_then, block_from, block_with, block_in, too_deep}
-use Rattle.yaml_blocks.specs.Lays.{IsAlone, IsQuoted, IsFlow, IsBlockScalar, IsPlain, IsScalar, IsNoCollection, IsDashed, IsKeyed, LaysBlock, LaysElement, LaysValue, LaysNode, LaysElements, LaysMembers, Lays}
-use Rattle.yaml_blocks.proofs.Tools.{choose, either, both, none_is}
+use Rattle.yaml_tree.specs.Tree.{At, Scalar, Tree, scalar, list, map, Elements, no_elements, element, Members, no_members, member}
+use Rattle.yaml_lines.specs.File.{Line, begins}
+use Rattle.yaml_lines.specs.Line.{spot, Read, ◌>>=◌, body, is_dash, is_left_out, is_indicator, starts_plain}
+use Rattle.yaml_lines.specs.Flow.{is_quote, is_bracket}
+use Rattle.yaml_lines.specs.Key.{keyed, key_at}
+use Rattle.yaml_blocks.specs.Reading.{Item, offset, element_in, elements_in, value_in, head_in, entries_in, lone_in, node_in, node_with, block_with, block_in, too_deep}
+use Rattle.yaml_blocks.specs.Lays.{IsFlow, IsScalar, IsNoCollection, IsKeyed, LaysBlock, LaysElement, LaysValue, LaysNode, LaysElements, LaysMembers, Lays}
+use Rattle.yaml_blocks.proofs.Tools.{either, both, none_is}
 use Rattle.yaml_blocks.proofs.Cases.{lists, maps, alone_is}
 
 -- ---- the first character decides
@@ -141,6 +139,7 @@ first_keyed (member k a t ms) d i seen x xs (y, others, is, rest, key, laid, mor
 
 mutual
   unfolding node_in
+
   pub node_complete : (t : Tree) (d : ℕ) → CompleteNode t d
   node_complete (scalar a s) zero may m l cs ls h = node_lone too_deep too_deep zero may m l cs ls h.0 ∙ lone_complete a s zero m l cs ls h.1 h.2
   node_complete (scalar a s) (suc d) may m l cs ls h = node_lone (lists d) (maps d) (suc d) may m l cs ls h.0 ∙ lone_complete a s (suc d) m l cs ls h.1 h.2

@@ -1,6 +1,6 @@
 -- Examples of the profile, computed.
-use Rattle.std.proofs.Common.{◌≡◌, ℕ, List, [], ◌∷◌, ◌++◌, if◌then◌else◌, codes, pos, refl, Result, Ok, Err}
-use Rattle.yaml_tree.specs.Tree.{At, null, text, whole, Tree, scalar, list, map, Elements, no_elements, element, Members, no_members, member, Answer, tree, refusal}
+use Rattle.std.proofs.Common.{◌≡◌, ℕ, List, [], ◌∷◌, ◌++◌, if◌then◌else◌, codes, pos, refl, Ok, Err}
+use Rattle.yaml_tree.specs.Tree.{At, null, text, whole, Tree, scalar, list, map, no_elements, element, Members, no_members, member, Answer, tree, refusal}
 use Rattle.yaml_lines.specs.File.{Line, line_texts, lines_of, is_parting, is_marker, parted, documents_of, skip_blanks, carries_nothing, ends_line}
 use Rattle.yaml_lines.specs.Line.{indentation, indent, body, is_void, is_bare, barred, stray, plain_len, trimmed, plain_front, plain_rest, Read}
 use Rattle.yaml_lines.specs.Scalar.{value_within, whole_of, resolved, single, escape, double, block_text}

@@ -1,10 +1,9 @@
 -- One tree; documents before documents; and the first line up to which there is no tree.
-use Rattle.std.proofs.Common.{◌≡◌, ℕ, List, [], ◌∷◌, ◌++◌, ◌⊎◌, inl, inr, Result, Ok, Err, refl, sym, ap, ◌∙◌, subst, append_assoc, append-nil}
+use Rattle.std.proofs.Common.{◌≡◌, ℕ, List, [], ◌∷◌, ◌++◌, ◌⊎◌, inl, inr, Ok, Err, refl, sym, ap, ◌∙◌, subst, append_assoc, append-nil}
 use Rattle.yaml_tree.specs.Tree.{At, Tree}
 use Rattle.yaml_lines.specs.File.{Line}
 use Rattle.yaml_lines.specs.Line.{Stop, Read}
 use Rattle.yaml_blocks.specs.Reading.{block_in}
-use Rattle.yaml_blocks.specs.Lays.{Lays}
 use Rattle.yaml_blocks.specs.Laws.{HasTree, StopsFirst, OneTree, DocumentsBefore, StopsThere}
 use Rattle.yaml_blocks.proofs.Tools.{ok_same}
 use Rattle.yaml_blocks.proofs.Sound.{reads_trees}
@@ -48,7 +47,7 @@ breaks_from depth home front (l ∷ ls) s tree e =
             lines = refl;
             before = λ a b is. documents_before depth home a b (subst (HasTree depth home) is tree);
             dead = no_tree depth home (front ++ l ∷ []) h.0 h.1;
-            here = h.1 ∙ same
+            here = h.1 ∙ same;
           }
     ]
 

@@ -1,15 +1,15 @@
 -- Loops over the lines of a block scalar, a turn at a time.
-use Rattle.std.proofs.Common.{◌≡◌, ℕ, zero, suc, ◌+◌, ◌-◌, ◌<◌, ◌≤◌, Bool, true, false, cond, ◌&&◌, ◌||◌, ◌==◌, List, [], ◌∷◌, ◌++◌, length, get_or, take, drop, refl, sym, ap, ◌∙◌, arith, append_assoc, append-nil}
+use Rattle.std.proofs.Common.{◌≡◌, ℕ, zero, suc, ◌+◌, ◌-◌, ◌<◌, ◌≤◌, Bool, true, false, cond, ◌&&◌, ◌||◌, ◌==◌, nat_lt, List, [], ◌∷◌, ◌++◌, length, get_or, take, drop, refl, sym, ap, ◌∙◌, arith, append_assoc, append-nil}
 use Rattle.std.specs.Prelude.{map as list_map}
 use Rattle.std.specs.Borrow.{Bor}
 use Rattle.std.proofs.Math.Seq.{take-suc}
-use Rattle.std.proofs.lemmas.List.{drop_more, at_drop_all}
+use Rattle.std.proofs.lemmas.List.{drop_more, at_drop_all, length-take-le}
 use Rattle.std.proofs.lemmas.Bool.Decides.{nat_tests}
 use Rattle.yaml_lines.specs.File.{is_blank, is_empty}
-use Rattle.yaml_lines.specs.Scalar.{drop_empty, literal, joint, begins_blank, fold_from, folded}
-use Rattle.yaml_blocks.specs.Endings.{texts_view, add_text}
+use Rattle.yaml_lines.specs.Scalar.{drop_empty, literal, joint, begins_blank, fold_from, folded, Ending, ending, block_text}
+use Rattle.yaml_blocks.specs.Endings.{texts_view, add_text, kept_text}
 
-map_push : {A B : Type 0} (f : A → B) (xs : List A) (x : A) → list_map f (xs ++ x ∷ []) ≡ list_map f xs ++ f x ∷ []
+pub map_push : {A B : Type 0} (f : A → B) (xs : List A) (x : A) → list_map f (xs ++ x ∷ []) ≡ list_map f xs ++ f x ∷ []
 map_push f [] x = refl
 map_push {B = B} f (y ∷ ys) x = ap (λ (zs : List B). f y ∷ zs) (map_push f ys x)
 
@@ -41,7 +41,7 @@ solid_is (c ∷ cs) e = refl
 
 drop_empty-solid : (ts : List (List ℕ)) (t : List ℕ) → is_empty t ≡ false → drop_empty (ts ++ t ∷ []) ≡ ts ++ t ∷ []
 drop_empty-solid [] t e = rw e refl
-drop_empty-solid (u ∷ []) t e = rw e (kept (is_empty u) u t)  where
+drop_empty-solid (u ∷ []) t e = rw e (kept (is_empty u) u t) where
   kept : (b : Bool) (u t : List ℕ) → cond (b && false) [] (u ∷ t ∷ []) ≡ u ∷ t ∷ []
   kept true u t = refl
   kept false u t = refl
@@ -135,3 +135,17 @@ lead_end content all xs i d h some e =
 
 pub lead_none : (content all : List ℕ) (xs : List (Bor (List ℕ))) (i : ℕ) → length xs ≤ i → content ++ folded (texts_view (drop i xs)) ≡ all → content ≡ all
 lead_none content all xs i h e = sym (at_drop_all (λ (ys : List (Bor (List ℕ))). content ++ folded (texts_view ys)) xs i h ∙ append-nil content) ∙ e
+
+length_view : (xs : List (Bor (List ℕ))) → length (texts_view xs) ≡ length xs
+length_view [] = refl
+length_view (x ∷ xs) = ap suc (length_view xs)
+
+-- the text of a block scalar, by how many of its lines are kept
+pub block_text_by : (is_folded : Bool) (e : Ending) (xs : List (Bor (List ℕ))) (n : ℕ) → texts_view (take n xs) ≡ drop_empty (texts_view xs) → n ≤ length xs
+    → kept_text is_folded (texts_view (take n xs)) ++ ending e (nat_lt 0 n) (length xs - n) ≡ block_text is_folded e (texts_view xs)
+unfolding block_text
+block_text_by is_folded e xs n kept within =
+    let len : n ≡ length (drop_empty (texts_view xs)) = sym (sym (ap length kept) ∙ (length_view (take n xs) ∙ length-take-le n xs within)) in
+    ap (λ (ts : List (List ℕ)). kept_text is_folded ts ++ ending e (nat_lt 0 n) (length xs - n)) kept
+    ∙ (ap (λ (k : ℕ). kept_text is_folded (drop_empty (texts_view xs)) ++ ending e (nat_lt 0 k) (length xs - k)) len
+    ∙ ap (λ (k : ℕ). kept_text is_folded (drop_empty (texts_view xs)) ++ ending e (nat_lt 0 (length (drop_empty (texts_view xs)))) (k - length (drop_empty (texts_view xs)))) (sym (length_view xs)))

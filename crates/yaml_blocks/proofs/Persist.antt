@@ -1,15 +1,13 @@
 -- Where a block's reading stops, it stops in the same way whatever lines follow.
-use Rattle.std.proofs.Common.{◌≡◌, ℕ, zero, suc, Bool, true, false, not, cond, ◌&&◌, ◌||◌, ◌==◌, nat_lt, ◌⊎◌, inl, inr, List, [], ◌∷◌, ◌++◌, drop, Option, Some, None, is_some, Result, Ok, Err, refl, sym, ap, ◌∙◌, subst}
+use Rattle.std.proofs.Common.{◌≡◌, ℕ, zero, suc, Bool, true, false, not, ◌&&◌, ◌||◌, ◌==◌, nat_lt, inl, inr, List, [], ◌∷◌, ◌++◌, drop, Some, is_some, Ok, Err, refl, ap, ◌∙◌}
 use Rattle.std.specs.Prelude.{map as list_map}
-use Rattle.yaml_tree.specs.Tree.{At, null, text, Tree, scalar, list, map, Elements, element, Members, member}
-use Rattle.yaml_lines.specs.File.{Line, is_empty, begins, skip_blanks, carries_nothing, ends_line}
-use Rattle.yaml_lines.specs.Line.{spot, Stop, Read, ◌>>=◌, indent, body, barred, stray, is_void, is_bare, is_dash, is_left_out, starts_plain, plain_front, plain_rest}
-use Rattle.yaml_lines.specs.Scalar.{plain_joint, resolved}
-use Rattle.yaml_lines.specs.Flow.{quoted, is_quote, is_bracket, flow_node, is_seen}
-use Rattle.yaml_lines.specs.Key.{Keyed, keyed, unkeyed, key_stop, key_at}
-use Rattle.yaml_blocks.specs.Blocks.{rest_while, front_while, skip_void, nothing_from, nothing_in, Part, Parts, put_line, inside, divide, alone, Further, empty_line, comment_line, text_line, last_line, further, add_line, more_plain, plain_text, head_of, first_indent, is_content, lines_at, scalar_lines, block_scalar}
-use Rattle.yaml_blocks.specs.Reading.{Item, item_of, items_of, offset, is_level, after_spaces, element_in, elements_in, value_in, new_key, head_in, entries_in, lone_in, node_in, block_from, block_with, block_in, too_deep}
-use Rattle.yaml_blocks.proofs.Tools.{choose, bind_err, bind_ok}
+use Rattle.yaml_tree.specs.Tree.{At, list, map, Elements, Members}
+use Rattle.yaml_lines.specs.File.{Line, is_empty, begins, carries_nothing, ends_line}
+use Rattle.yaml_lines.specs.Line.{spot, Stop, Read, ◌>>=◌, indent, body, barred, is_void, is_bare, is_dash, is_left_out, starts_plain, plain_rest}
+use Rattle.yaml_lines.specs.Flow.{quoted, is_quote, is_bracket, flow_node}
+use Rattle.yaml_blocks.specs.Blocks.{rest_while, front_while, skip_void, nothing_from, nothing_in, Parts, put_line, inside, divide, alone, Further, empty_line, comment_line, text_line, last_line, further, add_line, more_plain, plain_text, head_of, first_indent, is_content, lines_at, scalar_lines, block_scalar}
+use Rattle.yaml_blocks.specs.Reading.{Item, item_of, items_of, offset, is_level, element_in, elements_in, value_in, head_in, entries_in, lone_in, node_in, block_from, block_with, block_in, too_deep}
+use Rattle.yaml_blocks.proofs.Tools.{choose, bind_err}
 use Rattle.yaml_blocks.proofs.Cases.{lists, maps, node_cases}
 use Rattle.yaml_blocks.proofs.Complete.{node_lone, node_list, node_map}
 
@@ -34,9 +32,9 @@ alone_more : {A : Type 0} (l : Line) (rest : List ℕ) (a b : List Line) (x : A)
 alone_more l rest a b x s e =
     elim (choose (ends_line rest) _ _ _ e) [
       | inl h ↦ elim (bind_err (nothing_in a) _ s h.1) [
-          | inl g ↦ rw (h.0, nothing_more a b s g) refl
-          | inr g ↦ cc
-        ]
+        | inl g ↦ rw (h.0, nothing_more a b s g) refl
+        | inr g ↦ cc
+      ]
       | inr h ↦ rw h.0 h.1
     ]
 
@@ -45,9 +43,9 @@ alone_more l rest a b x s e =
 add_line_more : (n : ℕ) (f : Further) (e e2 b b2 : Read (List ℕ)) (o o2 : Read (Unit {0})) (s : Stop)
     → (e ≡ Err s → e2 ≡ Err s) → (b ≡ Err s → b2 ≡ Err s) → (o ≡ Err s → o2 ≡ Err s) → add_line n f e b o ≡ Err s → add_line n f e2 b2 o2 ≡ Err s
 add_line_more n empty_line e e2 b b2 o o2 s empty behind ended h = empty h
-add_line_more n comment_line e e2 b b2 o o2 s empty behind ended h = elim (bind_err o _ s h) [ | inl g ↦ rw (ended g) refl | inr g ↦ cc ]
-add_line_more n (text_line t) e e2 b b2 o o2 s empty behind ended h = elim (bind_err b _ s h) [ | inl g ↦ rw (behind g) refl | inr g ↦ cc ]
-add_line_more n (last_line t) e e2 b b2 o o2 s empty behind ended h = elim (bind_err o _ s h) [ | inl g ↦ rw (ended g) refl | inr g ↦ cc ]
+add_line_more n comment_line e e2 b b2 o o2 s empty behind ended h = elim (bind_err o _ s h) [ inl g ↦ rw (ended g) refl | inr g ↦ cc ]
+add_line_more n (text_line t) e e2 b b2 o o2 s empty behind ended h = elim (bind_err b _ s h) [ inl g ↦ rw (behind g) refl | inr g ↦ cc ]
+add_line_more n (last_line t) e e2 b b2 o o2 s empty behind ended h = elim (bind_err o _ s h) [ inl g ↦ rw (ended g) refl | inr g ↦ cc ]
 
 more_plain_more : (m n : ℕ) (a b : List Line) (s : Stop) → more_plain m n a ≡ Err s → more_plain m n (a ++ b) ≡ Err s
 unfolding more_plain
@@ -66,9 +64,9 @@ unfolding plain_text
 plain_text_more m l cs a b s e =
     elim (choose (is_empty (plain_rest false cs)) _ _ _ e) [
       | inl h ↦ elim (bind_err (more_plain m 0 a) _ s h.1) [
-          | inl g ↦ rw (h.0, more_plain_more m 0 a b s g) refl
-          | inr g ↦ cc
-        ]
+        | inl g ↦ rw (h.0, more_plain_more m 0 a b s g) refl
+        | inr g ↦ cc
+      ]
       | inr h ↦ rw h.0 (alone_more l _ a b _ s h.1)
     ]
 
@@ -86,6 +84,7 @@ lines_more m a b s e = by (rest_while is_bare a) refl e where
   at : (i : ℕ) (f g : List Line) (x : Line) (xs : List Line) (t : Bool) → nat_lt i m ≡ t → nothing_in (lines_at m (Some i) f (x ∷ xs)).1 ≡ Err s → nothing_in (lines_at m (Some i) g (x ∷ (xs ++ b))).1 ≡ Err s
   at i f g x xs true h e = rw h (nothing_more (x ∷ xs) b s (rw h at e))
   at i f g x xs false h e = rw h (behind_more (is_content i) (x ∷ xs) b s (rw h at e))
+
   by : (xs : List Line) → rest_while is_bare a ≡ xs → nothing_in (lines_at m (first_indent xs) (front_while is_bare a) xs).1 ≡ Err s
       → nothing_in (lines_at m (first_indent (rest_while is_bare (a ++ b))) (front_while is_bare (a ++ b)) (rest_while is_bare (a ++ b))).1 ≡ Err s
   by [] is e = cc
@@ -97,40 +96,46 @@ block_scalar_more m l cs a b s e =
     elim (bind_err (head_of l (drop 1 cs)) _ s e) [
       | inl h ↦ rw h refl
       | inr h ↦ elim (bind_err (nothing_in (scalar_lines m a).1) _ s h.2) [
-          | inl g ↦ rw (h.1, lines_more m a b s g) refl
-          | inr g ↦ cc
-        ]
+        | inl g ↦ rw (h.1, lines_more m a b s g) refl
+        | inr g ↦ cc
+      ]
     ]
 
 lone_more : (d m : ℕ) (l : Line) (cs : List ℕ) (a b : List Line) (s : Stop) → lone_in d m l cs a ≡ Err s → lone_in d m l cs (a ++ b) ≡ Err s
 unfolding lone_in
 lone_more d m l cs a b s e =
-    elim (choose (is_left_out cs || (begins 37 cs && offset l cs == 0)) _ _ _ e) [ | inl h ↦ rw h.0 h.1 | inr left ↦
-    elim (choose (is_quote cs) _ _ _ left.1) [
-      | inl h ↦ elim (bind_err (quoted l cs) _ s h.1) [
-          | inl g ↦ rw (left.0, h.0, g) refl
-          | inr g ↦ rw (left.0, h.0, g.1) (alone_more l _ a b _ s g.2)
-        ]
-      | inr quote ↦
-    elim (choose (is_bracket cs) _ _ _ quote.1) [
-      | inl h ↦ elim (bind_err (flow_node d l cs) _ s h.1) [
-          | inl g ↦ rw (left.0, quote.0, h.0, g) refl
-          | inr g ↦ rw (left.0, quote.0, h.0, g.1) (alone_more l _ a b _ s g.2)
-        ]
-      | inr bracket ↦
-    elim (choose (begins 124 cs || begins 62 cs) _ _ _ bracket.1) [
-      | inl h ↦ elim (bind_err (block_scalar m l cs a) _ s h.1) [
-          | inl g ↦ rw (left.0, quote.0, bracket.0, h.0, block_scalar_more m l cs a b s g) refl
-          | inr g ↦ cc
-        ]
-      | inr head ↦
-    elim (choose (starts_plain cs) _ _ _ head.1) [
-      | inl h ↦ elim (bind_err (plain_text m l cs a) _ s h.1) [
-          | inl g ↦ rw (left.0, quote.0, bracket.0, head.0, h.0, plain_text_more m l cs a b s g) refl
-          | inr g ↦ cc
-        ]
-      | inr h ↦ rw (left.0, quote.0, bracket.0, head.0, h.0) h.1
-    ] ] ] ] ]
+    elim (choose (is_left_out cs || (begins 37 cs && offset l cs == 0)) _ _ _ e) [
+      | inl h ↦ rw h.0 h.1
+      | inr left ↦
+          elim (choose (is_quote cs) _ _ _ left.1) [
+            | inl h ↦ elim (bind_err (quoted l cs) _ s h.1) [
+              | inl g ↦ rw (left.0, h.0, g) refl
+              | inr g ↦ rw (left.0, h.0, g.1) (alone_more l _ a b _ s g.2)
+            ]
+            | inr quote ↦
+                elim (choose (is_bracket cs) _ _ _ quote.1) [
+                  | inl h ↦ elim (bind_err (flow_node d l cs) _ s h.1) [
+                    | inl g ↦ rw (left.0, quote.0, h.0, g) refl
+                    | inr g ↦ rw (left.0, quote.0, h.0, g.1) (alone_more l _ a b _ s g.2)
+                  ]
+                  | inr bracket ↦
+                      elim (choose (begins 124 cs || begins 62 cs) _ _ _ bracket.1) [
+                        | inl h ↦ elim (bind_err (block_scalar m l cs a) _ s h.1) [
+                          | inl g ↦ rw (left.0, quote.0, bracket.0, h.0, block_scalar_more m l cs a b s g) refl
+                          | inr g ↦ cc
+                        ]
+                        | inr head ↦
+                            elim (choose (starts_plain cs) _ _ _ head.1) [
+                              | inl h ↦ elim (bind_err (plain_text m l cs a) _ s h.1) [
+                                | inl g ↦ rw (left.0, quote.0, bracket.0, head.0, h.0, plain_text_more m l cs a b s g) refl
+                                | inr g ↦ cc
+                              ]
+                              | inr h ↦ rw (left.0, quote.0, bracket.0, head.0, h.0) h.1
+                            ]
+                      ]
+                ]
+          ]
+    ]
 
 -- ---- a block's items
 
@@ -201,22 +206,34 @@ value_more d persist i x rest lead s e =
 elements_more : (d : ℕ) → NodesPersist d → (i : ℕ) (x : Item) (xs : List Item) (lead : List Line) (others : List Item) (s : Stop)
     → elements_in (block_with (node_in d)) (node_in d) i (x ∷ xs) ≡ Err s → elements_in (block_with (node_in d)) (node_in d) i (grown x xs lead others) ≡ Err s
 elements_more d persist i x [] lead others s e =
-    elim (choose (is_some (barred x.line)) _ _ _ e) [ | inl h ↦ rw h.0 h.1 | inr bar ↦
-    elim (choose (not (is_level i x && is_dash x.text)) _ _ _ bar.1) [ | inl h ↦ rw (bar.0, h.0) h.1 | inr dash ↦
-    elim (bind_err (element_in (block_with (node_in d)) (node_in d) i x) _ s dash.1) [
-      | inl g ↦ rw (bar.0, dash.0, element_more d persist i x lead s g) refl
-      | inr g ↦ cc
-    ] ] ]
+    elim (choose (is_some (barred x.line)) _ _ _ e) [
+      | inl h ↦ rw h.0 h.1
+      | inr bar ↦
+          elim (choose (not (is_level i x && is_dash x.text)) _ _ _ bar.1) [
+            | inl h ↦ rw (bar.0, h.0) h.1
+            | inr dash ↦
+                elim (bind_err (element_in (block_with (node_in d)) (node_in d) i x) _ s dash.1) [
+                  | inl g ↦ rw (bar.0, dash.0, element_more d persist i x lead s g) refl
+                  | inr g ↦ cc
+                ]
+          ]
+    ]
 elements_more d persist i x (y ∷ ys) lead others s e =
-    elim (choose (is_some (barred x.line)) _ _ _ e) [ | inl h ↦ rw h.0 h.1 | inr bar ↦
-    elim (choose (not (is_level i x && is_dash x.text)) _ _ _ bar.1) [ | inl h ↦ rw (bar.0, h.0) h.1 | inr dash ↦
-    elim (bind_err (element_in (block_with (node_in d)) (node_in d) i x) _ s dash.1) [
-      | inl g ↦ rw (bar.0, dash.0, g) refl
-      | inr g ↦ elim (bind_err (elements_in (block_with (node_in d)) (node_in d) i (y ∷ ys)) _ s g.2) [
-          | inl f ↦ rw (bar.0, dash.0, g.1, elements_more d persist i y ys lead others s f) refl
-          | inr f ↦ cc
-        ]
-    ] ] ]
+    elim (choose (is_some (barred x.line)) _ _ _ e) [
+      | inl h ↦ rw h.0 h.1
+      | inr bar ↦
+          elim (choose (not (is_level i x && is_dash x.text)) _ _ _ bar.1) [
+            | inl h ↦ rw (bar.0, h.0) h.1
+            | inr dash ↦
+                elim (bind_err (element_in (block_with (node_in d)) (node_in d) i x) _ s dash.1) [
+                  | inl g ↦ rw (bar.0, dash.0, g) refl
+                  | inr g ↦ elim (bind_err (elements_in (block_with (node_in d)) (node_in d) i (y ∷ ys)) _ s g.2) [
+                    | inl f ↦ rw (bar.0, dash.0, g.1, elements_more d persist i y ys lead others s f) refl
+                    | inr f ↦ cc
+                  ]
+                ]
+          ]
+    ]
 
 entries_more : (d : ℕ) → NodesPersist d → (i : ℕ) (seen : List (List ℕ)) (x : Item) (xs : List Item) (lead : List Line) (others : List Item) (s : Stop)
     → entries_in (block_with (node_in d)) (node_in d) i seen (x ∷ xs) ≡ Err s → entries_in (block_with (node_in d)) (node_in d) i seen (grown x xs lead others) ≡ Err s
@@ -225,20 +242,20 @@ entries_more d persist i seen x [] lead others s e =
     elim (bind_err (head_in (block_with (node_in d)) (node_in d) i seen x) _ s e) [
       | inl h ↦ rw h refl
       | inr h ↦ elim (bind_err (value_in (block_with (node_in d)) (node_in d) i x h.0.1) _ s h.2) [
-          | inl g ↦ rw (h.1, value_more d persist i x h.0.1 lead s g) refl
-          | inr g ↦ cc
-        ]
+        | inl g ↦ rw (h.1, value_more d persist i x h.0.1 lead s g) refl
+        | inr g ↦ cc
+      ]
     ]
 entries_more d persist i seen x (y ∷ ys) lead others s e =
     elim (bind_err (head_in (block_with (node_in d)) (node_in d) i seen x) _ s e) [
       | inl h ↦ rw h refl
       | inr h ↦ elim (bind_err (value_in (block_with (node_in d)) (node_in d) i x h.0.1) _ s h.2) [
-          | inl g ↦ rw (h.1, g) refl
-          | inr g ↦ elim (bind_err (entries_in (block_with (node_in d)) (node_in d) i (seen ++ h.0.0 ∷ []) (y ∷ ys)) _ s g.2) [
-              | inl f ↦ rw (h.1, g.1, entries_more d persist i (seen ++ h.0.0 ∷ []) y ys lead others s f) refl
-              | inr f ↦ cc
-            ]
+        | inl g ↦ rw (h.1, g) refl
+        | inr g ↦ elim (bind_err (entries_in (block_with (node_in d)) (node_in d) i (seen ++ h.0.0 ∷ []) (y ∷ ys)) _ s g.2) [
+          | inl f ↦ rw (h.1, g.1, entries_more d persist i (seen ++ h.0.0 ∷ []) y ys lead others s f) refl
+          | inr f ↦ cc
         ]
+      ]
     ]
 
 -- ---- nodes

@@ -1,16 +1,16 @@
 -- What the blocks' reading gives is laid out in the lines.
-use Rattle.std.proofs.Common.{◌≡◌, ℕ, zero, suc, Bool, true, false, not, cond, ◌&&◌, ◌||◌, ◌==◌, ◌⊎◌, inl, inr, List, [], ◌∷◌, ◌++◌, drop, None, is_some, Result, Ok, Err, refl, sym, ap, ◌∙◌, subst}
-use Rattle.yaml_tree.specs.Tree.{At, Scalar, null, text, Tree, scalar, list, map, Elements, no_elements, element, Members, no_members, member}
-use Rattle.yaml_lines.specs.File.{Line, begins, skip_blanks, carries_nothing, ends_line}
-use Rattle.yaml_lines.specs.Line.{spot, Stop, refused, unclosed, Read, ◌>>=◌, body, barred, stray, is_dash, is_left_out, starts_plain}
+use Rattle.std.proofs.Common.{◌≡◌, ℕ, zero, suc, Bool, true, not, ◌&&◌, ◌||◌, ◌==◌, inl, inr, List, [], ◌∷◌, ◌++◌, drop, None, is_some, Ok, Err, refl, sym, subst}
+use Rattle.yaml_tree.specs.Tree.{At, Scalar, text, Tree, scalar, list, map, Elements, element, Members, no_members, member}
+use Rattle.yaml_lines.specs.File.{Line, begins, carries_nothing}
+use Rattle.yaml_lines.specs.Line.{spot, refused, unclosed, Read, body, barred, is_dash, is_left_out, starts_plain}
 use Rattle.yaml_lines.specs.Scalar.{resolved}
-use Rattle.yaml_lines.specs.Flow.{quoted, is_quote, is_bracket, flow_node, flow_scalar, flow_elements, flow_members, inside_open, front_map, map_from, Front, is_seen}
+use Rattle.yaml_lines.specs.Flow.{is_quote, is_bracket, flow_node, inside_open, front_map, map_from, Front, is_seen}
 use Rattle.yaml_lines.specs.Key.{Keyed, keyed, unkeyed, key_stop, key_at}
-use Rattle.yaml_blocks.specs.Blocks.{skip_void, alone, plain_text, block_scalar}
-use Rattle.yaml_blocks.specs.Reading.{Item, items_of, offset, is_level, after_spaces, element_in, elements_in, value_in, new_key, head_in, entries_in, sequence_in, map_in, lone_in, node_in, node_with, block_from, block_with, block_in, too_deep}
-use Rattle.yaml_blocks.specs.Lays.{IsAlone, IsQuoted, IsFlow, IsBlockScalar, IsPlain, IsScalar, IsNoCollection, IsDashed, IsKeyed, LaysBlock, LaysElement, LaysValue, LaysNode, LaysElements, LaysMembers, Lays}
+use Rattle.yaml_blocks.specs.Blocks.{skip_void, alone}
+use Rattle.yaml_blocks.specs.Reading.{Item, offset, is_level, element_in, elements_in, value_in, new_key, head_in, entries_in, lone_in, node_in, block_from, block_with, block_in, too_deep}
+use Rattle.yaml_blocks.specs.Lays.{IsFlow, IsNoCollection, IsKeyed, LaysBlock, LaysElement, LaysValue, LaysNode, LaysElements, LaysMembers, Lays}
 use Rattle.yaml_blocks.proofs.Tools.{choose, allowed, bind_ok, ok_same, either, neither, both, none_of, not_false}
-use Rattle.yaml_blocks.proofs.Cases.{lists, maps, node_cases, nothing_ok, alone_ok}
+use Rattle.yaml_blocks.proofs.Cases.{lists, maps, node_cases, alone_ok}
 
 -- ---- flow collections
 
@@ -34,9 +34,9 @@ flow_no_scalar (suc d) l cs a s rest b e =
     elim (choose (begins 91 cs) _ _ _ e) [
       | inl h ↦ let (es, same) = front_ok _ _ _ (inside_ok _ _ _ _ h.1) in cc
       | inr h ↦ elim (choose (begins 123 cs) _ _ _ h.1) [
-          | inl g ↦ let (ms, same) = front_ok _ _ _ (inside_ok _ _ _ _ g.1) in map_from-scalar _ a s ms same
-          | inr g ↦ elim (either (begins 91 cs) (begins 123 cs) b) [ inl p ↦ cc | inr p ↦ cc ]
-        ]
+        | inl g ↦ let (ms, same) = front_ok _ _ _ (inside_ok _ _ _ _ g.1) in map_from-scalar _ a s ms same
+        | inr g ↦ elim (either (begins 91 cs) (begins 123 cs) b) [ inl p ↦ cc | inr p ↦ cc ]
+      ]
     ]
 
 flow_zero : (l : Line) (cs : List ℕ) (t : Tree) (rest : List ℕ) → is_bracket cs ≡ true → flow_node zero l cs ≡ Ok (t, rest) → ⊥
@@ -56,33 +56,36 @@ lone_sound : (d : ℕ) (may : Bool) (m : ℕ) (l : Line) (cs : List ℕ) (ls : L
 unfolding lone_in
 lone_sound d may m l cs ls t none e =
     let P : Tree → Type 0 = λ t. LaysNode t d may m l cs ls in
-    elim (choose (is_left_out cs || (begins 37 cs && offset l cs == 0)) _ _ _ e) [ | inl left ↦ cc | inr left ↦
-    elim (choose (is_quote cs) _ _ _ left.1) [
-      | inl q ↦
-          let (p, at, more) = bind_ok _ _ _ q.1 in
-          let (alone, same) = alone_ok l _ _ _ _ more in
-          let laid : P (scalar (spot l cs) (text p.0)) = (none, refl, inl (p.0, refl, inl (q.0, p.1, at, alone))) in
-          subst P same laid
-      | inr q ↦ elim (choose (is_bracket cs) _ _ _ q.1) [
-          | inl b ↦
-              let (p, at, more) = bind_ok _ _ _ b.1 in
-              let (alone, same) = alone_ok l _ _ _ _ more in
-              subst P same (flow_lays p.0 d may m l cs ls none (b.0, p.1, at, alone))
-          | inr b ↦ elim (choose (begins 124 cs || begins 62 cs) _ _ _ b.1) [
-              | inl k ↦
-                  let (p, at, more) = bind_ok _ _ _ k.1 in
-                  let laid : P (scalar (spot l cs) (text p)) = (none, refl, inl (p, refl, inr (k.0, at))) in
-                  subst P (ok_same _ _ more) laid
-              | inr k ↦ elim (choose (starts_plain cs) _ _ _ k.1) [
+    elim (choose (is_left_out cs || (begins 37 cs && offset l cs == 0)) _ _ _ e) [
+      | inl left ↦ cc
+      | inr left ↦
+          elim (choose (is_quote cs) _ _ _ left.1) [
+            | inl q ↦
+                let (p, at, more) = bind_ok _ _ _ q.1 in
+                let (alone, same) = alone_ok l _ _ _ _ more in
+                let laid : P (scalar (spot l cs) (text p.0)) = (none, refl, inl (p.0, refl, inl (q.0, p.1, at, alone))) in
+                subst P same laid
+            | inr q ↦ elim (choose (is_bracket cs) _ _ _ q.1) [
+              | inl b ↦
+                  let (p, at, more) = bind_ok _ _ _ b.1 in
+                  let (alone, same) = alone_ok l _ _ _ _ more in
+                  subst P same (flow_lays p.0 d may m l cs ls none (b.0, p.1, at, alone))
+              | inr b ↦ elim (choose (begins 124 cs || begins 62 cs) _ _ _ b.1) [
+                | inl k ↦
+                    let (p, at, more) = bind_ok _ _ _ k.1 in
+                    let laid : P (scalar (spot l cs) (text p)) = (none, refl, inl (p, refl, inr (k.0, at))) in
+                    subst P (ok_same _ _ more) laid
+                | inr k ↦ elim (choose (starts_plain cs) _ _ _ k.1) [
                   | inl s ↦
                       let (p, at, more) = bind_ok _ _ _ s.1 in
                       let laid : P (scalar (spot l cs) (resolved p)) = (none, refl, inr (s.0, (neither (is_left_out cs) _ left.0).0, p, at, refl)) in
                       subst P (ok_same _ _ more) laid
                   | inr s ↦ cc
                 ]
+              ]
             ]
-        ]
-    ] ]
+          ]
+    ]
 
 -- ---- blocks, elements and entries, over nodes that are sound
 
@@ -125,7 +128,7 @@ elements_sound d sound i (x ∷ xs) es e =
     let (ts, more, same) = bind_ok _ _ _ e3 in
     let there = both _ _ (not_false _ dash) in
     let laid : LaysElements (element t ts) d i (x ∷ xs) =
-        (x, xs, refl, record { open_line = none_of _ open_line; level = there.0; dash = there.1 }, element_sound d sound i x t at, elements_sound d sound i xs ts more) in
+    (x, xs, refl, record { open_line = none_of _ open_line; level = there.0; dash = there.1 }, element_sound d sound i x t at, elements_sound d sound i xs ts more) in
     subst (λ (es : Elements). LaysElements es d i (x ∷ xs)) (ok_same _ _ same) laid
 
 pub head_ok : (block : ℕ → At → List Line → Read Tree) (node : Bool → ℕ → Line → List ℕ → List Line → Read Tree) (i : ℕ) (seen : List (List ℕ)) (x : Item) (k : List ℕ × List ℕ) → head_in block node i seen x ≡ Ok k → IsKeyed i seen k.0 k.1 (spot x.line x.text) x
@@ -151,7 +154,7 @@ entries_sound d sound i seen (x ∷ xs) ms e =
     let (t, at, e2) = bind_ok _ _ _ e1 in
     let (others, more, same) = bind_ok _ _ _ e2 in
     let laid : LaysMembers (member k.0 (spot x.line x.text) t others) d i seen (x ∷ xs) =
-        (x, xs, refl, k.1, head_ok _ _ i seen x k key, value_sound d sound i x k.1 t at, entries_sound d sound i (seen ++ k.0 ∷ []) xs others more) in
+    (x, xs, refl, k.1, head_ok _ _ i seen x k key, value_sound d sound i x k.1 t at, entries_sound d sound i (seen ++ k.0 ∷ []) xs others more) in
     subst (λ (ms : Members). LaysMembers ms d i seen (x ∷ xs)) (ok_same _ _ same) laid
 
 -- ---- nodes

@@ -1,15 +1,15 @@
 -- Where and why the blocks' reading stops, by cases; and that it stops in each case.
-use Rattle.std.proofs.Common.{◌≡◌, ℕ, zero, suc, Bool, true, false, not, cond, ◌&&◌, ◌||◌, ◌==◌, ◌⊎◌, inl, inr, List, [], ◌∷◌, ◌++◌, drop, Option, Some, None, is_some, Result, Ok, Err, refl, sym, ap, ◌∙◌, subst}
-use Rattle.yaml_tree.specs.Tree.{At, null, text, Tree, scalar, list, map, Elements, element, Members, member}
-use Rattle.yaml_lines.specs.File.{Line, begins, skip_blanks, carries_nothing}
-use Rattle.yaml_lines.specs.Line.{spot, Stop, refused, syntax, Read, ◌>>=◌, body, barred, stray, is_dash}
+use Rattle.std.proofs.Common.{◌≡◌, ℕ, zero, suc, Bool, true, false, not, ◌&&◌, inl, inr, List, [], ◌∷◌, ◌++◌, drop, None, is_some, Ok, Err, refl, sym, ap, ◌∙◌}
+use Rattle.yaml_tree.specs.Tree.{At, Tree, list, map, Elements, Members}
+use Rattle.yaml_lines.specs.File.{Line, carries_nothing}
+use Rattle.yaml_lines.specs.Line.{spot, Stop, Read, ◌>>=◌, body, barred, is_dash}
 use Rattle.yaml_lines.specs.Flow.{is_seen}
 use Rattle.yaml_lines.specs.Key.{Keyed, keyed, unkeyed, key_stop, key_at}
 use Rattle.yaml_blocks.specs.Blocks.{skip_void}
-use Rattle.yaml_blocks.specs.Reading.{Item, items_of, offset, is_level, after_spaces, element_in, elements_in, value_in, new_key, head_in, entries_in, lone_in, node_in, node_with, block_from, block_with, block_in, too_deep}
-use Rattle.yaml_blocks.specs.Lays.{IsNoCollection, IsDashed, IsKeyed, LaysElement, LaysValue, LaysNode}
-use Rattle.yaml_blocks.specs.Form.{StopsLone, IsList, IsMap, StopsBlock, StopsBehindDash, StopsBehindKey, StopsElement, StopsEntry, StopsElements, StopsEntries, StopsNode, Stops}
-use Rattle.yaml_blocks.proofs.Tools.{choose, bind_err, bind_ok, none_of, none_is, not_false, not_true, both}
+use Rattle.yaml_blocks.specs.Reading.{Item, items_of, offset, is_level, element_in, elements_in, value_in, new_key, head_in, entries_in, node_in, node_with, block_from, block_with, block_in, too_deep}
+use Rattle.yaml_blocks.specs.Lays.{IsDashed}
+use Rattle.yaml_blocks.specs.Form.{StopsLone, StopsBlock, StopsBehindDash, StopsBehindKey, StopsEntry, StopsElements, StopsEntries, StopsNode, Stops}
+use Rattle.yaml_blocks.proofs.Tools.{choose, bind_err, none_of, none_is, not_false, not_true, both}
 use Rattle.yaml_blocks.proofs.Cases.{lists, maps, node_cases}
 use Rattle.yaml_blocks.proofs.Sound.{nodes_sound, element_sound, value_sound, head_ok}
 use Rattle.yaml_blocks.proofs.Complete.{node_lone, node_list, node_map, node_complete, element_complete, value_complete, head_complete}
@@ -48,26 +48,35 @@ key_stopped d stop i x rest s e =
 elements_stopped : (d : ℕ) → NodesStop d → (i : ℕ) (xs : List Item) (s : Stop) → elements_in (block_with (node_in d)) (node_in d) i xs ≡ Err s → StopsElements d (StopsNode d) i xs s
 elements_stopped d stop i [] s e = cc
 elements_stopped d stop i (x ∷ xs) s e =
-    elim (choose (is_some (barred x.line)) _ _ _ e) [ | inl h ↦ inl (inl (h.0, cc)) | inr bar ↦
-    elim (choose (not (is_level i x && is_dash x.text)) _ _ _ bar.1) [ | inl h ↦ inl (inr (inl (none_of _ bar.0, not_true _ h.0, cc))) | inr dash ↦
-    let there = both _ _ (not_false _ dash.0) in
-    let dashed : IsDashed i x = record { open_line = none_of _ bar.0; level = there.0; dash = there.1 } in
-    elim (bind_err (element_in (block_with (node_in d)) (node_in d) i x) _ s dash.1) [
-      | inl g ↦ inl (inr (inr (dashed, dash_stopped d stop i x s g)))
-      | inr g ↦ elim (bind_err (elements_in (block_with (node_in d)) (node_in d) i xs) _ s g.2) [
-          | inl f ↦ inr (dashed, g.0, element_sound d (nodes_sound d) i x g.0 g.1, elements_stopped d stop i xs s f)
-          | inr f ↦ cc
-        ]
-    ] ] ]
+    elim (choose (is_some (barred x.line)) _ _ _ e) [
+      | inl h ↦ inl (inl (h.0, cc))
+      | inr bar ↦
+          elim (choose (not (is_level i x && is_dash x.text)) _ _ _ bar.1) [
+            | inl h ↦ inl (inr (inl (none_of _ bar.0, not_true _ h.0, cc)))
+            | inr dash ↦
+                let there = both _ _ (not_false _ dash.0) in
+                let dashed : IsDashed i x = record { open_line = none_of _ bar.0; level = there.0; dash = there.1 } in
+                elim (bind_err (element_in (block_with (node_in d)) (node_in d) i x) _ s dash.1) [
+                  | inl g ↦ inl (inr (inr (dashed, dash_stopped d stop i x s g)))
+                  | inr g ↦ elim (bind_err (elements_in (block_with (node_in d)) (node_in d) i xs) _ s g.2) [
+                    | inl f ↦ inr (dashed, g.0, element_sound d (nodes_sound d) i x g.0 g.1, elements_stopped d stop i xs s f)
+                    | inr f ↦ cc
+                  ]
+                ]
+          ]
+    ]
 
 head_stopped : (d i : ℕ) (seen : List (List ℕ)) (x : Item) (s : Stop) → head_in (block_with (node_in d)) (node_in d) i seen x ≡ Err s → StopsEntry d (StopsNode d) i seen x s
 unfolding head_in
 head_stopped d i seen x s e =
-    elim (choose (is_some (barred x.line)) _ _ _ e) [ | inl h ↦ inl (h.0, cc) | inr bar ↦
-    elim (choose (not (is_level i x)) _ _ _ bar.1) [
-      | inl h ↦ inr (inl (none_of _ bar.0, not_true _ h.0, cc))
-      | inr level ↦ by (key_at x.line x.text) refl (none_of _ bar.0) (not_false _ level.0) level.1
-    ] ] where
+    elim (choose (is_some (barred x.line)) _ _ _ e) [
+      | inl h ↦ inl (h.0, cc)
+      | inr bar ↦
+          elim (choose (not (is_level i x)) _ _ _ bar.1) [
+            | inl h ↦ inr (inl (none_of _ bar.0, not_true _ h.0, cc))
+            | inr level ↦ by (key_at x.line x.text) refl (none_of _ bar.0) (not_false _ level.0) level.1
+          ]
+    ] where
       by : (found : Keyed) → key_at x.line x.text ≡ found → barred x.line ≡ None → is_level i x ≡ true → new_key (block_with (node_in d)) (node_in d) seen x found ≡ Err s → StopsEntry d (StopsNode d) i seen x s
       by (key_stop t) at open_line level e = inr (inr (inl (open_line, level, at ∙ ap key_stop cc)))
       by unkeyed at open_line level e = inr (inr (inr (inl (open_line, level, at, cc))))
@@ -81,15 +90,18 @@ entries_stopped : (d : ℕ) → NodesStop d → (i : ℕ) (seen : List (List ℕ
     → entries_in (block_with (node_in d)) (node_in d) i seen xs ≡ Err s → StopsEntries d (StopsNode d) i seen xs s
 entries_stopped d stop i seen [] s e = cc
 entries_stopped d stop i seen (x ∷ xs) s e =
-    elim (bind_err (head_in (block_with (node_in d)) (node_in d) i seen x) _ s e) [ | inl h ↦ inl (head_stopped d i seen x s h) | inr h ↦
-    let key = head_ok _ _ i seen x h.0 h.1 in
-    elim (bind_err (value_in (block_with (node_in d)) (node_in d) i x h.0.1) _ s h.2) [
-      | inl g ↦ inl (inr (inr (inr (inr (inr (h.0.0, h.0.1, key, key_stopped d stop i x h.0.1 s g))))))
-      | inr g ↦ elim (bind_err (entries_in (block_with (node_in d)) (node_in d) i (seen ++ h.0.0 ∷ []) xs) _ s g.2) [
-          | inl f ↦ inr (h.0.0, h.0.1, key, g.0, value_sound d (nodes_sound d) i x h.0.1 g.0 g.1, entries_stopped d stop i (seen ++ h.0.0 ∷ []) xs s f)
-          | inr f ↦ cc
-        ]
-    ] ]
+    elim (bind_err (head_in (block_with (node_in d)) (node_in d) i seen x) _ s e) [
+      | inl h ↦ inl (head_stopped d i seen x s h)
+      | inr h ↦
+          let key = head_ok _ _ i seen x h.0 h.1 in
+          elim (bind_err (value_in (block_with (node_in d)) (node_in d) i x h.0.1) _ s h.2) [
+            | inl g ↦ inl (inr (inr (inr (inr (inr (h.0.0, h.0.1, key, key_stopped d stop i x h.0.1 s g))))))
+            | inr g ↦ elim (bind_err (entries_in (block_with (node_in d)) (node_in d) i (seen ++ h.0.0 ∷ []) xs) _ s g.2) [
+              | inl f ↦ inr (h.0.0, h.0.1, key, g.0, value_sound d (nodes_sound d) i x h.0.1 g.0 g.1, entries_stopped d stop i (seen ++ h.0.0 ∷ []) xs s f)
+              | inr f ↦ cc
+            ]
+          ]
+    ]
 
 nodes_stopped : (d : ℕ) → NodesStop d
 unfolding node_in

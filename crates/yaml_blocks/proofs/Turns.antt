@@ -1,12 +1,12 @@
 -- Loops over the lines of a block, a turn at a time.
-use Rattle.std.proofs.Common.{◌≡◌, ℕ, zero, suc, ◌+◌, ◌<◌, ◌≤◌, Bool, true, false, List, [], ◌∷◌, ◌++◌, length, get_or, drop, Result, Ok, Err, refl, sym, ap, ◌∙◌, arith, append_assoc, append-nil}
+use Rattle.std.proofs.Common.{◌≡◌, ℕ, zero, suc, ◌+◌, ◌<◌, ◌≤◌, true, false, List, [], ◌∷◌, ◌++◌, length, get_or, drop, Ok, Err, refl, sym, ap, ◌∙◌, arith, append_assoc, append-nil}
 use Rattle.std.proofs.lemmas.List.{drop_more, at_drop_all}
 use Rattle.yaml_lines.specs.declared.line.Line as code
 use Rattle.yaml_lines.specs.File.{Line, is_empty, ends_line}
 use Rattle.yaml_lines.specs.Line.{Stop, Read, ◌>>=◌, is_void, stray, plain_front, plain_rest}
 use Rattle.yaml_lines.specs.View.{line_view}
 use Rattle.yaml_lines.specs.Scalar.{feeds, plain_joint}
-use Rattle.yaml_blocks.specs.Blocks.{nothing_from, nothing_in, skip_void, Further, empty_line, comment_line, text_line, last_line, further, add_line, more_plain, plain_text}
+use Rattle.yaml_blocks.specs.Blocks.{nothing_in, empty_line, comment_line, text_line, last_line, further, more_plain, plain_text}
 use Rattle.yaml_blocks.specs.Furthers.{behind_text}
 use Rattle.yaml_blocks.specs.Views.{lines_view}
 

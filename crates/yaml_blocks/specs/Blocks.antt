@@ -1,10 +1,8 @@
 -- Blocks of lines: how they divide, keys, and the scalars that go on over lines.
 use Rattle.std.specs.Prelude.{ℕ, suc, Bool, true, false, not, ◌&&◌, ◌||◌, ◌==◌, nat_lt, nat_le, if◌then◌else◌, List, [], ◌∷◌, ◌++◌, drop, map as list_map, Option, Some, None, is_some, Ok, Err}
-use Rattle.std.specs.Str.{bytes_eq}
-use Rattle.yaml_lines.specs.File.{Line, is_empty, begins, blank_or_end, skip_blanks, ends_line}
-use Rattle.yaml_lines.specs.Line.{spot, Stop, refused, syntax, Read, ◌>>=◌, indent, body, is_void, is_bare, barred, stray, starts_plain, plain_front, plain_rest, is_dash, is_left_out}
+use Rattle.yaml_lines.specs.File.{Line, is_empty, begins, ends_line}
+use Rattle.yaml_lines.specs.Line.{spot, refused, syntax, Read, ◌>>=◌, indent, body, is_void, is_bare, barred, stray, plain_front, plain_rest, is_dash}
 use Rattle.yaml_lines.specs.Scalar.{Ending, clip, strip, keep, block_text, is_digit, plain_joint}
-use Rattle.yaml_lines.specs.Flow.{Front, quoted, is_quote, merge}
 
 -- the lines at the front that pass a test, and the lines behind them
 abbrev pub front_while : (Line → Bool) → List Line → List Line

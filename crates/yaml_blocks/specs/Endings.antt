@@ -16,3 +16,7 @@ texts_view ts = list_map (λ t. t.now) ts
 -- a text behind others, with a line feed between where it isn't the first
 abbrev pub add_text : Bool → List ℕ → List ℕ → List ℕ
 add_text is_first content t = if is_first then content ++ t else (content ++ 10 ∷ []) ++ t
+
+-- the lines without empty ones at the end, as one text
+abbrev pub kept_text : Bool → List (List ℕ) → List ℕ
+kept_text is_folded kept = if is_folded then scalar.folded kept else scalar.literal kept

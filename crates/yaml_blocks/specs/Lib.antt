@@ -7,3 +7,4 @@ pub mod Documents
 pub mod Views
 pub mod Furthers
 pub mod Endings
+pub mod Contents

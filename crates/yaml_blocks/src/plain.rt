@@ -7,7 +7,7 @@ ghost use Rattle.yaml_blocks.specs.Blocks as spec;
 ghost use Rattle.yaml_blocks.specs.Views.{lines_view, done};
 ghost use Rattle.yaml_blocks.specs.Furthers.{further_view, text_given, behind_text};
 
-use crate::lines::{body, indent, is_barred, is_bare, is_void, lines_behind, nothing_in, stray};
+use crate::lines::{body, indent, is_bare, is_barred, is_void, lines_behind, nothing_in, stray};
 use crate::texts::{push_all, push_feeds};
 use sig_base::Text;
 use std::alloc::{AllocError, Global};

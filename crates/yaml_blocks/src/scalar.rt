@@ -5,7 +5,7 @@ ghost use Rattle.yaml_lines.specs.Scalar as scalar;
 ghost use Rattle.yaml_lines.specs.View.{line_view, Gives};
 ghost use Rattle.yaml_blocks.specs.Blocks as spec;
 ghost use Rattle.yaml_blocks.specs.Views.{lines_view, done};
-ghost use Rattle.yaml_blocks.specs.Endings.{ending_view, texts_view, add_text};
+ghost use Rattle.yaml_blocks.specs.Endings.{ending_view, texts_view, add_text, kept_text};
 
 use crate::texts::{push_all, push_feeds};
 use sig_base::{Code, Text};
@@ -139,11 +139,7 @@ fn fold_line(
 
 /// Folds further lines behind one that begins with a blank or not.
 #[tactic(auto, using(crate::proofs::Folds::folds_turn, crate::proofs::Folds::folds_end))]
-fn push_folded_from(
-    content: &mut Text,
-    begins: bool,
-    texts: &[&[char]],
-) -> Result<(), AllocError>
+fn push_folded_from(content: &mut Text, begins: bool, texts: &[&[char]]) -> Result<(), AllocError>
     ensures { OnOk result (content.new ≡ content.old ++ scalar.fold_from begins 0 (texts_view texts.now)) }
 {
     let mut before = begins;
@@ -173,4 +169,48 @@ fn push_folded(content: &mut Text, texts: &[&[char]]) -> Result<(), AllocError>
     let text = texts[at];
     push_all(content, text)?;
     push_folded_from(content, begins_blank(text), texts.split_at(at + 1).1)
+}
+
+/// The text of a block scalar by its lines without indentation.
+#[tactic(auto, using(crate::proofs::Folds::block_text_by))]
+pub fn block_text(
+    alloc: Global,
+    is_folded: bool,
+    ending: Ending,
+    texts: &[&[char]],
+) -> Result<Text, AllocError>
+    ensures { IfOk result (λ t. t ≡ scalar.block_text is_folded (ending_view ending) (texts_view texts.now)) }
+{
+    let count = kept_len(texts);
+    let mut content = Text::new(alloc);
+    push_kept(&mut content, is_folded, texts.split_at(count).0)?;
+    push_ending(&mut content, ending, count > 0, texts.len() - count)?;
+    Ok(content)
+}
+
+fn push_kept(content: &mut Text, is_folded: bool, kept: &[&[char]]) -> Result<(), AllocError>
+    requires { content.old ≡ [] }
+    ensures { OnOk result (content.new ≡ kept_text is_folded (texts_view kept.now)) }
+{
+    if is_folded {
+        push_folded(content, kept)
+    } else {
+        push_literal(content, kept)
+    }
+}
+
+fn push_ending(
+    content: &mut Text,
+    ending: Ending,
+    has_text: bool,
+    empty: usize,
+) -> Result<(), AllocError>
+    requires { empty < 2 ^ 63 }
+    ensures { OnOk result (content.new ≡ content.old ++ scalar.ending (ending_view ending) has_text empty) }
+{
+    match ending {
+        Ending::Strip => Ok(()),
+        Ending::Clip => push_feeds(content, usize::from(has_text)),
+        Ending::Keep => push_feeds(content, usize::from(has_text) + empty),
+    }
 }

@@ -1,4 +1,4 @@
-use Rattle.std.proofs.Common.{◌≡◌, ℕ, ◌+◌, List, Ok, drop, sym, ap, ◌∙◌}
+use Rattle.std.proofs.Common.{Ok, sym, ap, ◌∙◌}
 use Rattle.yaml_lines.specs.View.{line_view}
 use Rattle.yaml_blocks.specs.Blocks.{further, more_plain, nothing_in}
 use Rattle.yaml_blocks.specs.Furthers.{further_view, text_given, behind_text}

@@ -1,11 +1,11 @@
-use Rattle.std.proofs.Common.{◌≡◌, List, Ok, true, false, sym, ap, ◌∙◌, subst}
+use Rattle.std.proofs.Common.{◌≡◌, true, false, sym, ◌∙◌, subst}
 use Rattle.std.proofs.lemmas.Grind.{common_steps}
 use Rattle.std.proofs.Common.{arith}
 use Rattle.yaml_lines.specs.File.{is_empty, ends_line}
-use Rattle.yaml_lines.specs.Line.{Read, plain_front, plain_rest}
+use Rattle.yaml_lines.specs.Line.{plain_front, plain_rest}
 use Rattle.yaml_lines.specs.View.{line_view, Gives}
-use Rattle.yaml_blocks.specs.Blocks.{more_plain, plain_text, nothing_in}
-use Rattle.yaml_blocks.specs.Furthers.{text_given, behind_text}
+use Rattle.yaml_blocks.specs.Blocks.{plain_text, nothing_in}
+use Rattle.yaml_blocks.specs.Furthers.{text_given}
 use Rattle.yaml_blocks.specs.Views.{lines_view}
 use Rattle.yaml_lines.proofs.Failing.{fails_more, gives_err}
 use Rattle.yaml_blocks.proofs.Turns.{text_goes_on, text_stops}

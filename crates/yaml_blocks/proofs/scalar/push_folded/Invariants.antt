@@ -6,7 +6,7 @@ use Rattle.yaml_blocks.proofs.scalar.push_folded.Given as goal
 abbrev pub invariant-loop-at : goal.invariant-loop-at
 invariant-loop-at l = record {
   within : l.at ≤ length l.texts;
-  far : l.content ++ folded (texts_view (drop l.at l.texts)) ≡ folded (texts_view l.texts)
+  far : l.content ++ folded (texts_view (drop l.at l.texts)) ≡ folded (texts_view l.texts);
 }
 
 abbrev pub decreases-loop-at : goal.decreases-loop-at

@@ -1,0 +1,76 @@
+//! What no clause says: that the calls succeed, and that the fakes do what a reader of them expects.
+
+use crate::{
+    Bytes, Code, Limits, MemoryShelf, MemorySink, MemorySource, Shelf, ShelfFault, Sink, Source,
+    Text, Texts, fold, put_all,
+};
+use std::alloc::Global;
+use std::test::Fail;
+
+#[test]
+fn keeps_texts_bytes_and_codes(rt: HostRuntime) -> Result<(), Fail> {
+    let mut text = Text::copy(rt.alloc(), "Grüße")?;
+    text.push('!')?;
+    assert!(rt; text.is("Grüße!"));
+    assert!(rt; !text.equals(&Text::new(rt.alloc())));
+    let mut texts = Texts::new(rt.alloc());
+    texts.push(text)?;
+    assert_eq!(rt; texts.as_slice().len(), 1);
+    assert_eq!(rt;
+        Bytes::copy(rt.alloc(), b"ab")?.as_slice(),
+        b"ab".as_slice()
+    );
+    assert_eq!(rt; Code::TOO_LARGE.name(), "TooLarge");
+    assert_eq!(rt; Code::QUERY_TOO_LONG.number(), 114);
+    assert_eq!(rt; Code::QUERY_TOO_LONG.name(), "QueryTooLong");
+    assert_eq!(rt; Code::FMT_TOO_LONG.name(), "FmtTooLong");
+    assert_eq!(rt; Limits::standard().query_bytes, 4_194_304);
+    for (c, folded) in [('A', 'a'), ('Z', 'z'), ('@', '@'), ('[', '['), ('Ä', 'Ä')] {
+        assert_eq!(rt; fold(c), folded);
+    }
+    Ok(())
+}
+
+fn one(alloc: Global, call: u64) -> Result<Vec<u64>, Fail> {
+    let mut all = Vec::new(alloc);
+    all.push(call)?;
+    Ok(all)
+}
+
+#[test]
+fn fails_where_it_is_told_to(rt: HostRuntime) -> Result<(), Fail> {
+    let mut files = Vec::new(rt.alloc());
+    files.push((
+        Text::copy(rt.alloc(), "a")?,
+        Bytes::copy(rt.alloc(), b"abc")?,
+    ))?;
+    let mut shelf = MemoryShelf::new(rt.alloc(), files, one(rt.alloc(), 2)?);
+    assert_eq!(rt;
+        shelf.read(rt.alloc(), "a", 2)?.as_slice(),
+        b"ab".as_slice()
+    );
+    assert_eq!(rt;
+        shelf.read(rt.alloc(), "a", 2).err(),
+        Some(ShelfFault::Failed)
+    );
+    assert_eq!(rt;
+        shelf.read(rt.alloc(), "b", 2).err(),
+        Some(ShelfFault::Failed)
+    );
+    assert_eq!(rt;
+        shelf.read(rt.alloc(), "a", 9)?.as_slice(),
+        b"abc".as_slice()
+    );
+    let mut source = MemorySource::new(Bytes::copy(rt.alloc(), b"abc")?, 2, one(rt.alloc(), 1)?);
+    let mut buf = [0u8; 4];
+    assert!(rt; source.read(&mut buf).is_err());
+    assert_eq!(rt; source.read(&mut buf)?, 2);
+    assert_eq!(rt; source.read(&mut buf)?, 1);
+    assert_eq!(rt; source.read(&mut buf)?, 0);
+    let mut sink = MemorySink::new(rt.alloc(), 3, 2, one(rt.alloc(), 1)?)?;
+    assert!(rt; sink.write(b"ab").is_err());
+    assert!(rt; put_all(&mut sink, b"abcd").is_err());
+    assert_eq!(rt; sink.taken(), b"abc".as_slice());
+    assert!(rt; put_all(&mut sink, b"").is_ok());
+    Ok(())
+}

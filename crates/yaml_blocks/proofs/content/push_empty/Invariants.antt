@@ -1,0 +1,9 @@
+use Rattle.std.proofs.Common.{◌≡◌, ◌++◌, take}
+use Rattle.std.specs.Prelude.{map}
+use Rattle.yaml_blocks.specs.Contents.{none_of_line}
+use Rattle.yaml_blocks.specs.Endings.{texts_view}
+use Rattle.yaml_blocks.specs.Views.{lines_view}
+use Rattle.yaml_blocks.proofs.content.push_empty.Given as goal
+
+abbrev pub invariant-loop-at : goal.invariant-loop-at
+invariant-loop-at l = texts_view l.texts.items ≡ texts_view l.fn.texts.items ++ map none_of_line (lines_view (take l.at l.lines))
