@@ -1,0 +1,13 @@
+pub mod Chains
+pub mod Complete
+pub mod Fitting
+pub mod Indexing
+pub mod MeaningLemmas
+pub mod Parts
+pub mod Places
+pub mod Readings
+pub mod Scans
+pub mod Sound
+pub mod SpellingLemmas
+pub mod Turns
+pub mod WordTests

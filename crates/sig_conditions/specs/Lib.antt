@@ -1,0 +1,12 @@
+pub mod Conditions
+pub mod Formulas
+pub mod Grammar
+pub mod Indexes
+pub mod Meaning
+pub mod Outcome
+pub mod Reader
+pub mod Refusals
+pub mod Resolved
+pub mod Spelling
+pub mod Taken
+pub mod Words

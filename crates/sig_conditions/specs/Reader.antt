@@ -1,0 +1,128 @@
+-- A reader of words from the left: the condition at the front and the words behind it, if there is one.
+use Rattle.std.specs.Prelude.{ℕ, zero, suc, Bool, List, [], ◌∷◌, length, Some, None, if◌then◌else◌}
+use Rattle.std.specs.declared.option.Option.{Option}
+use Rattle.sig_conditions.specs.declared.selector.Selector.{Selector}
+use Rattle.sig_conditions.specs.declared.word.Word.{Word}
+use Rattle.sig_conditions.specs.declared.word.Word.TheVariants.{Open, Close, Or, And, Not, One, All, Of, Them, Name, Pattern, Bad}
+use Rattle.sig_conditions.specs.Conditions.{Cond, CName, COneOf, CAllOf, CNot, Conds, no_conds, put, joined_or, joined_and}
+use Rattle.sig_conditions.specs.Words.{is_or, is_and, is_of}
+use Rattle.sig_conditions.specs.Grammar.{selector_of}
+
+infixl 10 ◌>>=◌
+abbrev pub ◌>>=◌ : {A B : Type 0} → Option A → (A → Option B) → Option B
+None >>= f = None
+Some x >>= f = f x
+
+-- a value, and the words behind it
+abbrev pub read : {A : Type 0} → A → List Word → Option (A × List Word)
+read x ws = Some (x, ws)
+
+abbrev pub read_map : {A B : Type 0} → (A → B) → Option (A × List Word) → Option (B × List Word)
+read_map f None = None
+read_map f (Some r) = Some (f r.0, r.1)
+
+-- the parts that follow, each behind a word that joins; k is at least the number of words
+unfoldable pub tail_in : (List Word → Option (Cond × List Word)) → (Word → Bool) → ℕ → List Word → Option (Conds × List Word)
+tail_in part joins zero ws = Some (no_conds, ws)
+tail_in part joins (suc k) [] = Some (no_conds, [])
+tail_in part joins (suc k) (w ∷ ws) =
+    if joins w then (part ws >>= (λ r. read_map (put r.0) (tail_in part joins k r.1))) else Some (no_conds, w ∷ ws)
+
+unfoldable pub chain_in : (List Word → Option (Cond × List Word)) → (Word → Bool) → (Cond → Conds → Cond) → List Word → Option (Cond × List Word)
+chain_in part joins join ws = part ws >>= (λ r. read_map (join r.0) (tail_in part joins (length r.1) r.1))
+
+-- a closing parenthesis at the front
+abbrev pub closed : Cond → List Word → Option (Cond × List Word)
+closed c [] = None
+closed c (Open ∷ ws) = None
+closed c (Close ∷ ws) = Some (c, ws)
+closed c (Or ∷ ws) = None
+closed c (And ∷ ws) = None
+closed c (Not ∷ ws) = None
+closed c (One ∷ ws) = None
+closed c (All ∷ ws) = None
+closed c (Of ∷ ws) = None
+closed c (Them ∷ ws) = None
+closed c (Name n ∷ ws) = None
+closed c (Pattern n ∷ ws) = None
+closed c (Bad ∷ ws) = None
+
+abbrev pub chosen : (Selector → Cond) → Option Selector → List Word → Option (Cond × List Word)
+chosen make None ws = None
+chosen make (Some s) ws = Some (make s, ws)
+
+abbrev pub behind_of : (Selector → Cond) → List Word → Option (Cond × List Word)
+behind_of make [] = None
+behind_of make (w ∷ ws) = chosen make (selector_of w) ws
+
+-- the word `of` and a selector
+abbrev pub selected : (Selector → Cond) → List Word → Option (Cond × List Word)
+selected make [] = None
+selected make (w ∷ ws) = if is_of w then behind_of make ws else None
+
+abbrev pub atom_at : (List Word → Option (Cond × List Word)) → Word → List Word → Option (Cond × List Word)
+atom_at inner Open ws = inner ws >>= (λ r. closed r.0 r.1)
+atom_at inner Close ws = None
+atom_at inner Or ws = None
+atom_at inner And ws = None
+atom_at inner Not ws = None
+atom_at inner One ws = selected COneOf ws
+atom_at inner All ws = selected CAllOf ws
+atom_at inner Of ws = None
+atom_at inner Them ws = None
+atom_at inner (Name n) ws = Some (CName n, ws)
+atom_at inner (Pattern n) ws = None
+atom_at inner Bad ws = None
+
+abbrev pub atom_of : (List Word → Option (Cond × List Word)) → List Word → Option (Cond × List Word)
+atom_of inner [] = None
+atom_of inner (w ∷ ws) = atom_at inner w ws
+
+abbrev pub not_at : (List Word → Option (Cond × List Word)) → (List Word → Option (Cond × List Word)) → List Word → Option (Cond × List Word)
+not_at inner_not inner_or [] = None
+not_at inner_not inner_or (Open ∷ ws) = atom_at inner_or Open ws
+not_at inner_not inner_or (Close ∷ ws) = atom_at inner_or Close ws
+not_at inner_not inner_or (Or ∷ ws) = atom_at inner_or Or ws
+not_at inner_not inner_or (And ∷ ws) = atom_at inner_or And ws
+not_at inner_not inner_or (Not ∷ ws) = read_map CNot (inner_not ws)
+not_at inner_not inner_or (One ∷ ws) = atom_at inner_or One ws
+not_at inner_not inner_or (All ∷ ws) = atom_at inner_or All ws
+not_at inner_not inner_or (Of ∷ ws) = atom_at inner_or Of ws
+not_at inner_not inner_or (Them ∷ ws) = atom_at inner_or Them ws
+not_at inner_not inner_or (Name n ∷ ws) = atom_at inner_or (Name n) ws
+not_at inner_not inner_or (Pattern n ∷ ws) = atom_at inner_or (Pattern n) ws
+not_at inner_not inner_or (Bad ∷ ws) = atom_at inner_or Bad ws
+
+abbrev pub no_more : List Word → Option (Cond × List Word)
+no_more ws = None
+
+-- with at most so many words `(` and `not` around each word
+unfoldable pub not_in : ℕ → List Word → Option (Cond × List Word)
+not_in zero ws = not_at no_more no_more ws
+not_in (suc d) ws = not_at (not_in d) (chain_in (chain_in (not_in d) is_and joined_and) is_or joined_or) ws
+
+abbrev pub and_in : ℕ → List Word → Option (Cond × List Word)
+and_in d ws = chain_in (not_in d) is_and joined_and ws
+
+abbrev pub or_in : ℕ → List Word → Option (Cond × List Word)
+or_in d ws = chain_in (and_in d) is_or joined_or ws
+
+-- what may stand behind a word `not` or `(` where so many more may stand
+abbrev pub inner_not : ℕ → List Word → Option (Cond × List Word)
+inner_not zero ws = None
+inner_not (suc d) ws = not_in d ws
+
+abbrev pub inner_or : ℕ → List Word → Option (Cond × List Word)
+inner_or zero ws = None
+inner_or (suc d) ws = or_in d ws
+
+abbrev pub atom_in : ℕ → List Word → Option (Cond × List Word)
+atom_in d ws = atom_of (inner_or d) ws
+
+abbrev pub alone : Cond × List Word → Option Cond
+alone (c, []) = Some c
+alone (c, w ∷ ws) = None
+
+-- the condition that all the words are
+abbrev pub condition_in : ℕ → List Word → Option Cond
+condition_in d ws = or_in d ws >>= alone

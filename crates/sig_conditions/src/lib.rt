@@ -1,0 +1,30 @@
+//! A rule's condition: its words, the condition that they read as, and the formula over the rule's detections.
+#![tactic(auto)]
+
+pub use condition::Condition;
+pub use formula::Formula;
+pub use law::{identifiers_are_names, one_condition, one_list_of_words, same_meaning};
+pub use reading::read_condition;
+pub use resolving::resolve_condition;
+pub use scan::is_identifier;
+pub use selector::Selector;
+
+mod condition;
+mod copying;
+mod formula;
+mod index;
+mod join;
+mod law;
+mod look;
+mod reader;
+mod reading;
+mod resolver;
+mod resolving;
+mod scan;
+mod selector;
+mod stop;
+mod taking;
+#[cfg(test)]
+mod tests;
+mod unresolved;
+mod word;

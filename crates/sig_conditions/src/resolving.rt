@@ -1,0 +1,49 @@
+//! The formula of a condition.
+
+ghost use Rattle.std.specs.Prelude.{◌≡◌, Some, IfOk, IfErr};
+ghost use Rattle.sig_conditions.specs.Conditions.{cond_view};
+ghost use Rattle.sig_conditions.specs.Formulas.{form_view, formula_of};
+ghost use Rattle.sig_conditions.specs.Refusals.{IsUnresolved, refusal_of};
+
+use crate::condition::Condition;
+use crate::formula::Formula;
+use crate::index::index_names;
+use crate::resolver::resolve;
+use crate::unresolved::Unresolved;
+use sig_base::{Code, Detail, Fault, Place, Refusal, Text};
+use std::alloc::Global;
+
+/// Puts the numbers of a rule's detections in place of their names, where `names` has the names in the rule's order. Of
+/// the names and selectors that have no detection, the first in the text is refused: `UnknownName` with the name, or
+/// `NothingTaken`. More than 2^32 - 1 detections can't be numbered, which is want of memory.
+pub fn resolve_condition(
+    alloc: Global,
+    condition: &Condition,
+    names: &[Text],
+    place: Place,
+) -> Result<Formula, Fault>
+    ensures formula { IfOk result (λ f. formula_of names.now (cond_view condition.now) ≡ Some (form_view f)) }
+    ensures refused { IfErr result (λ e. IsUnresolved names.now (cond_view condition.now) place e) }
+{
+    if names.len() > 4294967295 {
+        return Err(Fault::Memory);
+    }
+    let index = match index_names(alloc, names) {
+        Ok(index) => index,
+        Err(_) => return Err(Fault::Memory),
+    };
+    match resolve(alloc, condition, names, &index) {
+        Ok(formula) => Ok(formula),
+        Err(Unresolved::Memory) => Err(Fault::Memory),
+        Err(Unresolved::Unknown(name)) => Err(Fault::Refused(Refusal {
+            code: Code::UNKNOWN_NAME,
+            place,
+            detail: Detail::Text(name),
+        })),
+        Err(Unresolved::Nothing) => Err(Fault::Refused(Refusal {
+            code: Code::NOTHING_TAKEN,
+            place,
+            detail: Detail::None,
+        })),
+    }
+}
