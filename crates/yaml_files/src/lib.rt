@@ -8,4 +8,6 @@ pub use text::characters;
 mod documents;
 mod lines;
 mod refusal;
+#[cfg(test)]
+mod tests;
 mod text;

@@ -1,6 +1,6 @@
 //! The characters of a file (YAML 1.2, 5.2), within its limit.
 
-ghost use Rattle.std.specs.Prelude.{◌≡◌, ◌≤◌, ◌<◌, not, ◌==◌, length, count_by, IsUtf8, IfOk, IfErr};
+ghost use Rattle.std.specs.Prelude.{◌≡◌, ◌≤◌, ◌<◌, not, ◌==◌, length, vec_len, count_by, IsUtf8, IfOk, IfErr};
 ghost use Rattle.std.specs.List.{suffix_len};
 ghost use Rattle.yaml_tree.specs.View.{place_view};
 ghost use Rattle.yaml_files.specs.Call as call;
@@ -15,6 +15,7 @@ use std::alloc::{AllocError, Global};
 pub fn characters(alloc: Global, file_bytes: usize, bytes: &[u8]) -> Result<Vec<char>, Fault>
     requires { file_bytes < 4294967295 }
     ensures within { IfOk result (λ cs. length bytes.now ≤ file_bytes) }
+    ensures few { IfOk result (λ cs. vec_len cs ≤ file_bytes) }
     ensures text { IfOk result (λ cs. call.IsText bytes.now cs.items) }
     ensures refused { IfErr result (λ e. IfRefused e (call.IsUnreadable file_bytes bytes.now)) }
 {
@@ -40,7 +41,8 @@ fn as_text(bytes: &[u8]) -> &str
 }
 
 fn decoded(alloc: Global, text: &str) -> Result<Vec<char>, AllocError>
-    ensures { IfOk result (λ cs. call.IsText text.now cs.items) }
+    ensures few { IfOk result (λ cs. vec_len cs ≤ length text.now) }
+    ensures text { IfOk result (λ cs. call.IsText text.now cs.items) }
 {
     text.chars().collect(alloc)
 }
