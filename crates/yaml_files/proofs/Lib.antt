@@ -4,3 +4,4 @@ pub mod Numbers
 pub mod Parts
 pub mod Utf8
 pub mod Refusals
+pub mod Walks

@@ -1,6 +1,7 @@
 -- Documents as plain data, and what holds of a refusal.
 use Rattle.std.specs.Prelude.{◌≡◌, ℕ, List, [], ◌∷◌, map as list_map, Option, Some, None}
 use Rattle.std.specs.Borrow.{Bor}
+use Rattle.sig_base.specs.declared.refusal.Place.{Place}
 use Rattle.sig_base.specs.declared.refusal.Fault.{Fault}
 use Rattle.sig_base.specs.declared.refusal.Fault.TheVariants.{Memory, Refused}
 use Rattle.sig_base.specs.declared.refusal.Detail.TheVariants as detail
@@ -23,6 +24,10 @@ first_place (l ∷ ls) = Some (at l 0)
 -- there are as many documents as there may be, and the first line with content begins there of one more
 abbrev pub IsOneMore : ℕ → ℕ → List Line → ℕ × At → Type 0
 IsOneMore most count document p = (count ≡ most) × (first_place (skip_void document) ≡ Some p.1) × (p.0 ≡ 7)
+
+-- a code and a place
+abbrev pub code_view : ℕ × Place → ℕ × At
+code_view p = (p.0, place_view p.1)
 
 -- a refusal has this code and place, and no detail; want of memory is free
 abbrev pub IfRefused : Fault → (ℕ × At → Type 0) → Type 0

@@ -1,8 +1,10 @@
+use crate::codes::stop_code;
 use crate::{characters, documents_in, lines_of};
-use sig_base::Fault;
+use sig_base::{Fault, Place};
 use std::alloc::Global;
 use std::fmt::Write;
 use std::test::Fail;
+use yaml_lines::{Halt, Line, Opening};
 
 /// The documents of a file, each line behind its number, or why there are none.
 fn shown(alloc: Global, file_bytes: usize, most: usize, bytes: &[u8]) -> Result<String, Fail> {
@@ -93,6 +95,49 @@ fn refuses_whole_files(rt: HostRuntime) -> Result<(), Fail> {
     assert_eq!(rt;
         shown(alloc, 99, 2, b"---\na\n---\n\n# c\n---\n\n b\n")?.as_str(),
         "/2a|/7|8 b|"
+    );
+    Ok(())
+}
+
+/// The code and the place of what stays open on a line: a bracket at column 4 and a quote at column 8.
+fn open_code(alloc: Global, text: &str, later: &str) -> Result<String, Fail> {
+    let text: Vec<char> = text.chars().collect(alloc)?;
+    let later: Vec<char> = later.chars().collect(alloc)?;
+    if text.len() > 99 || later.len() > 99 {
+        return Ok(String::from_str(alloc, "too long")?);
+    }
+    let line = Line {
+        number: 1,
+        text: &text,
+    };
+    let mut openings = Vec::new(alloc);
+    let columns = [(4u32, ']'), (8u32, '"')];
+    for (column, closing) in columns {
+        let place = Place { line: 1, column };
+        openings.push(Opening { place, closing })?;
+    }
+    let next = Line {
+        number: 2,
+        text: &later,
+    };
+    match stop_code(&line, &[next], &Halt::Unclosed(1, openings)) {
+        None => Ok(String::from_str(alloc, "memory")?),
+        Some((code, place)) => {
+            let number = code.number();
+            Ok(format!(in alloc; "{number} {}:{}", place.line, place.column)?)
+        }
+    }
+}
+
+#[test]
+fn finds_what_closes_later(rt: HostRuntime) -> Result<(), Fail> {
+    let alloc = rt.alloc();
+    assert_eq!(rt; open_code(alloc, "a: [1, \"x", "\"]")?.as_str(), "3 1:4");
+    assert_eq!(rt; open_code(alloc, "a: [1, \"x", "# \"")?.as_str(), "3 1:8");
+    assert_eq!(rt; open_code(alloc, "a: [1, \"x", "}")?.as_str(), "4 1:1");
+    assert_eq!(rt;
+        open_code(alloc, "a: [1\u{1}, \"x", "\"")?.as_str(),
+        "4 1:1"
     );
     Ok(())
 }
