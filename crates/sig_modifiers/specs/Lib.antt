@@ -1,0 +1,5 @@
+pub mod Chains
+pub mod Judged
+pub mod TestsOf
+pub mod Words
+pub mod Written

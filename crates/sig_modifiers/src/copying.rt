@@ -1,0 +1,38 @@
+ghost use Rattle.std.specs.Prelude.{◌≡◌, IfOk, IfErr};
+
+use crate::test::Test;
+use crate::test_list::Tests;
+use sig_base::Fault;
+use std::alloc::Global;
+
+impl Test {
+    /// The same test; only want of memory is answered.
+    pub fn copy(&self, alloc: Global) -> Result<Test, Fault>
+        ensures ok { IfOk result (λ test. test ≡ self.now) }
+        ensures err { IfErr result (λ e. e ≡ Fault.Memory) }
+    {
+        match self {
+            Test::Fits { pattern, cased } => {
+                let pattern = pattern.copy(alloc)?;
+                Ok(Test::Fits {
+                    pattern,
+                    cased: *cased,
+                })
+            }
+        }
+    }
+}
+
+impl Tests {
+    /// The same tests; only want of memory is answered.
+    pub fn copy(&self, alloc: Global) -> Result<Tests, Fault>
+        ensures ok { IfOk result (λ tests. tests ≡ self.now) }
+        ensures err { IfErr result (λ e. e ≡ Fault.Memory) }
+    {
+        let mut tests = Vec::new(alloc);
+        for test in self.as_slice() {
+            tests.push(test.copy(alloc)?)?;
+        }
+        Ok(Tests::from_vec(tests))
+    }
+}

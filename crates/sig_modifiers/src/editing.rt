@@ -1,0 +1,62 @@
+//! What modifiers make of a pattern.
+
+ghost use Rattle.std.specs.Prelude.{◌≡◌, IfOk, IfErr};
+ghost use Rattle.std.specs.List.{list_any};
+ghost use Rattle.sig_modifiers.specs.Chains as chains;
+ghost use Rattle.sig_modifiers.specs.TestsOf as uses;
+
+use crate::chain::Chain;
+use crate::counting::{is_cased, is_position};
+use crate::modifier::Modifier;
+use sig_base::Fault;
+use sig_strings::Pattern;
+
+fn edited(modifier: Modifier, pattern: Pattern) -> Result<Pattern, Fault>
+    ensures ok { IfOk result (λ p. p ≡ uses.edited modifier pattern) }
+    ensures err { IfErr result (λ e. e ≡ Fault.Memory) }
+{
+    match modifier {
+        Modifier::Contains => pattern.with_run_before()?.with_run_after(),
+        Modifier::StartsWith => pattern.with_run_after(),
+        Modifier::EndsWith => pattern.with_run_before(),
+        Modifier::Cased => Ok(pattern),
+    }
+}
+
+fn all_edited(modifiers: &[Modifier], pattern: Pattern) -> Result<Pattern, Fault>
+    ensures ok { IfOk result (λ p. p ≡ uses.all_edited modifiers.now pattern) }
+    ensures err { IfErr result (λ e. e ≡ Fault.Memory) }
+{
+    let mut edit = pattern;
+    for modifier in modifiers {
+        edit = edited(*modifier, edit)?;
+    }
+    Ok(edit)
+}
+
+fn has_position(modifiers: &[Modifier]) -> bool
+    ensures { result ≡ list_any chains.is_position modifiers.now }
+{
+    modifiers.iter().any(is_position)
+}
+
+impl Chain {
+    /// Whether texts are compared with regard to case.
+    pub(crate) fn is_cased(&self) -> bool
+        ensures { result ≡ list_any chains.is_cased self.now.modifiers }
+    {
+        self.modifiers().iter().any(is_cased)
+    }
+
+    /// What the modifiers make of a pattern, with the runs of a keyword.
+    pub(crate) fn pattern_of(&self, pattern: Pattern) -> Result<Pattern, Fault>
+        ensures ok { IfOk result (λ p. p ≡ uses.pattern_of self.now pattern) }
+        ensures err { IfErr result (λ e. e ≡ Fault.Memory) }
+    {
+        let pattern = all_edited(self.modifiers(), pattern)?;
+        if !self.is_keyword() || has_position(self.modifiers()) {
+            return Ok(pattern);
+        }
+        pattern.with_run_before()?.with_run_after()
+    }
+}

@@ -1,0 +1,21 @@
+//! Chains of modifiers, and the tests that they make of the values of a rule.
+#![tactic(auto)]
+
+pub use chain::Chain;
+pub use modifier::{Joined, Modifier};
+pub use resolving::resolve;
+pub use test::Test;
+pub use test_list::Tests;
+
+mod chain;
+#[cfg(test)]
+mod checks;
+mod copying;
+mod counting;
+mod editing;
+mod modifier;
+mod reading;
+mod refusing;
+mod resolving;
+mod test;
+mod test_list;

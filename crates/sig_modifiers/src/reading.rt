@@ -1,0 +1,72 @@
+ghost use Rattle.std.specs.Prelude.{◌≡◌, find};
+ghost use Rattle.sig_modifiers.specs.Chains as chains;
+ghost use Rattle.sig_modifiers.specs.Judged.{Judged};
+ghost use Rattle.sig_modifiers.specs.Words as names;
+
+use crate::chain::Chain;
+use crate::counting::is_chain;
+use crate::modifier::Modifier;
+use crate::refusing::refused;
+use sig_base::{Code, Detail, Fault, Place, Refusal, Text};
+use std::alloc::Global;
+
+/// The modifier that a word names.
+fn modifier_of(word: &Text) -> Option<Modifier>
+    ensures { result ≡ names.modifier_of word.now }
+{
+    if word.is("contains") {
+        return Some(Modifier::Contains);
+    }
+    if word.is("startswith") {
+        return Some(Modifier::StartsWith);
+    }
+    if word.is("endswith") {
+        return Some(Modifier::EndsWith);
+    }
+    if word.is("cased") {
+        return Some(Modifier::Cased);
+    }
+    None
+}
+
+/// The refusal of a word that names no modifier, which it tells.
+fn unknown(alloc: Global, place: Place, word: &Text) -> Fault
+    ensures { Judged (λ (w : Modifier). Unit {0}) (chains.unknown place (Some word.now)) (Err result) }
+{
+    match Text::copy(alloc, word.as_str()) {
+        Ok(word) => Fault::Refused(Refusal {
+            code: Code::UNKNOWN_MODIFIER,
+            place,
+            detail: Detail::Text(word),
+        }),
+        Err(fault) => fault,
+    }
+}
+
+/// The modifiers that the words name.
+fn read_modifiers(alloc: Global, words: &[Text], place: Place) -> Result<Vec<Modifier>, Fault>
+    ensures { Judged (λ v. v.items ≡ chains.modifiers_of words.now) (chains.unknown place (find names.is_unknown words.now)) result }
+{
+    let mut modifiers = Vec::new(alloc);
+    for word in words {
+        let Some(modifier) = modifier_of(word) else {
+            return Err(unknown(alloc, place, word));
+        };
+        modifiers.push(modifier)?;
+    }
+    Ok(modifiers)
+}
+
+impl Chain {
+    /// Reads the words behind a field's name, or with `keyword` those of a keyword. The first word that names no
+    /// modifier is refused 40, and modifiers that may not stand together 41, both at `place`.
+    pub fn read(alloc: Global, words: &[Text], keyword: bool, place: Place) -> Result<Chain, Fault>
+        ensures { Judged (λ c. c ≡ chains.chain_of words.now keyword place) (chains.chain_refusal place words.now) result }
+    {
+        let modifiers = read_modifiers(alloc, words, place)?;
+        if !is_chain(&modifiers) {
+            return Err(refused(Code::CHAIN_NOT_ALLOWED, place));
+        }
+        Ok(Chain::of_modifiers(modifiers, keyword, place))
+    }
+}

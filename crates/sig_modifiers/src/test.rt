@@ -1,0 +1,10 @@
+//! Tests of a field's value.
+
+use sig_strings::Pattern;
+
+/// What a rule asks of the value of a field.
+#[derive(Drop, Debug)]
+pub enum Test {
+    /// its text fits the pattern, read exactly where `cased`, else without regard to the case of A to Z
+    Fits { pattern: Pattern, cased: bool },
+}
