@@ -1,5 +1,6 @@
 -- What answering one document leaves on the sinks.
-use Rattle.std.proofs.Common.{◌≡◌, ℕ, Bool, true, false, List, [], ◌∷◌, ◌++◌, refl, ap, sym, ◌∙◌, subst, append-nil, Option}
+use Rattle.std.proofs.Common.{◌≡◌, ℕ, Bool, true, false, List, [], ◌∷◌, ◌++◌, refl, ap, sym, ◌∙◌, subst, append-nil, Option, Result, Ok, Err}
+use Rattle.std.specs.Prelude.{OnErr}
 use Rattle.std.specs.Io.KnownBytes.{Appends}
 use Rattle.sig_base.proofs.Puts.{Appends-nothing, front_nothing}
 use Rattle.sig_base.specs.Causes.{AppendsFront}
@@ -7,30 +8,36 @@ use Rattle.sig_base.specs.declared.limits.Limits.{Limits}
 use Rattle.sig_base.specs.declared.refusal.Refusal.{Refusal}
 use Rattle.sigma_app.specs.Documents.{DocumentWhole, DocumentCut}
 use Rattle.sigma_app.specs.Ends.{LinesCut, nothing, of_next}
+use Rattle.sigma_app.specs.Matching.{Rule}
+use Rattle.sigma_app.specs.Queries.{query_of}
 use Rattle.sigma_app.specs.Reports.{ended, lines_text, refusal_line}
-use Rattle.sigma_app.specs.Verdicts.{Verdict, Accepted, Refused, IsVerdict, IsAccepted, IsRefused, query_of, query_of_verdict, lines_of_verdict}
-use Rattle.yaml_profile.specs.SevenLines.{Simple}
+use Rattle.sigma_app.specs.Verdicts.{Verdict, Accepted, Refused, IsVerdict, IsAccepted, IsRefused, query_of_verdict, lines_of_verdict}
+
+-- what an error leaves says something else
+pub err_then : {T E : Type 0} (r : Result T E) (P Q : Type 0) → (P → Q) → OnErr r P → OnErr r Q
+err_then (Ok x) P Q f p = tt
+err_then (Err e) P Q f p = f p
 
 -- no line yet
 pub no_lines : (names lines : List (List ℕ)) (eo : Option (List ℕ)) → LinesCut names eo eo lines
 no_lines names lines eo = record { whole = []; later = lines; part = []; parts = refl; is_part = nothing refl; grown = Appends-nothing eo }
 
 pub query_whole : (limits : Limits) (name bytes query : List ℕ) (oo on eo : Option (List ℕ))
-    → (rule : Simple) × IsAccepted limits bytes rule × (query ≡ ended (query_of rule)) → Appends oo on query → DocumentWhole limits name bytes false oo on eo eo
+    → (rule : Rule) × IsAccepted limits bytes rule × (query ≡ query_of rule) → Appends oo on (ended query) → DocumentWhole limits name bytes false oo on eo eo
 query_whole limits name bytes query oo on eo (rule, accepted, is) out = record {
   verdict = Accepted rule;
   is = accepted;
   found_is = refl;
-  out = subst (λ (b : List ℕ). Appends oo on b) is out;
+  out = subst (λ (b : List ℕ). Appends oo on (ended b)) is out;
   err = Appends-nothing eo;
 }
 
 pub query_cut : (limits : Limits) (name bytes query : List ℕ) (oo on eo : Option (List ℕ))
-    → (rule : Simple) × IsAccepted limits bytes rule × (query ≡ ended (query_of rule)) → AppendsFront oo on query → DocumentCut limits name bytes oo on eo eo
+    → (rule : Rule) × IsAccepted limits bytes rule × (query ≡ query_of rule) → AppendsFront oo on (ended query) → DocumentCut limits name bytes oo on eo eo
 query_cut limits name bytes query oo on eo (rule, accepted, is) out = record {
   verdict = Accepted rule;
   is = accepted;
-  out = subst (λ (b : List ℕ). AppendsFront oo on b) is out;
+  out = subst (λ (b : List ℕ). AppendsFront oo on (ended b)) is out;
   err = no_lines (name ∷ []) [] eo;
 }
 

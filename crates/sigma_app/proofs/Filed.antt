@@ -14,7 +14,7 @@ use Rattle.sigma_app.specs.Documents.{DocumentWhole, DocumentCut, DocumentEnds}
 use Rattle.sigma_app.specs.Ends.{LinesCut, LinesUnread, nothing, of_unread}
 use Rattle.sigma_app.specs.Going.{AnsweredWhole, AnsweredCut, AnsweredUnread, Ends, Tells}
 use Rattle.sigma_app.specs.Reports.{ended, lines_text, unread_line}
-use Rattle.sigma_app.specs.Verdicts.{Verdict, Accepted, Refused, IsVerdict, IsAccepted, IsRefused, too_large, not_built, too_long, Answered, AreAnswered, contents, query_of_verdict, lines_of_verdict, queries_of, lines_of, all_queries, all_lines}
+use Rattle.sigma_app.specs.Verdicts.{Verdict, Accepted, Refused, IsVerdict, IsAccepted, IsRefused, too_large, not_built, no_test, no_query, Answered, AreAnswered, contents, query_of_verdict, lines_of_verdict, queries_of, lines_of, all_queries, all_lines}
 use Rattle.sigma_app.specs.declared.stop.Stop.{Stop}
 use Rattle.sigma_app.specs.declared.stop.Stop.TheVariants.{Unread, Unwritten, Memory}
 
@@ -34,10 +34,11 @@ front_judged limits all verdict judged =
     past large = omega (arith, large, length-take-le (limits.file_bytes + 1) all (omega (arith, large)))
 
     large_judged : (v : Verdict) → IsVerdict limits (take (limits.file_bytes + 1) all) v → limits.file_bytes < length all → IsVerdict limits all v
-    large_judged (Accepted rule) taken large = absurd (omega (arith, past large, taken.small))
+    large_judged (Accepted rule) taken large = let small = taken.says.small in absurd (omega (arith, past large, small))
     large_judged (Refused r) (too_large _ is) large = too_large large is
     large_judged (Refused r) (not_built small _ is) large = absurd (omega (arith, past large, small))
-    large_judged (Refused r) (too_long rule small _ _ is) large = absurd (omega (arith, past large, small))
+    large_judged (Refused r) (no_test _ small _ is) large = absurd (omega (arith, past large, small))
+    large_judged (Refused r) (no_query _ says is) large = let small = says.small in absurd (omega (arith, past large, small))
 
 -- what the one document of a file writes is what the file writes
 one_queries : (name : List ℕ) (v : Verdict) → all_queries (one_answer name v ∷ []) ≡ query_of_verdict v

@@ -3,6 +3,7 @@ pub mod Documented
 pub mod Filed
 pub mod Gone
 pub mod OneVerdict
+pub mod Patterns
 pub mod QueryMeans
 pub mod ReportLines
 pub mod Serving

@@ -9,15 +9,15 @@ use Rattle.sigma_app.proofs.Documented.{line_front}
 use Rattle.sigma_app.specs.Commands.{IsTaken}
 use Rattle.sigma_app.specs.Ends.{LinesCut, LinesUnread}
 use Rattle.sigma_app.specs.Going.{AnsweredWhole, AnsweredCut, AnsweredUnread, Ends}
-use Rattle.sigma_app.specs.Matching.{Converts}
+use Rattle.sigma_app.specs.Matching.{Rule, Converts}
+use Rattle.sigma_app.specs.Queries.{query_of}
 use Rattle.sigma_app.specs.Reports.{ended, lines_text, usage_line}
 use Rattle.sigma_app.specs.Served.{Answer, status_of, Written, Headline, StandsCut, StandsUnread}
-use Rattle.sigma_app.specs.Verdicts.{Verdict, Accepted, Refused, IsVerdict, AreVerdicts, EachConverts, Answered, AreAnswered, contents, query_of, AllConvert, all_queries, all_lines, any_refusal}
+use Rattle.sigma_app.specs.Verdicts.{Verdict, Accepted, Refused, IsVerdict, AreVerdicts, EachConverts, Answered, AreAnswered, contents, SaysRule, AllConvert, all_queries, all_lines, any_refusal}
 use Rattle.sigma_app.specs.declared.status.Status.{Status}
 use Rattle.sigma_app.specs.declared.status.Status.TheVariants.{Usage}
 use Rattle.sigma_app.specs.declared.stop.Stop.{Stop}
 use Rattle.sigma_app.specs.declared.stop.Stop.TheVariants.{Unread}
-use Rattle.yaml_profile.specs.SevenLines.{Simple, Says}
 
 -- words are taken in one way
 taken_once : (words xs ys : List (List ℕ)) → IsTaken words xs → IsTaken words ys → xs ≡ ys
@@ -28,10 +28,10 @@ taken_once words xs ys first second =
 
 -- a rule's query means the rule
 abbrev pub Means : Type 0
-Means = (value_chars : ℕ) (bytes : List ℕ) (rule : Simple) → Says value_chars bytes rule → Converts rule (query_of rule)
+Means = (limits : Limits) (bytes : List ℕ) (rule : Rule) → SaysRule limits bytes rule → Converts rule (query_of rule)
 
 each_converts : Means → (limits : Limits) (bytes : List ℕ) (verdict : Verdict) → IsVerdict limits bytes verdict → EachConverts (verdict ∷ [])
-each_converts means limits bytes (Accepted rule) accepted = (means limits.value_chars bytes rule accepted.says, tt)
+each_converts means limits bytes (Accepted rule) accepted = (means limits bytes rule accepted.says, tt)
 each_converts means limits bytes (Refused refusal) refused = tt
 
 verdicts_convert : Means → (limits : Limits) (bytes : List ℕ) (verdicts : List Verdict) → AreVerdicts limits bytes verdicts → EachConverts verdicts

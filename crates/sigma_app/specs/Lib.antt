@@ -5,6 +5,9 @@ pub mod Documents
 pub mod Ends
 pub mod Going
 pub mod Matching
+pub mod Queries
 pub mod Reports
+pub mod Rules
 pub mod Served
+pub mod Tested
 pub mod Verdicts

@@ -1,20 +1,17 @@
 -- What each document of a rule file is answered.
-use Rattle.std.specs.Prelude.{◌≡◌, ℕ, ◌<◌, ◌≤◌, Bool, true, false, ◌||◌, ⊤, ℤ, pos, List, [], ◌∷◌, ◌++◌, length, unwrap_or}
+use Rattle.std.specs.Prelude.{◌≡◌, ℕ, ◌<◌, ◌≤◌, ◌-◌, ◌^◌, min, nat_lt, if◌then◌else◌, Bool, true, false, ◌||◌, ⊤, ℤ, pos, List, [], ◌∷◌, ◌++◌, length, Option, Some, None, unwrap_or}
 use Rattle.std.specs.List.{flat_map, list_any}
 use Rattle.sig_base.specs.Files.{file_at}
 use Rattle.sig_base.specs.declared.limits.Limits.{Limits}
 use Rattle.sig_base.specs.declared.refusal.Detail.{Detail}
-use Rattle.sig_base.specs.declared.refusal.Detail.TheVariants.{None, Numbers}
+use Rattle.sig_base.specs.declared.refusal.Detail.TheVariants as details
 use Rattle.sig_base.specs.declared.refusal.Place.{Place}
 use Rattle.sig_base.specs.declared.refusal.Refusal.{Refusal}
-use Rattle.sigma_app.specs.Matching.{Converts}
+use Rattle.sigma_app.specs.Matching.{Rule, Converts}
+use Rattle.sigma_app.specs.Queries.{query_of, query_depth}
 use Rattle.sigma_app.specs.Reports.{refusal_line, ended}
-use Rattle.sql_lang.specs.SameText.{query_text}
+use Rattle.sigma_app.specs.Rules.{IsRule, line_refusal}
 use Rattle.yaml_profile.specs.SevenLines.{Simple, Says}
-
--- the query of a rule: letters, digits and signs of ASCII, so that its characters are its bytes
-unfoldable pub query_of : Simple → List ℕ
-query_of rule = query_text rule.field rule.value
 
 abbrev pub start : Place
 start = record { line = 1; column = 1 }
@@ -22,22 +19,38 @@ start = record { line = 1; column = 1 }
 abbrev pub at_start : ℕ → Detail → Refusal
 at_start code detail = record { code = code; place = start; detail = detail }
 
--- the first cause for which a file isn't taken: its size, then its form, then the size of its query
-pub data IsRefused (limits : Limits) (bytes : List ℕ) (refusal : Refusal) : Type 0 where
-  too_large : limits.file_bytes < length bytes → refusal ≡ at_start 2 None → IsRefused limits bytes refusal
-  not_built : length bytes ≤ limits.file_bytes → ((rule : Simple) → Says limits.value_chars bytes rule → ⊥)
-      → refusal ≡ at_start 10 None → IsRefused limits bytes refusal
-  too_long : (rule : Simple) → length bytes ≤ limits.file_bytes → Says limits.value_chars bytes rule → limits.query_bytes < length (query_of rule)
-      → refusal ≡ at_start 114 (Numbers (pos (length (query_of rule))) (pos limits.query_bytes)) → IsRefused limits bytes refusal
-
--- the file is this rule, within the limits
-pub record IsAccepted (limits : Limits) (bytes : List ℕ) (rule : Simple) : Type 0 where
+-- a file within the limit that says this rule
+pub record SaysRule (limits : Limits) (bytes : List ℕ) (rule : Rule) : Type 0 where
+  pub lines : Simple
   pub small : length bytes ≤ limits.file_bytes
-  pub says : Says limits.value_chars bytes rule
-  pub short : length (query_of rule) ≤ limits.query_bytes
+  pub says : Says bytes lines
+  pub tested : line_refusal limits lines ≡ None
+  pub is : IsRule lines rule
+
+-- why the query of a rule isn't written: its depth, which is told up to 2^64 - 1, and then its size
+abbrev pub query_refusal : Limits → Rule → Option Refusal
+query_refusal limits rule =
+    if nat_lt limits.sql_depth (query_depth rule) then Some (at_start 112 (details.Numbers (pos (min (query_depth rule) (2 ^ 64 - 1))) (pos limits.sql_depth)))
+    else if nat_lt limits.query_bytes (length (query_of rule)) then Some (at_start 114 (details.Numbers (pos (length (query_of rule))) (pos limits.query_bytes)))
+    else None
+
+-- The first cause for which a file isn't taken: its size, its form, the modifiers and the value of its sixth line, and then
+-- its query.
+pub data IsRefused (limits : Limits) (bytes : List ℕ) (refusal : Refusal) : Type 0 where
+  too_large : limits.file_bytes < length bytes → refusal ≡ at_start 2 details.None → IsRefused limits bytes refusal
+  not_built : length bytes ≤ limits.file_bytes → ((s : Simple) → Says bytes s → ⊥)
+      → refusal ≡ at_start 10 details.None → IsRefused limits bytes refusal
+  no_test : (s : Simple) → length bytes ≤ limits.file_bytes → Says bytes s
+      → line_refusal limits s ≡ Some refusal → IsRefused limits bytes refusal
+  no_query : (rule : Rule) → SaysRule limits bytes rule → query_refusal limits rule ≡ Some refusal → IsRefused limits bytes refusal
+
+-- the file is this rule, whose query is written
+pub record IsAccepted (limits : Limits) (bytes : List ℕ) (rule : Rule) : Type 0 where
+  pub says : SaysRule limits bytes rule
+  pub written : query_refusal limits rule ≡ None
 
 pub data Verdict : Type 0 where
-  Accepted : (rule : Simple) → Verdict
+  Accepted : (rule : Rule) → Verdict
   Refused : (refusal : Refusal) → Verdict
 
 abbrev pub IsVerdict : Limits → List ℕ → Verdict → Type 0

@@ -6,6 +6,7 @@ ghost use Rattle.sigma_app.specs.Documents.{DocumentEnds};
 
 use crate::convert::convert;
 use crate::law::one_verdict;
+use crate::put::put_line;
 use crate::report::refusal_text;
 use crate::stop::Stop;
 use sig_base::{Fault, Limits, Sink, Text, put_all};
@@ -26,7 +27,7 @@ pub(super) fn answer_document<O: Sink, E: Sink>(
 {
     one_verdict();
     match convert(alloc, limits, bytes) {
-        Ok(query) => match put_all(out, query.as_slice()) {
+        Ok(query) => match put_line(out, query.as_slice()) {
             Ok(()) => Ok(false),
             Err(_) => Err(Stop::Unwritten),
         },

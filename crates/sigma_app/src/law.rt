@@ -1,19 +1,17 @@
-//! That a rule's query means the rule.
+//! That each file has exactly one verdict, and that a rule's query means the rule.
 
-ghost use Rattle.std.specs.Prelude.{◌≡◌, ◌⊎◌, ℕ, List};
+ghost use Rattle.std.specs.Prelude.{◌≡◌, ℕ, List};
 ghost use Rattle.sig_base.specs.declared.limits.Limits.{Limits};
-ghost use Rattle.sigma_app.specs.Matching.{Converts};
-ghost use Rattle.sigma_app.specs.Verdicts.{Verdict, IsVerdict, query_of};
-ghost use Rattle.yaml_profile.specs.SevenLines.{Simple, Says};
+ghost use Rattle.sigma_app.specs.Matching.{Rule, Converts};
+ghost use Rattle.sigma_app.specs.Queries.{query_of};
+ghost use Rattle.sigma_app.specs.Verdicts.{Verdict, IsVerdict, SaysRule};
 
 /// The query of each rule that a file says is read as exactly one query, which selects what the rule matches.
 pub fn query_means_rule()
-    ensures { (value_chars : ℕ) (bytes : List ℕ) (rule : Simple) → Says value_chars bytes rule → Converts rule (query_of rule) }
+    ensures { (limits : Limits) (bytes : List ℕ) (rule : Rule) → SaysRule limits bytes rule → Converts rule (query_of rule) }
 {
     yaml_profile::words_are_ascii();
-    sql_lang::same_text_is_read();
-    sql_lang::one_reading();
-    sql_lang::same_text_selects();
+    sqlite_writer::tree_is_query();
 }
 
 /// Each file has exactly one verdict.
@@ -23,4 +21,5 @@ pub fn one_verdict()
 {
     yaml_profile::says_or_not();
     yaml_profile::one_reading();
+    sig_strings::one_pattern();
 }

@@ -187,27 +187,67 @@ fn takes_no_other_words(rt: HostRuntime) -> Result<(), Fail> {
     Ok(())
 }
 
+/// A rule file with this sixth line.
+fn rule_with(alloc: Global, line: &str) -> Result<String, Fail> {
+    let mut file = String::new(alloc);
+    file.push_str("title: T\nlogsource:\n  category: c\ndetection:\n  s:\n    ")?;
+    file.push_str(line)?;
+    file.push_str("\n  condition: s\n")?;
+    Ok(file)
+}
+
+#[test]
+fn writes_what_the_modifiers_say(rt: HostRuntime) -> Result<(), Fail> {
+    let mut limits = Limits::standard();
+    limits.value_chars = 12;
+    let convert = ["convert", "--backend", "sqlite", "r.yml"];
+    let cases: [(&str, u8, &str, &str); 9] = [
+        ("A|startswith: '100%_x'", 0, "SELECT * FROM \"events\" WHERE \"A\" LIKE '100\\%\\_x%' ESCAPE '\\'\n", ""),
+        ("A|endswith|cased: 'a[?b'", 0, "SELECT * FROM \"events\" WHERE \"A\" GLOB '*a[[]?b'\n", ""),
+        ("A|cased: 'O''Brien'", 0, "SELECT * FROM \"events\" WHERE \"A\" = 'O''Brien'\n", ""),
+        ("A: 'a\\*b'", 0, "SELECT * FROM \"events\" WHERE \"A\" = 'a*b' COLLATE NOCASE\n", ""),
+        ("A|contains: ''", 0, "SELECT * FROM \"events\" WHERE \"A\" LIKE '%' ESCAPE '\\'\n", ""),
+        ("A|like|cased: x", 1, "", "r.yml:6:5: 40 UnknownModifier like\n"),
+        ("A|contains|startswith: x", 1, "", "r.yml:6:5: 41 ChainNotAllowed\n"),
+        ("A: 'thirteen char'", 1, "", "r.yml:6:8: 49 ValueTooLong\n"),
+        ("A|Cased: x", 1, "", "r.yml:1:1: 10 NotBuilt\n"),
+    ];
+    for (line, code, out, err) in cases {
+        let file = rule_with(rt.alloc(), line)?;
+        check(
+            &rt,
+            &run_over(rt.alloc(), &convert, &limits, still(file.as_str()))?,
+            code,
+            out,
+            err,
+        );
+    }
+    Ok(())
+}
+
 /// The first `count` bytes of a text of ASCII.
 fn front<'a>(text: &'a str, count: usize) -> &'a [u8] {
     let bytes = text.as_bytes();
     bytes.split_at(count.min(bytes.len())).0
 }
 
-/// Fails the calls of one sink in turn, in pieces of 1 and of 10 bytes, until a run meets no fault.
+/// Fails the calls of one sink in turn, in pieces of 1 and of 10 bytes, until a run meets no fault; a query's line feed
+/// is a call of its own.
 #[test]
 fn keeps_what_was_written_before_a_fault(rt: HostRuntime) -> Result<(), Fail> {
     let limits = Limits::standard();
     let convert = ["convert", "--backend", "sqlite", "r.yml"];
-    for piece in [1usize, 10] {
+    for (piece, calls) in [(1usize, 63u64), (10, 8)] {
         for call in 1..66u64 {
             let before = (call as usize - 1) * piece;
             let mut world = still(RULE);
             world.piece = piece;
             world.out = call;
             let run = run_over(rt.alloc(), &convert, &limits, world)?;
-            assert_eq!(rt; run.out.as_slice(), front(QUERY, before));
+            let kept = if call <= calls { before.min(62) } else { 63 };
+            assert_eq!(rt; run.out.as_slice(), front(QUERY, kept));
             assert_eq!(rt; run.err.as_slice(), b"".as_slice());
-            assert_eq!(rt; run.status.code(), if before < QUERY.len() { 4 } else { 0 });
+            assert_eq!(rt; run.status.code(), if call <= calls { 4 } else { 0 });
             let mut world = still(LONGER);
             world.piece = piece;
             world.err = call;
