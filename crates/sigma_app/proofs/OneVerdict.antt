@@ -57,9 +57,10 @@ same_tests t u same = ap (λ (ts : List Test). first_test ts t) same
 
 rule_of : SpellsSome → (s : Simple) → (rule : Rule) × IsRule s rule
 rule_of spells s =
-    let p = spells false s.value in
-    (record { field = s.field; parts = pattern_of (chain s) p.0; cased = list_any is_cased (chain s).modifiers },
-     record { field = refl; test = record { parts = p.0; spelled = p.1; tests_are = refl } })
+    let p = spells false s.value in (
+      record { field = s.field; parts = pattern_of (chain s) p.0; cased = list_any is_cased (chain s).modifiers },
+      record { field = refl; test = record { parts = p.0; spelled = p.1; tests_are = refl } },
+    )
 
 same_rule : (a b : Rule) → a.field ≡ b.field → a.parts ≡ b.parts → a.cased ≡ b.cased → a ≡ b
 same_rule a b first second third = rw (first, second, third) refl
@@ -68,7 +69,7 @@ one_rule : SpellsOnce → (s : Simple) (a b : Rule) → IsRule s a → IsRule s 
 one_rule once s a b first second =
     let parts = once false s.value first.test.parts second.test.parts first.test.spelled second.test.spelled in
     let tests : Fits a.parts a.cased ∷ [] ≡ Fits b.parts b.cased ∷ [] =
-        first.test.tests_are ∙ (ap (λ (p : List Part). Fits (pattern_of (chain s) p) (list_any is_cased (chain s).modifiers) ∷ []) parts ∙ sym second.test.tests_are) in
+    first.test.tests_are ∙ (ap (λ (p : List Part). Fits (pattern_of (chain s) p) (list_any is_cased (chain s).modifiers) ∷ []) parts ∙ sym second.test.tests_are) in
     let test : Fits a.parts a.cased ≡ Fits b.parts b.cased = same_tests (Fits a.parts a.cased) (Fits b.parts b.cased) tests in
     same_rule a b (first.field ∙ sym second.field) (ap test_parts test) (ap test_cased test)
 
@@ -95,9 +96,10 @@ verdict_small spells limits bytes small (inl says) = verdict_lines spells limits
 
 pub some_verdict : SaysOrNot → SpellsSome → (limits : Limits) (bytes : List ℕ) → (verdict : Verdict) × IsVerdict limits bytes verdict
 some_verdict decided spells limits bytes =
-    elim (cases_lt limits.file_bytes (length bytes)) as (λ _. (verdict : Verdict) × IsVerdict limits bytes verdict)
-      [ inl large ↦ (Refused (at_start 2 details.None), too_large large refl)
-      | inr small ↦ verdict_small spells limits bytes small (decided bytes) ]
+    elim (cases_lt limits.file_bytes (length bytes)) as (λ _. (verdict : Verdict) × IsVerdict limits bytes verdict) [
+      | inl large ↦ (Refused (at_start 2 details.None), too_large large refl)
+      | inr small ↦ verdict_small spells limits bytes small (decided bytes)
+    ]
 
 -- ---- one verdict
 

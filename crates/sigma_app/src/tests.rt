@@ -202,13 +202,48 @@ fn writes_what_the_modifiers_say(rt: HostRuntime) -> Result<(), Fail> {
     limits.value_chars = 12;
     let convert = ["convert", "--backend", "sqlite", "r.yml"];
     let cases: [(&str, u8, &str, &str); 9] = [
-        ("A|startswith: '100%_x'", 0, "SELECT * FROM \"events\" WHERE \"A\" LIKE '100\\%\\_x%' ESCAPE '\\'\n", ""),
-        ("A|endswith|cased: 'a[?b'", 0, "SELECT * FROM \"events\" WHERE \"A\" GLOB '*a[[]?b'\n", ""),
-        ("A|cased: 'O''Brien'", 0, "SELECT * FROM \"events\" WHERE \"A\" = 'O''Brien'\n", ""),
-        ("A: 'a\\*b'", 0, "SELECT * FROM \"events\" WHERE \"A\" = 'a*b' COLLATE NOCASE\n", ""),
-        ("A|contains: ''", 0, "SELECT * FROM \"events\" WHERE \"A\" LIKE '%' ESCAPE '\\'\n", ""),
-        ("A|like|cased: x", 1, "", "r.yml:6:5: 40 UnknownModifier like\n"),
-        ("A|contains|startswith: x", 1, "", "r.yml:6:5: 41 ChainNotAllowed\n"),
+        (
+            "A|startswith: '100%_x'",
+            0,
+            "SELECT * FROM \"events\" WHERE \"A\" LIKE '100\\%\\_x%' ESCAPE '\\'\n",
+            "",
+        ),
+        (
+            "A|endswith|cased: 'a[?b'",
+            0,
+            "SELECT * FROM \"events\" WHERE \"A\" GLOB '*a[[]?b'\n",
+            "",
+        ),
+        (
+            "A|cased: 'O''Brien'",
+            0,
+            "SELECT * FROM \"events\" WHERE \"A\" = 'O''Brien'\n",
+            "",
+        ),
+        (
+            "A: 'a\\*b'",
+            0,
+            "SELECT * FROM \"events\" WHERE \"A\" = 'a*b' COLLATE NOCASE\n",
+            "",
+        ),
+        (
+            "A|contains: ''",
+            0,
+            "SELECT * FROM \"events\" WHERE \"A\" LIKE '%' ESCAPE '\\'\n",
+            "",
+        ),
+        (
+            "A|like|cased: x",
+            1,
+            "",
+            "r.yml:6:5: 40 UnknownModifier like\n",
+        ),
+        (
+            "A|contains|startswith: x",
+            1,
+            "",
+            "r.yml:6:5: 41 ChainNotAllowed\n",
+        ),
         ("A: 'thirteen char'", 1, "", "r.yml:6:8: 49 ValueTooLong\n"),
         ("A|Cased: x", 1, "", "r.yml:1:1: 10 NotBuilt\n"),
     ];
@@ -237,14 +272,14 @@ fn front<'a>(text: &'a str, count: usize) -> &'a [u8] {
 fn keeps_what_was_written_before_a_fault(rt: HostRuntime) -> Result<(), Fail> {
     let limits = Limits::standard();
     let convert = ["convert", "--backend", "sqlite", "r.yml"];
-    for (piece, calls) in [(1usize, 63u64), (10, 8)] {
+    for (piece, calls) in [(1usize, 64u64), (10, 8)] {
         for call in 1..66u64 {
             let before = (call as usize - 1) * piece;
             let mut world = still(RULE);
             world.piece = piece;
             world.out = call;
             let run = run_over(rt.alloc(), &convert, &limits, world)?;
-            let kept = if call <= calls { before.min(62) } else { 63 };
+            let kept = if call <= calls { before.min(63) } else { 64 };
             assert_eq!(rt; run.out.as_slice(), front(QUERY, kept));
             assert_eq!(rt; run.err.as_slice(), b"".as_slice());
             assert_eq!(rt; run.status.code(), if call <= calls { 4 } else { 0 });
