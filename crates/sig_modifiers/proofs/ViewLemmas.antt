@@ -1,8 +1,8 @@
 -- What a node stands for, by what it is.
-use Rattle.std.specs.Prelude.{ℕ, List, ℤ, Bool, ◌≡◌}
-use Rattle.std.proofs.Common.{refl, ap, ◌∙◌, rules}
-use Rattle.yaml_tree.specs.Tree.{At, Tree, scalar, null, truth, whole, text}
-use Rattle.yaml_tree.specs.View.{node_view, kind_view, place_view}
+use Rattle.std.specs.Prelude.{ℕ, List, ◌≡◌}
+use Rattle.std.proofs.Common.{ap, ◌∙◌, rules}
+use Rattle.yaml_tree.specs.Tree.{scalar, text}
+use Rattle.yaml_tree.specs.View.{node_view, place_view}
 use Rattle.sig_base.specs.declared.refusal.Place.{Place}
 use Rattle.yaml_tree.specs.declared.tree.Node.{Node}
 use Rattle.yaml_tree.specs.declared.tree.Kind as kinds

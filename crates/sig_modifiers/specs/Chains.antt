@@ -1,5 +1,5 @@
 -- Which words make a chain of modifiers, and why others don't (Sigma specification 2.0, modifiers).
-use Rattle.std.specs.Prelude.{ℕ, ◌≡◌, Bool, true, false, ◌&&◌, nat_le, List, [], ◌∷◌, count_by, find, Option, Some, None}
+use Rattle.std.specs.Prelude.{ℕ, Bool, true, false, ◌&&◌, nat_le, List, [], ◌∷◌, count_by, find, Option, Some, None}
 use Rattle.std.specs.List.{filter_map}
 use Rattle.sig_base.specs.declared.refusal.Place.{Place}
 use Rattle.sig_base.specs.declared.refusal.Refusal.{Refusal}

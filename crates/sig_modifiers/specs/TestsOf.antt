@@ -1,5 +1,5 @@
 -- Which tests a chain of modifiers makes of a value (Sigma specification 2.0, modifiers).
-use Rattle.std.specs.Prelude.{ℕ, ◌≡◌, Bool, true, false, ◌==◌, ◌||◌, not, nat_le, List, [], ◌∷◌, length, if◌then◌else◌, Option, Some, None}
+use Rattle.std.specs.Prelude.{ℕ, ◌≡◌, Bool, true, false, ◌==◌, ◌||◌, not, nat_le, List, [], ◌∷◌, length, if◌then◌else◌, Option}
 use Rattle.std.specs.List.{list_any}
 use Rattle.sig_base.specs.declared.refusal.Place.{Place}
 use Rattle.sig_base.specs.declared.refusal.Refusal.{Refusal}
@@ -30,13 +30,13 @@ scalar_use (text t) = pattern t
 
 abbrev pub use_of : Tree → Use
 use_of (scalar at s) = scalar_use s
-use_of (list at elements) = unused
-use_of (map at members) = unused
+use_of (list at parts) = unused
+use_of (map at parts) = unused
 
 abbrev pub at_of : Tree → At
 at_of (scalar at s) = at
-at_of (list at elements) = at
-at_of (map at members) = at
+at_of (list at parts) = at
+at_of (map at parts) = at
 
 abbrev pub place_of : Tree → Place
 place_of value = record { line = (at_of value).line; column = (at_of value).column }

@@ -1,5 +1,5 @@
 -- The words of modifiers (Sigma specification 2.0, modifiers).
-use Rattle.std.specs.Prelude.{ℕ, Bool, true, false, List, [], ◌∷◌, codes, if◌then◌else◌, Option, Some, None, is_none}
+use Rattle.std.specs.Prelude.{ℕ, Bool, List, [], ◌∷◌, codes, if◌then◌else◌, Option, Some, None, is_none}
 use Rattle.std.specs.Str.{bytes_eq}
 use Rattle.sig_modifiers.specs.declared.modifier.Modifier.{Modifier}
 use Rattle.sig_modifiers.specs.declared.modifier.Modifier.TheVariants.{Contains, StartsWith, EndsWith, Cased}

@@ -1,6 +1,6 @@
 -- What converting one file answers, from what its steps gave.
-use Rattle.std.proofs.Common.{◌≡◌, ℕ, suc, ◌<◌, ◌≤◌, Bool, true, false, List, [], ◌∷◌, ◌++◌, length, get_or, refl, ap, sym, ◌∙◌, subst, arith, Option, Some, None, Result, Ok, Err, IfOk, inl, inr, nat_lt}
-use Rattle.std.specs.Prelude.{◌⊎◌, if◌then◌else◌, ◌^◌, ◌-◌, min, pos, IfErr, IsErr}
+use Rattle.std.proofs.Common.{◌≡◌, ℕ, ◌≤◌, Bool, true, false, List, [], ◌∷◌, length, get_or, refl, ap, sym, ◌∙◌, subst, Option, Some, None, Result, Ok, Err, IfOk, inl, inr, nat_lt}
+use Rattle.std.specs.Prelude.{if◌then◌else◌, ◌^◌, ◌-◌, min, pos, IfErr, IsErr}
 use Rattle.std.specs.Result.{IsErrAnd}
 use Rattle.std.proofs.lemmas.Bool.{lt-ltb, le-ltb}
 use Rattle.backend_core.specs.Sound.{IsSound}
@@ -14,9 +14,9 @@ use Rattle.sig_base.specs.declared.refusal.Detail.TheVariants.{Numbers}
 use Rattle.sig_base.specs.declared.refusal.Fault.{Fault}
 use Rattle.sig_base.specs.declared.refusal.Fault.TheVariants.{Memory, Refused}
 use Rattle.sig_base.specs.declared.refusal.Refusal.{Refusal}
-use Rattle.sig_modifiers.specs.Chains.{chain_of, chain_refusal}
-use Rattle.sig_modifiers.specs.Judged.{Judged, first}
-use Rattle.sig_modifiers.specs.TestsOf.{TestsOf, value_refusal}
+use Rattle.sig_modifiers.specs.Chains.{chain_of}
+use Rattle.sig_modifiers.specs.Judged.{Judged}
+use Rattle.sig_modifiers.specs.TestsOf.{TestsOf}
 use Rattle.sig_modifiers.specs.declared.test.Test.{Test}
 use Rattle.sig_modifiers.specs.declared.test.Test.TheVariants.{Fits}
 use Rattle.sigma_app.proofs.QueryMeans.{SaysAscii, rule_sound}
@@ -25,11 +25,10 @@ use Rattle.sigma_app.specs.Matching.{Rule}
 use Rattle.sigma_app.specs.Queries.{tree_of, query_of, query_depth}
 use Rattle.sigma_app.specs.Rules.{key_place, line_refusal, IsRule}
 use Rattle.sigma_app.specs.Tested.{node_of, cause_of, IsLine, IsLeafOf, IsLineTree}
-use Rattle.sigma_app.specs.Verdicts.{start, at_start, IsRefused, no_test, no_query, SaysRule, query_refusal}
+use Rattle.sigma_app.specs.Verdicts.{start, at_start, no_test, no_query, SaysRule}
 use Rattle.sql_lang.specs.Expression.{depth}
 use Rattle.sqlite_writer.specs.Queries.{query_bytes, query_expr}
 use Rattle.sqlite_writer.specs.Refused.{IsUnwritten}
-use Rattle.yaml_profile.specs.SevenLines.{Simple, Says}
 use Rattle.yaml_profile.specs.View.{IsRead}
 use Rattle.yaml_profile.specs.declared.simple_rule.SimpleRule.{SimpleRule}
 

@@ -1,5 +1,5 @@
 -- What answering one document leaves on the sinks.
-use Rattle.std.proofs.Common.{◌≡◌, ℕ, Bool, true, false, List, [], ◌∷◌, ◌++◌, refl, ap, sym, ◌∙◌, subst, append-nil, Option, Result, Ok, Err}
+use Rattle.std.proofs.Common.{◌≡◌, ℕ, true, false, List, [], ◌∷◌, refl, sym, ◌∙◌, subst, append-nil, Option, Result, Ok, Err}
 use Rattle.std.specs.Prelude.{OnErr}
 use Rattle.std.specs.Io.KnownBytes.{Appends}
 use Rattle.sig_base.proofs.Puts.{Appends-nothing, front_nothing}
@@ -10,7 +10,7 @@ use Rattle.sigma_app.specs.Documents.{DocumentWhole, DocumentCut}
 use Rattle.sigma_app.specs.Ends.{LinesCut, nothing, of_next}
 use Rattle.sigma_app.specs.Matching.{Rule}
 use Rattle.sigma_app.specs.Queries.{query_of}
-use Rattle.sigma_app.specs.Reports.{ended, lines_text, refusal_line}
+use Rattle.sigma_app.specs.Reports.{ended, refusal_line}
 use Rattle.sigma_app.specs.Verdicts.{Verdict, Accepted, Refused, IsVerdict, IsAccepted, IsRefused, query_of_verdict, lines_of_verdict}
 
 -- what an error leaves says something else

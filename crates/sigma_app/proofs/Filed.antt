@@ -1,6 +1,6 @@
 -- What answering one file leaves on the sinks, whether or not its shelf tells its files.
-use Rattle.std.proofs.Common.{◌≡◌, ℕ, zero, ◌+◌, ◌<◌, ◌≤◌, Bool, true, false, List, [], ◌∷◌, ◌++◌, length, take, refl, ap, sym, ◌∙◌, subst, arith, append-nil, Option, Some, None, Result, Ok, Err, IfSome, inl, inr}
-use Rattle.std.specs.Prelude.{Contains, ◌⊎◌, ◌||◌, MatchOption, unwrap_or, IsErrOf}
+use Rattle.std.proofs.Common.{◌≡◌, ℕ, zero, ◌+◌, ◌<◌, Bool, List, [], ◌∷◌, ◌++◌, length, take, refl, sym, ◌∙◌, subst, arith, append-nil, Option, Some, None, Result, Ok, Err, IfSome, inl, inr}
+use Rattle.std.specs.Prelude.{MatchOption, unwrap_or, IsErrOf}
 use Rattle.std.specs.Io.KnownBytes.{Appends}
 use Rattle.std.proofs.Math.Bool.{or-false}
 use Rattle.std.proofs.lemmas.Bool.{cases_lt}
@@ -11,10 +11,10 @@ use Rattle.sig_base.specs.Files.{file_at, IsFront}
 use Rattle.sig_base.specs.declared.limits.Limits.{Limits}
 use Rattle.sigma_app.proofs.Documented.{no_lines}
 use Rattle.sigma_app.specs.Documents.{DocumentWhole, DocumentCut, DocumentEnds}
-use Rattle.sigma_app.specs.Ends.{LinesCut, LinesUnread, nothing, of_unread}
+use Rattle.sigma_app.specs.Ends.{LinesCut, nothing, of_unread}
 use Rattle.sigma_app.specs.Going.{AnsweredWhole, AnsweredCut, AnsweredUnread, Ends, Tells}
 use Rattle.sigma_app.specs.Reports.{ended, lines_text, unread_line}
-use Rattle.sigma_app.specs.Verdicts.{Verdict, Accepted, Refused, IsVerdict, IsAccepted, IsRefused, too_large, not_built, no_test, no_query, Answered, AreAnswered, contents, query_of_verdict, lines_of_verdict, queries_of, lines_of, all_queries, all_lines}
+use Rattle.sigma_app.specs.Verdicts.{Verdict, Accepted, Refused, IsVerdict, too_large, not_built, no_test, no_query, Answered, AreAnswered, contents, query_of_verdict, lines_of_verdict, all_queries, all_lines}
 use Rattle.sigma_app.specs.declared.stop.Stop.{Stop}
 use Rattle.sigma_app.specs.declared.stop.Stop.TheVariants.{Unread, Unwritten, Memory}
 

@@ -1,7 +1,6 @@
 -- Going through files: what several files leave on the sinks, from what each leaves.
-use Rattle.std.proofs.Common.{◌≡◌, ℕ, suc, ◌+◌, ◌<◌, Bool, false, List, [], ◌∷◌, ◌++◌, length, take, drop, get_or, refl, ap, sym, ◌∙◌, subst, arith, append_assoc, append-nil, Option, Some, None, Result, Ok, Err, IfSome}
-use Rattle.std.specs.Prelude.{Contains, ◌||◌}
-use Rattle.std.specs.List.{flat_map}
+use Rattle.std.proofs.Common.{◌≡◌, ℕ, suc, ◌+◌, ◌<◌, Bool, false, List, [], ◌∷◌, ◌++◌, length, take, drop, get_or, refl, ap, sym, ◌∙◌, subst, arith, append_assoc, Option, Some, None, Ok, Err, IfSome}
+use Rattle.std.specs.Prelude.{◌||◌}
 use Rattle.std.specs.Io.KnownBytes.{Appends}
 use Rattle.std.proofs.Math.Seq.{take-suc, drop-cons}
 use Rattle.std.proofs.lemmas.Grind.{flat_map-append}
@@ -15,7 +14,7 @@ use Rattle.sigma_app.proofs.Filed.{Judged, one_answer}
 use Rattle.sigma_app.specs.Ends.{IsPart, nothing, of_next, of_unread, LinesCut, LinesUnread}
 use Rattle.sigma_app.specs.Going.{AnsweredWhole, AnsweredCut, AnsweredUnread, Ends}
 use Rattle.sigma_app.specs.Reports.{ended, lines_text, unread_line}
-use Rattle.sigma_app.specs.Verdicts.{Answered, AreAnswered, contents, queries_of, lines_of, has_refusal, all_queries, all_lines, any_refusal}
+use Rattle.sigma_app.specs.Verdicts.{Answered, AreAnswered, contents, queries_of, lines_of, has_refusal, all_queries, all_lines}
 use Rattle.sigma_app.specs.declared.stop.Stop.{Stop}
 use Rattle.sigma_app.specs.declared.stop.Stop.TheVariants.{Unread, Unwritten, Memory}
 

@@ -1,5 +1,5 @@
 -- Each file has exactly one verdict.
-use Rattle.std.proofs.Common.{◌≡◌, ℕ, ◌<◌, ◌≤◌, Bool, false, List, [], ◌∷◌, length, refl, ap, sym, ◌∙◌, subst, arith, inl, inr, Option, Some, None}
+use Rattle.std.proofs.Common.{◌≡◌, ℕ, ◌≤◌, Bool, false, List, [], ◌∷◌, length, refl, ap, sym, ◌∙◌, subst, arith, inl, inr, Option, Some, None}
 use Rattle.std.specs.Prelude.{◌⊎◌, unwrap_or}
 use Rattle.std.specs.List.{list_any}
 use Rattle.std.proofs.lemmas.Bool.{cases_lt}
@@ -7,13 +7,13 @@ use Rattle.sig_base.specs.declared.limits.Limits.{Limits}
 use Rattle.sig_base.specs.declared.refusal.Detail.TheVariants as details
 use Rattle.sig_base.specs.declared.refusal.Refusal.{Refusal}
 use Rattle.sig_modifiers.specs.Chains.{is_cased}
-use Rattle.sig_modifiers.specs.TestsOf.{IsFits, TestsOf, pattern_of}
+use Rattle.sig_modifiers.specs.TestsOf.{pattern_of}
 use Rattle.sig_modifiers.specs.declared.test.Test.{Test}
 use Rattle.sig_modifiers.specs.declared.test.Test.TheVariants.{Fits}
 use Rattle.sig_strings.specs.Spells.{Spells}
 use Rattle.sig_strings.specs.declared.part.Part.{Part}
 use Rattle.sigma_app.specs.Matching.{Rule}
-use Rattle.sigma_app.specs.Rules.{chain, value_node, line_refusal, IsRule}
+use Rattle.sigma_app.specs.Rules.{chain, line_refusal, IsRule}
 use Rattle.sigma_app.specs.Verdicts.{Verdict, Accepted, Refused, IsVerdict, IsAccepted, IsRefused, too_large, not_built, no_test, no_query, SaysRule, query_refusal, at_start}
 use Rattle.yaml_profile.specs.SevenLines.{Simple, Says}
 

@@ -1,13 +1,12 @@
 -- The patterns of rules: characters of ASCII other than U+0000, single characters and runs.
-use Rattle.std.proofs.Common.{◌≡◌, ℕ, ◌<◌, Bool, true, false, List, [], ◌∷◌, ◌++◌, refl, ap, sym, ◌∙◌, subst, nat_lt}
-use Rattle.std.specs.Prelude.{◌&&◌, ◌==◌, if◌then◌else◌}
+use Rattle.std.proofs.Common.{◌≡◌, ℕ, Bool, true, false, List, [], ◌∷◌, ◌++◌, refl, ap, ◌∙◌, subst, nat_lt}
+use Rattle.std.specs.Prelude.{◌&&◌}
 use Rattle.std.specs.List.{list_all}
 use Rattle.std.proofs.lemmas.Bool.{and_parts, and_from, cond_both}
 use Rattle.std.proofs.lemmas.List.Folds.{list_all-append}
 use Rattle.event_schema.specs.Events.{IsPlainText}
 use Rattle.sig_base.proofs.TextLemmas.{ascii_scalars}
 use Rattle.sig_base.specs.Texts.{is_ascii}
-use Rattle.sig_modifiers.specs.Chains.{is_cased}
 use Rattle.sig_modifiers.specs.TestsOf.{edited, all_edited, pattern_of}
 use Rattle.sig_modifiers.specs.declared.modifier.Modifier.{Modifier}
 use Rattle.sig_modifiers.specs.declared.modifier.Modifier.TheVariants.{Contains, StartsWith, EndsWith, Cased}

@@ -1,13 +1,12 @@
 -- The query of a rule means the rule.
-use Rattle.std.proofs.Common.{◌≡◌, ℕ, zero, suc, ◌<◌, ◌≤◌, Bool, true, false, List, [], ◌∷◌, ◌++◌, length, refl, ap, sym, ◌∙◌, subst, arith, Option, Some, None, encode_utf8_all, nat_lt}
-use Rattle.std.specs.Prelude.{◌↔◌, ◌==◌, ◌&&◌, if◌then◌else◌, codes}
+use Rattle.std.proofs.Common.{◌≡◌, ℕ, zero, suc, ◌<◌, ◌≤◌, Bool, true, false, List, [], ◌∷◌, ◌++◌, refl, ap, sym, ◌∙◌, subst, arith, Option, Some, None, nat_lt}
+use Rattle.std.specs.Prelude.{◌↔◌, ◌==◌, if◌then◌else◌, codes}
 use Rattle.std.specs.List.{list_all}
 use Rattle.std.specs.Str.{all_scalars}
 use Rattle.std.proofs.lemmas.Bool.{and_parts, and_from, cond_both}
-use Rattle.std.proofs.lemmas.List.Folds.{list_all-append}
 use Rattle.std.proofs.lemmas.Slice.Eq.{bytes_eq-Decides}
 use Rattle.backend_core.specs.Holds.{TreeHolds}
-use Rattle.backend_core.specs.Sound.{IsSound, IsSoundPattern}
+use Rattle.backend_core.specs.Sound.{IsSound}
 use Rattle.backend_core.specs.Trees.{Plain}
 use Rattle.event_schema.specs.Events.{IsEvent}
 use Rattle.event_schema.specs.Inferred.{text_schema}
@@ -20,21 +19,18 @@ use Rattle.sig_base.specs.Texts.{is_ascii}
 use Rattle.sig_base.specs.declared.limits.Limits.{Limits}
 use Rattle.sig_strings.specs.Edits.{plain_text, has_wildcard}
 use Rattle.sig_strings.specs.declared.part.Part.{Part}
-use Rattle.sig_strings.specs.declared.part.Part.TheVariants.{Char, One, Run, Dash, Hole}
-use Rattle.sigma_app.proofs.Patterns.{low, good, written, plain_low, like_ascii, glob_ascii, ascii_join, low_ascii, low_plain, rule_good}
+use Rattle.sigma_app.proofs.Patterns.{good, written, plain_low, like_ascii, glob_ascii, ascii_join, low_ascii, low_plain, rule_good}
 use Rattle.sigma_app.specs.Matching.{Rule, Matches, Converts}
 use Rattle.sigma_app.specs.Queries.{tree_of, query_of}
-use Rattle.sigma_app.specs.Rules.{IsRule}
 use Rattle.sigma_app.specs.Verdicts.{SaysRule}
 use Rattle.sql_lang.specs.Escaped.{like_text, glob_text}
 use Rattle.sql_lang.specs.Expression.{depth}
-use Rattle.sql_lang.specs.Grammar.{Leaf, spell_test, spell_head, Unsaid, NoCase}
+use Rattle.sql_lang.specs.Grammar.{Leaf, spell_test, spell_head}
 use Rattle.sql_lang.specs.Layout.{doubled, in_quotes, token_text, spaced}
-use Rattle.sql_lang.specs.Meaning.{SqlSelects}
 use Rattle.sql_lang.specs.Names.{column_of, next}
 use Rattle.sql_lang.specs.Tokens.{Sort}
 use Rattle.sql_patterns.specs.Writable.{sql_parts}
-use Rattle.sqlite_writer.specs.Guarded.{name_at, written_test, wildcard_test, plain_test}
+use Rattle.sqlite_writer.specs.Guarded.{name_at, wildcard_test, plain_test}
 use Rattle.sqlite_writer.specs.Queries.{query_text, query_bytes, query_expr, IsQueryOf}
 use Rattle.sqlite_writer.specs.Schemas.{IsTextSchema}
 use Rattle.yaml_profile.specs.SevenLines.{Simple, Says}

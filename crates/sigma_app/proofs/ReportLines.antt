@@ -1,5 +1,5 @@
 -- The pieces of a report's line.
-use Rattle.std.proofs.Common.{◌≡◌, ℕ, List, [], ◌∷◌, ◌++◌, refl, ap, sym, ◌∙◌, append_assoc, encode_utf8_all, Result, Ok, Err, IfOk}
+use Rattle.std.proofs.Common.{◌≡◌, ℕ, List, [], ◌∷◌, ◌++◌, refl, ◌∙◌, append_assoc, encode_utf8_all, Result, Ok, Err, IfOk}
 use Rattle.std.specs.Fmt.{decimal}
 use Rattle.sig_base.specs.Codes.{code_name}
 use Rattle.sig_base.specs.declared.refusal.Place.{Place}

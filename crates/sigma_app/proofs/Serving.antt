@@ -1,5 +1,5 @@
 -- What a run leaves, from how going through its files ended.
-use Rattle.std.proofs.Common.{◌≡◌, ℕ, Bool, true, false, List, [], ◌∷◌, ◌++◌, length, drop, refl, ap, sym, ◌∙◌, subst, arith, append-nil, Option, Some, None, Ok, Err, IfSome}
+use Rattle.std.proofs.Common.{◌≡◌, ℕ, Bool, List, [], ◌∷◌, drop, refl, ap, sym, ◌∙◌, subst, arith, append-nil, Option, Some, None, Err, IfSome}
 use Rattle.std.specs.Prelude.{Contains, Result, IsErrOf}
 use Rattle.std.specs.Io.KnownBytes.{Appends}
 use Rattle.sig_base.proofs.Puts.{Appends-nothing, front_nothing}
@@ -7,14 +7,12 @@ use Rattle.sig_base.specs.Causes.{AppendsFront}
 use Rattle.sig_base.specs.declared.limits.Limits.{Limits}
 use Rattle.sigma_app.proofs.Documented.{line_front}
 use Rattle.sigma_app.specs.Commands.{IsTaken}
-use Rattle.sigma_app.specs.Ends.{LinesCut, LinesUnread}
-use Rattle.sigma_app.specs.Going.{AnsweredWhole, AnsweredCut, AnsweredUnread, Ends}
+use Rattle.sigma_app.specs.Going.{AnsweredWhole, AnsweredCut, AnsweredUnread}
 use Rattle.sigma_app.specs.Matching.{Rule, Converts}
 use Rattle.sigma_app.specs.Queries.{query_of}
-use Rattle.sigma_app.specs.Reports.{ended, lines_text, usage_line}
+use Rattle.sigma_app.specs.Reports.{ended, usage_line}
 use Rattle.sigma_app.specs.Served.{Answer, status_of, Written, Headline, StandsCut, StandsUnread}
 use Rattle.sigma_app.specs.Verdicts.{Verdict, Accepted, Refused, IsVerdict, AreVerdicts, EachConverts, Answered, AreAnswered, contents, SaysRule, AllConvert, all_queries, all_lines, any_refusal}
-use Rattle.sigma_app.specs.declared.status.Status.{Status}
 use Rattle.sigma_app.specs.declared.status.Status.TheVariants.{Usage}
 use Rattle.sigma_app.specs.declared.stop.Stop.{Stop}
 use Rattle.sigma_app.specs.declared.stop.Stop.TheVariants.{Unread}

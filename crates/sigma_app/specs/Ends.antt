@@ -1,7 +1,6 @@
 -- What stands on the two sinks where going through files ended before its end.
 use Rattle.std.specs.Prelude.{◌≡◌, ℕ, List, [], ◌∷◌, ◌++◌, Option, Contains}
 use Rattle.std.specs.Io.KnownBytes.{Appends}
-use Rattle.sig_base.specs.Causes.{AppendsFront}
 use Rattle.sigma_app.specs.Reports.{ended, lines_text, unread_line}
 
 -- a part of one line, at most: of the next one of the answer, or of the one about a file that can't be read

@@ -1,5 +1,5 @@
 -- How going through files ends: with all of their answers written, or before that.
-use Rattle.std.specs.Prelude.{◌≡◌, ℕ, Bool, ⊤, List, [], ◌∷◌, Option, Result, Ok, Err}
+use Rattle.std.specs.Prelude.{◌≡◌, ℕ, Bool, ⊤, List, [], Option, Result, Ok, Err}
 use Rattle.std.specs.Io.KnownBytes.{Appends}
 use Rattle.sig_base.specs.Causes.{AppendsFront}
 use Rattle.sig_base.specs.declared.limits.Limits.{Limits}

@@ -1,5 +1,5 @@
 -- What a run of the program answers, and what it leaves behind.
-use Rattle.std.specs.Prelude.{◌≡◌, ℕ, Bool, true, false, if◌then◌else◌, ⊤, List, [], ◌∷◌, Option, Contains}
+use Rattle.std.specs.Prelude.{◌≡◌, ℕ, Bool, if◌then◌else◌, ⊤, List, [], ◌∷◌, Option, Contains}
 use Rattle.std.specs.Io.KnownBytes.{Appends}
 use Rattle.sig_base.specs.Causes.{AppendsFront}
 use Rattle.sig_base.specs.declared.limits.Limits.{Limits}

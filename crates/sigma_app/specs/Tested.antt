@@ -1,15 +1,13 @@
 -- What reading the key and the value of a rule answers.
-use Rattle.std.specs.Prelude.{◌≡◌, ℕ, ⊤, false, List, [], ◌∷◌, Option, None, Some, Result, Ok, Err}
+use Rattle.std.specs.Prelude.{◌≡◌, false, [], ◌∷◌, Option}
 use Rattle.backend_core.specs.Trees.{leaf}
 use Rattle.backend_core.specs.View.{tree_view}
 use Rattle.backend_core.specs.declared.tree.LeafTest.TheVariants as leaves
 use Rattle.backend_core.specs.declared.tree.Tree.{Tree}
 use Rattle.sig_base.specs.declared.limits.Limits.{Limits}
-use Rattle.sig_base.specs.declared.refusal.Fault.{Fault}
-use Rattle.sig_base.specs.declared.refusal.Fault.TheVariants.{Memory, Refused}
 use Rattle.sig_base.specs.declared.refusal.Refusal.{Refusal}
 use Rattle.sig_modifiers.specs.Chains.{chain_of, chain_refusal}
-use Rattle.sig_modifiers.specs.Judged.{Judged, first}
+use Rattle.sig_modifiers.specs.Judged.{first}
 use Rattle.sig_modifiers.specs.TestsOf.{TestsOf, value_refusal}
 use Rattle.sig_modifiers.specs.declared.test.Test.{Test}
 use Rattle.sig_modifiers.specs.declared.test.Test.TheVariants.{Fits}

@@ -1,5 +1,5 @@
 -- What each document of a rule file is answered.
-use Rattle.std.specs.Prelude.{◌≡◌, ℕ, ◌<◌, ◌≤◌, ◌-◌, ◌^◌, min, nat_lt, if◌then◌else◌, Bool, true, false, ◌||◌, ⊤, ℤ, pos, List, [], ◌∷◌, ◌++◌, length, Option, Some, None, unwrap_or}
+use Rattle.std.specs.Prelude.{◌≡◌, ℕ, ◌<◌, ◌≤◌, ◌-◌, ◌^◌, min, nat_lt, if◌then◌else◌, Bool, true, false, ⊤, pos, List, [], ◌∷◌, length, Option, Some, None, unwrap_or}
 use Rattle.std.specs.List.{flat_map, list_any}
 use Rattle.sig_base.specs.Files.{file_at}
 use Rattle.sig_base.specs.declared.limits.Limits.{Limits}

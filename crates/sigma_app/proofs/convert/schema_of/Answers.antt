@@ -1,4 +1,4 @@
-use Rattle.std.proofs.Common.{◌≡◌, refl, rules}
+use Rattle.std.proofs.Common.{refl}
 use Rattle.std.specs.Prelude.{codes}
 use Rattle.sig_base.proofs.TextLemmas.{ascii_chars}
 use Rattle.sigma_app.proofs.convert.schema_of.Goals as goal

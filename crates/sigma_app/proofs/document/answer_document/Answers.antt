@@ -1,4 +1,4 @@
-use Rattle.std.proofs.Common.{List, ℕ, ap, ◌∙◌, sym, subst, rules}
+use Rattle.std.proofs.Common.{◌∙◌}
 use Rattle.sigma_app.proofs.Documented.{query_whole, query_cut, line_whole, line_cut, nothing_cut}
 use Rattle.sigma_app.proofs.document.answer_document.Goals as goal
 

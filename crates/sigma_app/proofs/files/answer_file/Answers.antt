@@ -1,4 +1,4 @@
-use Rattle.std.proofs.Common.{◌≡◌, List, ℕ, [], ◌∷◌, ◌++◌, ◌∙◌, ◌+◌, ap, sym, subst}
+use Rattle.std.proofs.Common.{List, ℕ, [], ◌∷◌, ◌++◌, ◌∙◌, ◌+◌, ap, sym, subst}
 use Rattle.sig_base.specs.Files.{IsFront}
 use Rattle.sigma_app.proofs.Filed.{read_ends, memory_ends, failed_ends, failed_unread, told_unread}
 use Rattle.sigma_app.proofs.files.answer_file.Goals as goal

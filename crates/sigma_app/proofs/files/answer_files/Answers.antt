@@ -1,4 +1,4 @@
-use Rattle.std.proofs.Common.{◌≡◌, ℕ, List, [], ◌∷◌, ◌++◌, ◌∙◌, ap, sym, subst, Option, Ok, Err, IfSome}
+use Rattle.std.proofs.Common.{ℕ, List, [], ◌∷◌, ◌++◌, ◌∙◌, ap, sym, subst, Option, Ok, Err, IfSome}
 use Rattle.sigma_app.proofs.Gone.{known_next, known_stop_at, known_unread_at}
 use Rattle.sigma_app.specs.Going.{Ends, AnsweredUnread}
 use Rattle.sigma_app.proofs.files.answer_files.Goals as goal

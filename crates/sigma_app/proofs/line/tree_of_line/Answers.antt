@@ -1,4 +1,4 @@
-use Rattle.std.proofs.Common.{List, ◌≡◌, ap, ◌∙◌, get_or}
+use Rattle.std.proofs.Common.{List, ap, ◌∙◌, get_or}
 use Rattle.sig_modifiers.specs.declared.test.Test.{Test}
 use Rattle.sigma_app.proofs.Converting.{line_tree}
 use Rattle.sigma_app.proofs.line.tree_of_line.Goals as goal

@@ -1,6 +1,5 @@
 use Rattle.std.proofs.Common.{[], ◌∷◌}
 use Rattle.sig_base.proofs.Puts.{front_then}
-use Rattle.sig_base.specs.Causes.{AppendsFront}
 use Rattle.sigma_app.proofs.Documented.{err_then}
 use Rattle.sigma_app.proofs.put.put_line.Goals as goal
 

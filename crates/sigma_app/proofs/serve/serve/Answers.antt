@@ -1,4 +1,4 @@
-use Rattle.sigma_app.proofs.Serving.{unread_is, written_whole, headline_whole, stands_unread, stands_cut, usage_written, usage_headline, usage_cut}
+use Rattle.sigma_app.proofs.Serving.{unread_is, headline_whole, stands_unread, stands_cut, usage_written, usage_cut}
 use Rattle.sigma_app.proofs.serve.serve.Goals as goal
 
 pub returns-in-Ok-clause-answer : goal.returns-in-Ok-clause-answer
