@@ -1,8 +1,8 @@
 -- What a file is answered by.
-use Rattle.std.specs.Prelude.{◌≡◌, ℕ, suc, Bool, true, false, not, ◌&&◌, ◌||◌, ◌==◌, nat_le, if◌then◌else◌, ◌⊎◌, List, [], ◌∷◌, ◌++◌, encode_utf8_all, Ok, Err}
+use Rattle.std.specs.Prelude.{◌≡◌, ℕ, suc, Bool, true, false, not, ◌&&◌, ◌||◌, ◌==◌, nat_le, if◌then◌else◌, ◌⊎◌, List, [], ◌∷◌, ◌++◌, Ok, Err}
 use Rattle.std.specs.List.{prefix_len, list_any, list_all}
 use Rattle.yaml_tree.specs.Tree.{At, Tree, Answer, tree, refusal}
-use Rattle.yaml_lines.specs.File.{Line, is_forbidden, is_marker, carries, documents_of}
+use Rattle.yaml_lines.specs.File.{Line, is_forbidden, is_marker, carries}
 use Rattle.yaml_lines.specs.Line.{at, Stop, refused, unclosed, Read}
 use Rattle.yaml_blocks.specs.Reading.{block_in}
 use Rattle.yaml_blocks.specs.Lays.{Lays}
@@ -69,10 +69,6 @@ IsAnswer depth ls (refusal p) =
 abbrev pub AreAnswers : ℕ → List (List Line) → List Answer → Type 0
 AreAnswers depth [] given = given ≡ []
 AreAnswers depth (d ∷ ds) given = (a : Answer) × (others : List Answer) × (given ≡ a ∷ others) × IsAnswer depth d a × AreAnswers depth ds others
-
--- the bytes of a file, and the answers to its documents in order
-abbrev pub IsFile : ℕ → List ℕ → List Answer → Type 0
-IsFile depth bytes given = (cs : List ℕ) × (bytes ≡ encode_utf8_all cs) × AreAnswers depth (documents_of cs) given
 
 -- the same as functions: what a reader computes
 abbrev pub is_read : Read Tree → Bool
