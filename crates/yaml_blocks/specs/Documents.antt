@@ -1,5 +1,5 @@
 -- What a file is answered by.
-use Rattle.std.specs.Prelude.{◌≡◌, ℕ, suc, Bool, true, false, not, ◌&&◌, ◌||◌, ◌==◌, nat_le, if◌then◌else◌, ◌⊎◌, List, [], ◌∷◌, ◌++◌, Ok, Err}
+use Rattle.std.specs.Prelude.{◌≡◌, ℕ, Bool, true, false, not, ◌&&◌, ◌||◌, ◌==◌, nat_le, if◌then◌else◌, ◌⊎◌, List, [], ◌∷◌, ◌++◌, Ok, Err}
 use Rattle.std.specs.List.{prefix_len, list_any, list_all}
 use Rattle.yaml_tree.specs.Tree.{At, Tree, Answer, tree, refusal}
 use Rattle.yaml_lines.specs.File.{Line, is_forbidden, is_marker, carries}
@@ -38,9 +38,9 @@ closes_later c ls = list_any (λ l. list_any (λ d. d == c) l.text) ls
 abbrev pub syntax_code : Line → ℕ × At
 syntax_code l = (4, at l 0)
 
--- the place lies before the line's first character that is left out, or at it
+-- the place lies before the line's first character that is left out
 abbrev pub is_before_forbidden : Line → At → Bool
-is_before_forbidden l a = nat_le a.column (suc (prefix_len (λ d. not (is_forbidden d)) l.text))
+is_before_forbidden l a = nat_le a.column (prefix_len (λ d. not (is_forbidden d)) l.text)
 
 -- the outermost opening whose closing character stands in a later line
 abbrev pub first_open : Line → List (At × ℕ) → List Line → ℕ × At
@@ -48,7 +48,7 @@ first_open l [] later = syntax_code l
 first_open l (x ∷ xs) later =
     if is_before_forbidden l x.0 && closes_later x.1 later then (3, x.0) else first_open l xs later
 
--- the code of a stop: one that stands behind a character that is left out yields to it
+-- the code of a stop: one that doesn't stand before a character that is left out yields to it
 abbrev pub stop_code : Line → List Line → Stop → ℕ × At
 stop_code l later (refused c a) = if is_before_forbidden l a then (c, a) else syntax_code l
 stop_code l later (unclosed n opens) = first_open l opens later

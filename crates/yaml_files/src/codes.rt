@@ -54,12 +54,12 @@ pub fn are_regular(lines: &[Line<'_>]) -> bool
     true
 }
 
-/// Whether the place lies before the line's first character that no text has, or at it.
+/// Whether the place lies before the line's first character that no text has.
 fn is_before_forbidden(line: &Line<'_>, place: Place) -> bool
     ensures { result ≡ spec.is_before_forbidden (line_view line.now) (place_view place) }
 {
     let before = before_forbidden(line.text);
-    place.column as usize <= before + 1
+    place.column as usize <= before
 }
 
 /// Whether the character stands in one of these lines.

@@ -139,5 +139,7 @@ fn finds_what_closes_later(rt: HostRuntime) -> Result<(), Fail> {
         open_code(alloc, "a: [1\u{1}, \"x", "\"")?.as_str(),
         "4 1:1"
     );
+    assert_eq!(rt; open_code(alloc, "a: [1, \"\u{1}", "\"")?.as_str(), "3 1:8");
+    assert_eq!(rt; open_code(alloc, "a: [1, \u{1}", "\"")?.as_str(), "4 1:1");
     Ok(())
 }
