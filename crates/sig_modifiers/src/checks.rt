@@ -70,7 +70,9 @@ fn shown(alloc: Global, words: &[&str], keyword: bool, text: &str) -> Result<Str
     let tests = crate::resolve(alloc, &Limits::standard(), &chain, &value)?.copy(alloc)?;
     let mut shown = String::new(alloc);
     for test in tests.as_slice() {
-        let Test::Fits { pattern, cased } = test;
+        let Test::Fits { pattern, cased } = test else {
+            return Ok(shown);
+        };
         let text = if pattern.is_written() {
             pattern.write_sigma(alloc)?
         } else {

@@ -12,6 +12,9 @@ impl Test {
         ensures err { IfErr result (λ e. e ≡ Fault.Memory) }
     {
         match self {
+            Test::Absent => Ok(Test::Absent),
+            Test::Exists(exists) => Ok(Test::Exists(*exists)),
+            Test::Equals(number) => Ok(Test::Equals(*number)),
             Test::Fits { pattern, cased } => {
                 let pattern = pattern.copy(alloc)?;
                 Ok(Test::Fits {
