@@ -1,0 +1,15 @@
+pub mod Awaited
+pub mod Lists
+pub mod Nodes
+pub mod Found
+pub mod Plain
+pub mod Heads
+pub mod Sources
+pub mod Keys
+pub mod Items
+pub mod Detections
+pub mod Conditions
+pub mod Rules
+pub mod Matching
+pub mod Whole
+pub mod Inferred

@@ -1,0 +1,34 @@
+-- Which rule a document's node is, or the first cause for which it is none (Sigma specification 2.0, rules).
+use Rattle.std.specs.Prelude.{◌≡◌, List, [], ◌∷◌, codes, Some}
+use Rattle.std.specs.declared.option.Option.{Option}
+use Rattle.sig_base.specs.declared.limits.Limits.{Limits}
+use Rattle.sig_base.specs.declared.refusal.Refusal.{Refusal}
+use Rattle.sig_modifiers.specs.Judged.{first}
+use Rattle.yaml_tree.specs.Tree.{Tree}
+use Rattle.rule_model.specs.Conditions.{conditions_refusal, AreConditions}
+use Rattle.rule_model.specs.Detections.{detections_refusal, AreDetections}
+use Rattle.rule_model.specs.Heads.{head_checks, IsHead}
+use Rattle.rule_model.specs.Nodes.{entries_in, value_in, required, refused_at}
+use Rattle.rule_model.specs.Plain.{PlainRule}
+use Rattle.rule_model.specs.Sources.{source_refusal, source_of}
+
+-- the head, then the log source, then the detections by place, and then the condition
+abbrev pub rule_refusal : Limits → Tree → Option Refusal
+rule_refusal limits t = first (
+    first (head_checks t)
+  ∷ required (codes "logsource") t
+  ∷ refused_at (codes "logsource") source_refusal t
+  ∷ required (codes "detection") t
+  ∷ refused_at (codes "detection") (detections_refusal limits) t
+  ∷ refused_at (codes "detection") (conditions_refusal limits) t
+  ∷ [])
+
+pub record IsRule (t : Tree) (r : PlainRule) : Type 0 where
+  pub head : IsHead t r.head
+  pub logsource : Tree
+  pub source_there : value_in (codes "logsource") (entries_in t) ≡ Some logsource
+  pub source : r.source ≡ source_of logsource
+  pub detection : Tree
+  pub detection_there : value_in (codes "detection") (entries_in t) ≡ Some detection
+  pub detections : AreDetections detection r.detections
+  pub conditions : AreConditions detection r.conditions

@@ -1,0 +1,16 @@
+//! Sigma rules: what they say, what they mean, and the schema that is made where none is given.
+#![tactic(auto)]
+
+pub use detection::{Alternative, Alternatives, Detection, Detections};
+pub use head::Head;
+pub use item::{Fields, Item, Values};
+pub use rule::Rule;
+pub use source::LogSource;
+
+mod copying;
+mod detection;
+mod head;
+mod item;
+mod nodes;
+mod rule;
+mod source;

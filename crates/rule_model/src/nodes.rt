@@ -1,0 +1,101 @@
+//! Looking into the trees of documents, and checks of what is found there.
+
+ghost use Rattle.std.specs.Prelude.{◌≡◌, true, false, [], ◌∷◌, Some, None, IfSome, IfNone};
+ghost use Rattle.std.specs.Str.{chars};
+ghost use Rattle.sig_modifiers.specs.Judged.{must};
+ghost use Rattle.sig_modifiers.specs.TestsOf.{place_of};
+ghost use Rattle.yaml_tree.specs.View.{node_view, nodes_view, entry_view, entries_view};
+ghost use Rattle.rule_model.specs.Found.{IsFound};
+ghost use Rattle.rule_model.specs.Nodes as spec;
+
+use sig_base::{Code, Detail, Place, Refusal, Text};
+use yaml_tree::{Entry, Kind, Node};
+
+/// The place of a node.
+#[tactic(auto, using(crate::proofs::Views::node_place))]
+pub fn place_of(node: &Node) -> Place
+    ensures { result ≡ place_of (node_view node.now) }
+{
+    node.place
+}
+
+/// The entries of a map, in their order.
+pub fn entries_of(node: &Node) -> Option<&[Entry]>
+    ensures some { IfSome result (λ es. spec.entries_in (node_view node.now) ≡ entries_view es.now) }
+    ensures is_map { IfSome result (λ es. spec.is_map (node_view node.now) ≡ true) }
+    ensures none { IfNone result (spec.is_map (node_view node.now) ≡ false) }
+{
+    match &node.kind {
+        Kind::Map(entries) => Some(entries.as_slice()),
+        Kind::Null | Kind::Truth(_) | Kind::Whole(_) | Kind::Text(_) | Kind::List(_) => None,
+    }
+}
+
+/// The elements of a list, in their order.
+pub fn elements_of(node: &Node) -> Option<&[Node]>
+    ensures some { IfSome result (λ ns. spec.parts_in (node_view node.now) ≡ nodes_view ns.now) }
+    ensures none { IfNone result (spec.parts_in (node_view node.now) ≡ node_view node.now ∷ []) }
+{
+    match &node.kind {
+        Kind::List(elements) => Some(elements.as_slice()),
+        Kind::Null | Kind::Truth(_) | Kind::Whole(_) | Kind::Text(_) | Kind::Map(_) => None,
+    }
+}
+
+/// The characters of a text.
+pub fn text_of(node: &Node) -> Option<&Text>
+    ensures some { IfSome result (λ t. spec.text_in (node_view node.now) ≡ t.now) }
+    ensures is_text { IfSome result (λ t. spec.is_text (node_view node.now) ≡ true) }
+    ensures none { IfNone result (spec.is_text (node_view node.now) ≡ false) }
+{
+    match &node.kind {
+        Kind::Text(text) => Some(text),
+        Kind::Null | Kind::Truth(_) | Kind::Whole(_) | Kind::List(_) | Kind::Map(_) => None,
+    }
+}
+
+/// Whether the node is a null.
+pub fn is_null(node: &Node) -> bool
+    ensures { result ≡ spec.is_null (node_view node.now) }
+{
+    match &node.kind {
+        Kind::Null => true,
+        Kind::Truth(_) | Kind::Whole(_) | Kind::Text(_) | Kind::List(_) | Kind::Map(_) => false,
+    }
+}
+
+/// Whether the node is neither a list nor a map.
+pub fn is_scalar(node: &Node) -> bool
+    ensures { result ≡ spec.is_scalar (node_view node.now) }
+{
+    match &node.kind {
+        Kind::Null | Kind::Truth(_) | Kind::Whole(_) | Kind::Text(_) => true,
+        Kind::List(_) | Kind::Map(_) => false,
+    }
+}
+
+/// The value at a key.
+pub fn find_value<'a>(entries: &'a [Entry], key: &str) -> Option<&'a Node>
+    ensures { IsFound (spec.value_in (chars key.now) (entries_view entries.now)) result }
+{
+    for entry in entries {
+        if entry.key.is(key) {
+            return Some(&entry.value);
+        }
+    }
+    None
+}
+
+/// The refusal with the code at the place, unless the condition holds.
+pub fn check(code: Code, place: Place, holds: bool) -> Option<Refusal>
+    ensures { result ≡ must code place holds }
+{
+    if holds {
+        return None;
+    }
+    Some(Refusal {
+        code,
+        place,
+        detail: Detail::None,
+    })
+}
