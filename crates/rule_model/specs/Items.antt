@@ -4,10 +4,9 @@ use Rattle.std.specs.List.{AllZip}
 use Rattle.std.specs.declared.option.Option.{Option}
 use Rattle.sig_base.specs.declared.limits.Limits.{Limits}
 use Rattle.sig_base.specs.declared.refusal.Refusal.{Refusal}
-use Rattle.sig_modifiers.specs.Chains.{chain_of}
-use Rattle.rule_model.specs.Awaited.{chain_refusal, joined_of, value_refusal}
+use Rattle.sig_modifiers.specs.Chains.{chain_of, chain_refusal, joined_of}
 use Rattle.sig_modifiers.specs.Judged.{must, first}
-use Rattle.sig_modifiers.specs.TestsOf.{TestsOf, place_of}
+use Rattle.sig_modifiers.specs.TestsOf.{TestsOf, place_of, value_refusal}
 use Rattle.sig_modifiers.specs.Written.{Written}
 use Rattle.yaml_tree.specs.Tree.{Tree, Member}
 use Rattle.rule_model.specs.Keys.{name_in, words_in, is_keyword_key, is_item_key, is_empty}
@@ -37,7 +36,7 @@ item_refusal limits e = first (
   ∷ first (list_map shape_refusal (parts_in e.value))
   ∷ must 78 (place_of e.value) (not (is_empty (parts_in e.value)))
   ∷ must 79 (key_place e) (nat_le (length (parts_in e.value)) limits.list_values)
-  ∷ first (list_map (value_refusal (key_chain e) limits.value_chars) (parts_in e.value))
+  ∷ first (list_map (value_refusal limits.value_chars (key_chain e)) (parts_in e.value))
   ∷ [])
 
 -- the item that an entry is
@@ -53,7 +52,7 @@ abbrev pub bare_chain : Tree → Written
 bare_chain t = chain_of [] true (place_of t)
 
 abbrev pub keyword_refusal : Limits → Tree → Option Refusal
-keyword_refusal limits t = value_refusal (bare_chain t) limits.value_chars t
+keyword_refusal limits t = value_refusal limits.value_chars (bare_chain t) t
 
 pub record IsKeyword (t : Tree) (i : Item) : Type 0 where
   pub fields : i.fields ≡ Keyword

@@ -1,4 +1,3 @@
-pub mod Awaited
 pub mod Lists
 pub mod Nodes
 pub mod Found
