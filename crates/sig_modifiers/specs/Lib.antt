@@ -1,5 +1,6 @@
 pub mod Chains
 pub mod Judged
+pub mod Resolved
 pub mod TestsOf
 pub mod Words
 pub mod Written
