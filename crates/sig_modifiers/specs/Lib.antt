@@ -1,4 +1,5 @@
 pub mod Chains
+pub mod Holds
 pub mod Judged
 pub mod Resolved
 pub mod TestsOf

@@ -15,6 +15,7 @@ mod copying;
 mod counting;
 mod editing;
 mod form;
+mod holding;
 mod law;
 mod modifier;
 mod reading;
