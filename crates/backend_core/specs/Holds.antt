@@ -1,23 +1,11 @@
 -- Whether a tree holds of an event's row: of each leaf its field's value decides, and the rest is two-valued.
-use Rattle.std.specs.Prelude.{ℕ, zero, suc, List, [], ◌∷◌, ◌⊎◌, Option, Some, None, ⊤}
-use Rattle.std.specs.Fmt.{signed_decimal}
+use Rattle.std.specs.Prelude.{List, ◌⊎◌, Option, Some, None, ⊤}
+use Rattle.event_schema.specs.Rows.{field_value, value_text}
 use Rattle.event_schema.specs.declared.value.Value.{Value}
-use Rattle.event_schema.specs.declared.value.Value.TheVariants as values
 use Rattle.sig_strings.specs.Fits.{Fits}
 use Rattle.backend_core.specs.declared.tree.LeafTest.{LeafTest}
 use Rattle.backend_core.specs.declared.tree.LeafTest.TheVariants as tests
 use Rattle.backend_core.specs.Trees.{Plain, all, any, negated, leaf, Plains, no_parts, a_part}
-
--- the value of field k, of a row that has one value or none for each field, in their order
-abbrev pub field_value : List (Option Value) → ℕ → Option Value
-field_value [] k = None
-field_value (v ∷ vs) zero = v
-field_value (v ∷ vs) (suc k) = field_value vs k
-
--- a text, or a number's decimal
-abbrev pub value_text : Value → List ℕ
-value_text (values.Text text) = text
-value_text (values.Whole n) = signed_decimal n
 
 -- what a test says of a field's value; where there is none, no pattern fits
 abbrev pub TestHolds : LeafTest → Option Value → Type 0

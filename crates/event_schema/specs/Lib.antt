@@ -1,3 +1,5 @@
 pub mod Addresses
 pub mod Events
 pub mod Inferred
+pub mod Occurrence
+pub mod Rows

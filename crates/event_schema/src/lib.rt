@@ -1,10 +1,12 @@
 //! What events look like: schemas with their fields, and the values of fields.
 #![tactic(auto)]
 
+pub use event::Event;
 pub use fields::Fields;
 pub use schema::{Field, FieldKind, Schema, Time, TimeForm};
-pub use value::Value;
+pub use value::{Value, decimal, decimal_in};
 
+mod event;
 mod fields;
 mod schema;
 mod value;

@@ -1,5 +1,9 @@
 //! Schemas: the fields that events have, and where their times stand.
 
+ghost use Rattle.std.specs.Prelude.{◌≡◌};
+ghost use Rattle.std.specs.Str.{chars};
+ghost use Rattle.event_schema.specs.Rows.{field_number};
+
 use crate::fields::Fields;
 use sig_base::{Text, Texts};
 
@@ -43,4 +47,16 @@ pub struct Schema {
     pub table: Text,
     pub fields: Fields,
     pub time: Option<Time>,
+}
+
+impl Schema {
+    /// The number of the first field that has exactly this name.
+    pub fn find(&self, name: &str) -> Option<usize>
+        ensures { result ≡ field_number self.now.fields (chars name.now) }
+    {
+        self.fields
+            .as_slice()
+            .iter()
+            .position(|field| field.name.is(name))
+    }
 }

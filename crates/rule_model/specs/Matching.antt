@@ -3,9 +3,9 @@ use Rattle.std.specs.Prelude.{ℕ, zero, suc, ◌≡◌, true, List, [], ◌∷�
 use Rattle.std.specs.declared.option.Option.{Option}
 use Rattle.event_schema.specs.declared.schema.Field.{Field}
 use Rattle.event_schema.specs.declared.value.Value.{Value}
-use Rattle.rule_model.specs.Awaited.{value_at}
+use Rattle.event_schema.specs.Rows.{field_number, value_if_any}
 use Rattle.sig_conditions.specs.Formulas.{Form, FDetection, FNot, FAnd, FOr, Forms, no_forms, form}
-use Rattle.rule_model.specs.Awaited.{Holds}
+use Rattle.sig_modifiers.specs.Holds.{Holds}
 use Rattle.sig_modifiers.specs.declared.modifier.Joined.{Joined}
 use Rattle.sig_modifiers.specs.declared.modifier.Joined.TheVariants.{All, Any}
 use Rattle.sig_modifiers.specs.declared.test.Test.{Test}
@@ -25,7 +25,7 @@ JoinedHolds Any Satisfied values = SomeOf Satisfied values
 module _ (fields : List Field) (row : List (Option Value)) where
   -- a value is satisfied by a field where one of its tests holds of what the field has
   abbrev pub FieldSatisfies : List ℕ → List Test → Type 0
-  FieldSatisfies name tests = SomeOf (λ test. Holds test (value_at fields row name)) tests
+  FieldSatisfies name tests = SomeOf (λ test. Holds test (value_if_any row (field_number fields name))) tests
 
   -- a keyword is satisfied by some field that keywords search
   abbrev pub KeywordSatisfied : List Test → Type 0

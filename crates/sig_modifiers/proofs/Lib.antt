@@ -1,1 +1,2 @@
-mod ViewLemmas
+pub mod TestsLemmas
+pub mod ViewLemmas

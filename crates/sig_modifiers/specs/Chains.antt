@@ -1,35 +1,85 @@
 -- Which words make a chain of modifiers, and why others don't (Sigma specification 2.0, modifiers).
-use Rattle.std.specs.Prelude.{ℕ, Bool, true, false, ◌&&◌, nat_le, List, [], ◌∷◌, count_by, find, Option, Some, None}
-use Rattle.std.specs.List.{filter_map}
+use Rattle.std.specs.Prelude.{ℕ, Bool, true, false, ◌&&◌, ◌||◌, not, nat_le, List, [], ◌∷◌, count_by, find, if◌then◌else◌, Option, Some, None}
+use Rattle.std.specs.List.{filter_map, list_all, list_any}
 use Rattle.sig_base.specs.declared.refusal.Place.{Place}
 use Rattle.sig_base.specs.declared.refusal.Refusal.{Refusal}
 use Rattle.sig_base.specs.declared.refusal.Detail.TheVariants as details
 use Rattle.sig_modifiers.specs.Judged.{must, first}
 use Rattle.sig_modifiers.specs.Words.{modifier_of, is_unknown}
 use Rattle.sig_modifiers.specs.Written.{Written}
+use Rattle.sig_modifiers.specs.declared.modifier.Joined.{Joined}
+use Rattle.sig_modifiers.specs.declared.modifier.Joined.TheVariants as joinings
 use Rattle.sig_modifiers.specs.declared.modifier.Modifier.{Modifier}
-use Rattle.sig_modifiers.specs.declared.modifier.Modifier.TheVariants.{Contains, StartsWith, EndsWith, Cased}
+use Rattle.sig_modifiers.specs.declared.modifier.Modifier.TheVariants.{Contains, StartsWith, EndsWith, All, Cased, Exists}
 
 -- says where in a text the pattern is looked for
 abbrev pub is_position : Modifier → Bool
 is_position Contains = true
 is_position StartsWith = true
 is_position EndsWith = true
+is_position All = false
 is_position Cased = false
+is_position Exists = false
 
+-- asks that all values are satisfied
+abbrev pub is_all : Modifier → Bool
+is_all Contains = false
+is_all StartsWith = false
+is_all EndsWith = false
+is_all All = true
+is_all Cased = false
+is_all Exists = false
+
+-- compares with regard to case
 abbrev pub is_cased : Modifier → Bool
 is_cased Contains = false
 is_cased StartsWith = false
 is_cased EndsWith = false
+is_cased All = false
 is_cased Cased = true
+is_cased Exists = false
+
+-- asks whether there is a value
+abbrev pub is_exists : Modifier → Bool
+is_exists Contains = false
+is_exists StartsWith = false
+is_exists EndsWith = false
+is_exists All = false
+is_exists Cased = false
+is_exists Exists = true
+
+-- stands in text chains
+abbrev pub is_text_word : Modifier → Bool
+is_text_word Contains = true
+is_text_word StartsWith = true
+is_text_word EndsWith = true
+is_text_word All = true
+is_text_word Cased = true
+is_text_word Exists = false
+
+abbrev pub is_empty : List Modifier → Bool
+is_empty [] = true
+is_empty (modifier ∷ modifiers) = false
 
 -- no two of the modifiers are such
 abbrev pub at_most_one : (Modifier → Bool) → List Modifier → Bool
 at_most_one p modifiers = nat_le (count_by p modifiers) 1
 
--- at most one of `contains`, `startswith` and `endswith` stands there, and `cased` at most once, in any order
-abbrev pub is_chain : List Modifier → Bool
-is_chain modifiers = at_most_one is_position modifiers && at_most_one is_cased modifiers
+-- `exists` alone
+abbrev pub is_presence : List Modifier → Bool
+is_presence [] = false
+is_presence (modifier ∷ modifiers) = is_exists modifier && is_empty modifiers
+
+-- words of text chains alone, in any order: at most one of `contains`, `startswith` and `endswith`, and `all` and `cased`
+-- at most once each
+abbrev pub is_text_chain : List Modifier → Bool
+is_text_chain modifiers =
+    list_all is_text_word modifiers && at_most_one is_position modifiers && at_most_one is_all modifiers
+    && at_most_one is_cased modifiers
+
+-- the chains: no modifier, `exists` alone at a field, and the text chains
+abbrev pub is_chain : Bool → List Modifier → Bool
+is_chain keyword modifiers = is_empty modifiers || (is_presence modifiers && not keyword) || is_text_chain modifiers
 
 -- the modifiers that these words name, in their order
 abbrev pub modifiers_of : List (List ℕ) → List Modifier
@@ -41,10 +91,14 @@ unknown place None = None
 unknown place (Some word) = Some (record { code = 40; place = place; detail = details.Text word })
 
 -- why the words are no chain: the first that names no modifier, or that together they aren't allowed
-abbrev pub chain_refusal : Place → List (List ℕ) → Option Refusal
-chain_refusal place words =
-    first (unknown place (find is_unknown words) ∷ must 41 place (is_chain (modifiers_of words)) ∷ [])
+abbrev pub chain_refusal : Bool → Place → List (List ℕ) → Option Refusal
+chain_refusal keyword place words =
+    first (unknown place (find is_unknown words) ∷ must 41 place (is_chain keyword (modifiers_of words)) ∷ [])
 
 -- the chain of these words
 abbrev pub chain_of : List (List ℕ) → Bool → Place → Written
 chain_of words keyword place = record { modifiers = modifiers_of words; keyword = keyword; place = place }
+
+-- all values have to be satisfied exactly where the chain says so
+abbrev pub joined_of : Written → Joined
+joined_of chain = if list_any is_all chain.modifiers then joinings.All else joinings.Any

@@ -1,5 +1,6 @@
 -- Which tests a chain of modifiers makes of a value (Sigma specification 2.0, modifiers).
-use Rattle.std.specs.Prelude.{ℕ, ◌≡◌, Bool, true, false, ◌==◌, ◌||◌, not, nat_le, List, [], ◌∷◌, length, if◌then◌else◌, Option}
+use Rattle.std.specs.Prelude.{ℕ, ◌≡◌, Bool, true, false, ◌==◌, ◌||◌, not, nat_le, ℤ, List, [], ◌∷◌, length, codes, if◌then◌else◌, Option}
+use Rattle.std.specs.Fmt.{signed_decimal}
 use Rattle.std.specs.List.{list_any}
 use Rattle.sig_base.specs.declared.refusal.Place.{Place}
 use Rattle.sig_base.specs.declared.refusal.Refusal.{Refusal}
@@ -8,30 +9,66 @@ use Rattle.sig_strings.specs.Edits.{with_run_before, with_run_after}
 use Rattle.sig_strings.specs.declared.part.Part.{Part}
 use Rattle.yaml_tree.specs.Tree.{At, Scalar, null, truth, whole, text, Tree, scalar, list, map}
 use Rattle.sig_modifiers.specs.Judged.{must, first}
-use Rattle.sig_modifiers.specs.Chains.{is_position, is_cased}
+use Rattle.sig_modifiers.specs.Chains.{is_position, is_cased, is_empty, is_presence}
 use Rattle.sig_modifiers.specs.Written.{Written}
 use Rattle.sig_modifiers.specs.declared.modifier.Modifier.{Modifier}
-use Rattle.sig_modifiers.specs.declared.modifier.Modifier.TheVariants.{Contains, StartsWith, EndsWith, Cased}
+use Rattle.sig_modifiers.specs.declared.modifier.Modifier.TheVariants.{Contains, StartsWith, EndsWith, All, Cased, Exists}
+use Rattle.sig_modifiers.specs.declared.form.Form.{Form}
+use Rattle.sig_modifiers.specs.declared.form.Form.TheVariants.{Bare, Presence, Texts}
 use Rattle.sig_modifiers.specs.declared.test.Test.{Test}
-use Rattle.sig_modifiers.specs.declared.test.Test.TheVariants.{Fits}
+use Rattle.sig_modifiers.specs.declared.test.Test.TheVariants as tests
+
+-- the kind of a chain at a field: no modifier, `exists`, or a text chain, which takes null too where no modifier says where
+-- the pattern is looked for
+abbrev pub field_form : List Modifier → Form
+field_form modifiers =
+    if is_empty modifiers then Bare
+    else (if is_presence modifiers then Presence else Texts (not (list_any is_position modifiers)))
+
+-- a keyword takes text chains alone, also without a modifier, and no null
+abbrev pub form_of : Written → Form
+form_of chain = if chain.keyword then Texts false else field_form chain.modifiers
 
 -- what a chain takes a value for
 pub data Use : Type 0 where
   -- not taken
   unused : Use
-  -- a text's pattern
+  -- that there is no value
+  absent : Use
+  -- that there is a value, or none
+  existing : Bool → Use
+  -- the pattern that this text spells
   pattern : List ℕ → Use
+  -- this number
+  number : ℤ → Use
 
-abbrev pub scalar_use : Scalar → Use
-scalar_use null = unused
-scalar_use (truth b) = unused
-scalar_use (whole n) = unused
-scalar_use (text t) = pattern t
+-- how a truth value is written
+abbrev pub truth_text : Bool → List ℕ
+truth_text true = codes "true"
+truth_text false = codes "false"
 
-abbrev pub use_of : Tree → Use
-use_of (scalar at s) = scalar_use s
-use_of (list at parts) = unused
-use_of (map at parts) = unused
+abbrev pub scalar_use : Form → Scalar → Use
+scalar_use Bare null = absent
+scalar_use Bare (truth b) = pattern (truth_text b)
+scalar_use Bare (whole n) = number n
+scalar_use Bare (text t) = pattern t
+scalar_use Presence null = unused
+scalar_use Presence (truth b) = existing b
+scalar_use Presence (whole n) = unused
+scalar_use Presence (text t) = unused
+scalar_use (Texts nulls) null = if nulls then absent else unused
+scalar_use (Texts nulls) (truth b) = pattern (truth_text b)
+scalar_use (Texts nulls) (whole n) = pattern (signed_decimal n)
+scalar_use (Texts nulls) (text t) = pattern t
+
+-- lists and maps are never taken
+abbrev pub form_use : Form → Tree → Use
+form_use form (scalar at s) = scalar_use form s
+form_use form (list at parts) = unused
+form_use form (map at parts) = unused
+
+abbrev pub use_of : Written → Tree → Use
+use_of chain value = form_use (form_of chain) value
 
 abbrev pub at_of : Tree → At
 at_of (scalar at s) = at
@@ -43,12 +80,18 @@ place_of value = record { line = (at_of value).line; column = (at_of value).colu
 
 abbrev pub is_used : Use → Bool
 is_used unused = false
+is_used absent = true
+is_used (existing b) = true
 is_used (pattern t) = true
+is_used (number n) = true
 
 -- the text that is made a pattern
 abbrev pub text_of : Use → List ℕ
 text_of unused = []
+text_of absent = []
+text_of (existing b) = []
 text_of (pattern t) = t
+text_of (number n) = []
 
 abbrev pub has_nul : List ℕ → Bool
 has_nul t = list_any (λ c. c == 0) t
@@ -60,17 +103,22 @@ text_checks most place t = must 49 place (nat_le (length t) most) ∷ must 50 pl
 abbrev pub text_refusal : ℕ → Place → List ℕ → Option Refusal
 text_refusal most place t = first (text_checks most place t)
 
--- why a value gives no tests: it isn't taken, or its text is no pattern
-abbrev pub value_refusal : ℕ → Tree → Option Refusal
-value_refusal most value =
-    first (must 42 (place_of value) (is_used (use_of value)) ∷ text_checks most (place_of value) (text_of (use_of value)))
+-- why a use gives no tests: it's none, or its text is no pattern
+abbrev pub use_refusal : ℕ → Place → Use → Option Refusal
+use_refusal most place use_ = first (must 42 place (is_used use_) ∷ text_checks most place (text_of use_))
+
+-- why a value gives no tests
+abbrev pub value_refusal : ℕ → Written → Tree → Option Refusal
+value_refusal most chain value = use_refusal most (place_of value) (use_of chain value)
 
 -- what a modifier makes of a pattern
 abbrev pub edited : Modifier → List Part → List Part
 edited Contains parts = with_run_after (with_run_before parts)
 edited StartsWith parts = with_run_after parts
 edited EndsWith parts = with_run_before parts
+edited All parts = parts
 edited Cased parts = parts
+edited Exists parts = parts
 
 -- the modifiers are applied from left to right
 abbrev pub all_edited : List Modifier → List Part → List Part
@@ -86,15 +134,18 @@ abbrev pub pattern_of : Written → List Part → List Part
 pattern_of chain parts = keyword_edited chain (all_edited chain.modifiers parts)
 
 -- the one test: a text fits the pattern that this text spells, edited as the chain says
-pub record IsFits (chain : Written) (t : List ℕ) (tests : List Test) : Type 0 where
+pub record IsFits (chain : Written) (t : List ℕ) (ts : List Test) : Type 0 where
   pub parts : List Part
   pub spelled : Spells false t parts
-  pub tests_are : tests ≡ Fits (pattern_of chain parts) (list_any is_cased chain.modifiers) ∷ []
+  pub tests_are : ts ≡ tests.Fits (pattern_of chain parts) (list_any is_cased chain.modifiers) ∷ []
 
 abbrev pub UseTests : Written → Use → List Test → Type 0
-UseTests chain unused tests = ⊥
-UseTests chain (pattern t) tests = IsFits chain t tests
+UseTests chain unused ts = ⊥
+UseTests chain absent ts = ts ≡ tests.Absent ∷ []
+UseTests chain (existing b) ts = ts ≡ tests.Exists b ∷ []
+UseTests chain (pattern t) ts = IsFits chain t ts
+UseTests chain (number n) ts = ts ≡ tests.Equals n ∷ []
 
 -- these are the tests that the chain makes of the value
 abbrev pub TestsOf : Written → Tree → List Test → Type 0
-TestsOf chain value tests = UseTests chain (use_of value) tests
+TestsOf chain value ts = UseTests chain (use_of chain value) ts

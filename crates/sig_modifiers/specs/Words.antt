@@ -2,7 +2,7 @@
 use Rattle.std.specs.Prelude.{ℕ, Bool, List, [], ◌∷◌, codes, if◌then◌else◌, Option, Some, None, is_none}
 use Rattle.std.specs.Str.{bytes_eq}
 use Rattle.sig_modifiers.specs.declared.modifier.Modifier.{Modifier}
-use Rattle.sig_modifiers.specs.declared.modifier.Modifier.TheVariants.{Contains, StartsWith, EndsWith, Cased}
+use Rattle.sig_modifiers.specs.declared.modifier.Modifier.TheVariants.{Contains, StartsWith, EndsWith, All, Cased, Exists}
 
 -- the word of each modifier
 abbrev pub modifier_words : List (List ℕ × Modifier)
@@ -10,7 +10,9 @@ modifier_words =
     (codes "contains", Contains)
     ∷ (codes "startswith", StartsWith)
     ∷ (codes "endswith", EndsWith)
+    ∷ (codes "all", All)
     ∷ (codes "cased", Cased)
+    ∷ (codes "exists", Exists)
     ∷ []
 
 abbrev pub modifier_in : List (List ℕ × Modifier) → List ℕ → Option Modifier

@@ -1,8 +1,12 @@
 //! Chains of modifiers.
 
 ghost use Rattle.std.specs.Prelude.{◌≡◌};
-ghost use Rattle.sig_modifiers.specs.declared.modifier.Joined.TheVariants.{All, Any};
+ghost use Rattle.std.specs.List.{list_any};
+ghost use Rattle.sig_modifiers.specs.Chains as chains;
+ghost use Rattle.sig_modifiers.specs.TestsOf as uses;
 
+use crate::counting::{has_position, is_all, is_cased, is_empty, is_presence};
+use crate::form::Form;
 use crate::modifier::{Joined, Modifier};
 use sig_base::Place;
 use std::marker::Model;
@@ -48,10 +52,42 @@ impl Chain {
         self.keyword
     }
 
+    fn has_all(&self) -> bool
+        ensures { result ≡ list_any chains.is_all self.now.modifiers }
+    {
+        self.modifiers().iter().any(is_all)
+    }
+
+    /// Whether texts are compared with regard to case.
+    pub(crate) fn is_cased(&self) -> bool
+        ensures { result ≡ list_any chains.is_cased self.now.modifiers }
+    {
+        self.modifiers().iter().any(is_cased)
+    }
+
     /// Whether all values of the item have to be satisfied.
     pub fn joined(&self) -> Joined
-        ensures { result ≡ Joined.Any }
+        ensures { result ≡ chains.joined_of self.now }
     {
-        Joined::Any
+        if self.has_all() {
+            Joined::All
+        } else {
+            Joined::Any
+        }
+    }
+
+    pub(crate) fn form(&self) -> Form
+        ensures { result ≡ uses.form_of self.now }
+    {
+        if self.is_keyword() {
+            return Form::Texts(false);
+        }
+        if is_empty(self.modifiers()) {
+            return Form::Bare;
+        }
+        if is_presence(self.modifiers()) {
+            return Form::Presence;
+        }
+        Form::Texts(!has_position(self.modifiers()))
     }
 }

@@ -1,7 +1,7 @@
 //! Which modifiers stand together.
 
 ghost use Rattle.std.specs.Prelude.{◌≡◌, count_by};
-ghost use Rattle.std.specs.List.{list_any};
+ghost use Rattle.std.specs.List.{list_all, list_any};
 ghost use Rattle.sig_modifiers.specs.Chains as chains;
 
 use crate::modifier::Modifier;
@@ -11,17 +11,44 @@ pub fn is_position(modifier: &Modifier) -> bool
 {
     match modifier {
         Modifier::Contains | Modifier::StartsWith | Modifier::EndsWith => true,
-        Modifier::Cased => false,
+        Modifier::All | Modifier::Cased | Modifier::Exists => false,
     }
+}
+
+pub fn is_all(modifier: &Modifier) -> bool
+    ensures { result ≡ chains.is_all modifier.now }
+{
+    *modifier == Modifier::All
 }
 
 pub fn is_cased(modifier: &Modifier) -> bool
     ensures { result ≡ chains.is_cased modifier.now }
 {
-    match modifier {
-        Modifier::Cased => true,
-        Modifier::Contains | Modifier::StartsWith | Modifier::EndsWith => false,
-    }
+    *modifier == Modifier::Cased
+}
+
+fn is_exists(modifier: &Modifier) -> bool
+    ensures { result ≡ chains.is_exists modifier.now }
+{
+    *modifier == Modifier::Exists
+}
+
+fn is_text_word(modifier: &Modifier) -> bool
+    ensures { result ≡ chains.is_text_word modifier.now }
+{
+    !is_exists(modifier)
+}
+
+fn are_text_words(modifiers: &[Modifier]) -> bool
+    ensures { result ≡ list_all chains.is_text_word modifiers.now }
+{
+    modifiers.iter().all(is_text_word)
+}
+
+pub fn has_position(modifiers: &[Modifier]) -> bool
+    ensures { result ≡ list_any chains.is_position modifiers.now }
+{
+    modifiers.iter().any(is_position)
 }
 
 fn one_position(modifiers: &[Modifier]) -> bool
@@ -30,15 +57,46 @@ fn one_position(modifiers: &[Modifier]) -> bool
     modifiers.iter().filter(|m| is_position(m)).count() <= 1
 }
 
+fn one_all(modifiers: &[Modifier]) -> bool
+    ensures { result ≡ chains.at_most_one chains.is_all modifiers.now }
+{
+    modifiers.iter().filter(|m| is_all(m)).count() <= 1
+}
+
 fn one_cased(modifiers: &[Modifier]) -> bool
     ensures { result ≡ chains.at_most_one chains.is_cased modifiers.now }
 {
     modifiers.iter().filter(|m| is_cased(m)).count() <= 1
 }
 
-/// Whether the modifiers may stand together.
-pub fn is_chain(modifiers: &[Modifier]) -> bool
-    ensures { result ≡ chains.is_chain modifiers.now }
+pub fn is_empty(modifiers: &[Modifier]) -> bool
+    ensures { result ≡ chains.is_empty modifiers.now }
 {
-    one_position(modifiers) && one_cased(modifiers)
+    modifiers.is_empty()
+}
+
+/// Whether `exists` stands there alone.
+pub fn is_presence(modifiers: &[Modifier]) -> bool
+    ensures { result ≡ chains.is_presence modifiers.now }
+{
+    let Some((modifier, rest)) = modifiers.split_first() else {
+        return false;
+    };
+    is_exists(modifier) && is_empty(rest)
+}
+
+fn is_text_chain(modifiers: &[Modifier]) -> bool
+    ensures { result ≡ chains.is_text_chain modifiers.now }
+{
+    are_text_words(modifiers)
+        && one_position(modifiers)
+        && one_all(modifiers)
+        && one_cased(modifiers)
+}
+
+/// Whether the modifiers may stand together, at a keyword or at a field.
+pub fn is_chain(keyword: bool, modifiers: &[Modifier]) -> bool
+    ensures { result ≡ chains.is_chain keyword modifiers.now }
+{
+    is_empty(modifiers) || (is_presence(modifiers) && !keyword) || is_text_chain(modifiers)
 }

@@ -1,12 +1,10 @@
 //! What modifiers make of a pattern.
 
 ghost use Rattle.std.specs.Prelude.{◌≡◌, IfOk, IfErr};
-ghost use Rattle.std.specs.List.{list_any};
-ghost use Rattle.sig_modifiers.specs.Chains as chains;
 ghost use Rattle.sig_modifiers.specs.TestsOf as uses;
 
 use crate::chain::Chain;
-use crate::counting::{is_cased, is_position};
+use crate::counting::has_position;
 use crate::modifier::Modifier;
 use sig_base::Fault;
 use sig_strings::Pattern;
@@ -19,7 +17,7 @@ fn edited(modifier: Modifier, pattern: Pattern) -> Result<Pattern, Fault>
         Modifier::Contains => pattern.with_run_before()?.with_run_after(),
         Modifier::StartsWith => pattern.with_run_after(),
         Modifier::EndsWith => pattern.with_run_before(),
-        Modifier::Cased => Ok(pattern),
+        Modifier::All | Modifier::Cased | Modifier::Exists => Ok(pattern),
     }
 }
 
@@ -34,20 +32,7 @@ fn all_edited(modifiers: &[Modifier], pattern: Pattern) -> Result<Pattern, Fault
     Ok(edit)
 }
 
-fn has_position(modifiers: &[Modifier]) -> bool
-    ensures { result ≡ list_any chains.is_position modifiers.now }
-{
-    modifiers.iter().any(is_position)
-}
-
 impl Chain {
-    /// Whether texts are compared with regard to case.
-    pub(crate) fn is_cased(&self) -> bool
-        ensures { result ≡ list_any chains.is_cased self.now.modifiers }
-    {
-        self.modifiers().iter().any(is_cased)
-    }
-
     /// What the modifiers make of a pattern, with the runs of a keyword.
     pub(crate) fn pattern_of(&self, pattern: Pattern) -> Result<Pattern, Fault>
         ensures ok { IfOk result (λ p. p ≡ uses.pattern_of self.now pattern) }

@@ -2,6 +2,7 @@
 #![tactic(auto)]
 
 pub use chain::Chain;
+pub use law::{one_tests, tests_or_refusal};
 pub use modifier::{Joined, Modifier};
 pub use resolving::resolve;
 pub use test::Test;
@@ -13,6 +14,9 @@ mod checks;
 mod copying;
 mod counting;
 mod editing;
+mod form;
+mod holding;
+mod law;
 mod modifier;
 mod reading;
 mod refusing;

@@ -6,7 +6,9 @@ pub enum Modifier {
     Contains,
     StartsWith,
     EndsWith,
+    All,
     Cased,
+    Exists,
 }
 
 /// Whether all values of an item have to be satisfied, or one of them.

@@ -23,8 +23,14 @@ fn modifier_of(word: &Text) -> Option<Modifier>
     if word.is("endswith") {
         return Some(Modifier::EndsWith);
     }
+    if word.is("all") {
+        return Some(Modifier::All);
+    }
     if word.is("cased") {
         return Some(Modifier::Cased);
+    }
+    if word.is("exists") {
+        return Some(Modifier::Exists);
     }
     None
 }
@@ -61,10 +67,10 @@ impl Chain {
     /// Reads the words behind a field's name, or with `keyword` those of a keyword. The first word that names no
     /// modifier is refused 40, and modifiers that may not stand together 41, both at `place`.
     pub fn read(alloc: Global, words: &[Text], keyword: bool, place: Place) -> Result<Chain, Fault>
-        ensures { Judged (λ c. c ≡ chains.chain_of words.now keyword place) (chains.chain_refusal place words.now) result }
+        ensures { Judged (λ c. c ≡ chains.chain_of words.now keyword place) (chains.chain_refusal keyword place words.now) result }
     {
         let modifiers = read_modifiers(alloc, words, place)?;
-        if !is_chain(&modifiers) {
+        if !is_chain(keyword, &modifiers) {
             return Err(refused(Code::CHAIN_NOT_ALLOWED, place));
         }
         Ok(Chain::of_modifiers(modifiers, keyword, place))

@@ -3,15 +3,20 @@
 ghost use Rattle.std.specs.Prelude.{◌≡◌, ◌∷◌, [], false, IfOk, IfErr};
 ghost use Rattle.std.specs.Str.{chars};
 ghost use Rattle.sig_modifiers.specs.Judged.{Judged};
+ghost use Rattle.sig_modifiers.specs.Resolved.{UseJudged, ScalarJudged};
 ghost use Rattle.sig_modifiers.specs.TestsOf as uses;
 ghost use Rattle.sig_strings.specs.Spells.{Spells};
+ghost use Rattle.yaml_tree.specs.Tree.{null, truth, whole, text};
 ghost use Rattle.yaml_tree.specs.View.{node_view};
 
 use crate::chain::Chain;
+use crate::form::Form;
 use crate::refusing::refused;
 use crate::test::Test;
 use crate::test_list::Tests;
-use sig_base::{Code, Fault, Limits, Place};
+use event_schema::decimal_in;
+use itoa::Buffer;
+use sig_base::{Code, Fault, Limits, Place, Text};
 use sig_strings::Pattern;
 use std::alloc::Global;
 use yaml_tree::{Kind, Node};
@@ -31,6 +36,13 @@ fn one_test(alloc: Global, test: Test) -> Result<Tests, Fault>
     Ok(tests)
 }
 
+/// How a truth value is written.
+fn truth_text(value: bool) -> &'static str
+    ensures { chars result.now ≡ uses.truth_text value }
+{
+    if value { "true" } else { "false" }
+}
+
 /// The pattern of a text, as it is written.
 fn read_pattern(alloc: Global, limits: &Limits, text: &str, place: Place) -> Result<Pattern, Fault>
     ensures { Judged (λ p. Spells false (chars text.now) p) (uses.text_refusal limits.now.value_chars place (chars text.now)) result }
@@ -42,7 +54,7 @@ fn read_pattern(alloc: Global, limits: &Limits, text: &str, place: Place) -> Res
     Ok(pattern)
 }
 
-/// The test that a text fits.
+/// The test that a text fits the pattern which this text spells.
 fn resolve_text(
     alloc: Global,
     limits: &Limits,
@@ -50,7 +62,7 @@ fn resolve_text(
     text: &str,
     place: Place,
 ) -> Result<Tests, Fault>
-    ensures { Judged (λ tests. uses.IsFits chain.now (chars text.now) tests) (uses.text_refusal limits.now.value_chars place (chars text.now)) result }
+    ensures { UseJudged chain.now limits.now.value_chars place (uses.pattern (chars text.now)) result }
 {
     let pattern = read_pattern(alloc, limits, text, place)?;
     let pattern = chain.pattern_of(pattern)?;
@@ -63,16 +75,78 @@ fn resolve_text(
     )
 }
 
+fn resolve_null(alloc: Global, limits: &Limits, chain: &Chain, place: Place) -> Result<Tests, Fault>
+    ensures { ScalarJudged chain.now limits.now.value_chars place null result }
+{
+    match chain.form() {
+        Form::Bare | Form::Texts(true) => one_test(alloc, Test::Absent),
+        Form::Presence | Form::Texts(false) => Err(refused(Code::VALUE_NOT_ALLOWED, place)),
+    }
+}
+
+fn resolve_truth(
+    alloc: Global,
+    limits: &Limits,
+    chain: &Chain,
+    value: bool,
+    place: Place,
+) -> Result<Tests, Fault>
+    ensures { ScalarJudged chain.now limits.now.value_chars place (truth value) result }
+{
+    match chain.form() {
+        Form::Presence => one_test(alloc, Test::Exists(value)),
+        Form::Bare | Form::Texts(_) => {
+            resolve_text(alloc, limits, chain, truth_text(value), place)
+        }
+    }
+}
+
+fn resolve_whole(
+    alloc: Global,
+    limits: &Limits,
+    chain: &Chain,
+    value: &i64,
+    place: Place,
+) -> Result<Tests, Fault>
+    ensures { ScalarJudged chain.now limits.now.value_chars place (whole value.now) result }
+{
+    match chain.form() {
+        Form::Bare => one_test(alloc, Test::Equals(*value)),
+        Form::Presence => Err(refused(Code::VALUE_NOT_ALLOWED, place)),
+        Form::Texts(_) => {
+            let mut buffer = Buffer::new();
+            let text = decimal_in(&mut buffer, *value);
+            resolve_text(alloc, limits, chain, text, place)
+        }
+    }
+}
+
+fn resolve_string(
+    alloc: Global,
+    limits: &Limits,
+    chain: &Chain,
+    value: &Text,
+    place: Place,
+) -> Result<Tests, Fault>
+    ensures { ScalarJudged chain.now limits.now.value_chars place (text value.now) result }
+{
+    match chain.form() {
+        Form::Presence => Err(refused(Code::VALUE_NOT_ALLOWED, place)),
+        Form::Bare | Form::Texts(_) => { resolve_text(alloc, limits, chain, value.as_str(), place) }
+    }
+}
+
 /// The tests that a chain makes of a value, which are its alternatives. At the value's place, a value that the chain
 /// doesn't take is refused 42, a text of more characters than `value_chars` 49, and one with U+0000 50.
 pub fn resolve(alloc: Global, limits: &Limits, chain: &Chain, value: &Node) -> Result<Tests, Fault>
     ensures { Judged (λ tests. uses.TestsOf chain.now (node_view value.now) tests)
-        (uses.value_refusal limits.now.value_chars (node_view value.now)) result }
+        (uses.value_refusal limits.now.value_chars chain.now (node_view value.now)) result }
 {
     match &value.kind {
-        Kind::Text(text) => resolve_text(alloc, limits, chain, text.as_str(), value.place),
-        Kind::Null | Kind::Truth(_) | Kind::Whole(_) | Kind::List(_) | Kind::Map(_) => {
-            Err(refused(Code::VALUE_NOT_ALLOWED, value.place))
-        }
+        Kind::Null => resolve_null(alloc, limits, chain, value.place),
+        Kind::Truth(truth) => resolve_truth(alloc, limits, chain, *truth, value.place),
+        Kind::Whole(number) => resolve_whole(alloc, limits, chain, number, value.place),
+        Kind::Text(text) => resolve_string(alloc, limits, chain, text, value.place),
+        Kind::List(_) | Kind::Map(_) => Err(refused(Code::VALUE_NOT_ALLOWED, value.place)),
     }
 }

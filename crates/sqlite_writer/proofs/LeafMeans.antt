@@ -22,7 +22,8 @@ use Rattle.sql_lang.specs.Expression.{test_of}
 use Rattle.sql_lang.specs.Escaped.{like_text, glob_text, characters}
 use Rattle.sql_lang.specs.Meaning.{Truth, Yes, Unknown, truth, negation, both, value_at, is_absent, like_fits, glob_fits, on_text, compared, test_value}
 use Rattle.sql_patterns.specs.Writable.{is_writable, sql_parts}
-use Rattle.backend_core.specs.Holds.{TestHolds, field_value}
+use Rattle.backend_core.specs.Holds.{TestHolds}
+use Rattle.event_schema.specs.Rows.{field_value}
 use Rattle.backend_core.specs.declared.tree.LeafTest.{LeafTest}
 use Rattle.backend_core.specs.declared.tree.LeafTest.TheVariants as tests
 use Rattle.backend_core.specs.declared.tree.Leaf.{Leaf}

@@ -1,11 +1,33 @@
-use Rattle.std.proofs.Common.{sym, subst}
+use Rattle.std.proofs.Common.{◌≡◌, ℕ, List, sym, subst}
+use Rattle.std.specs.Prelude.{Result}
+use Rattle.sig_base.specs.declared.refusal.Fault.{Fault}
 use Rattle.yaml_tree.specs.Tree.{Tree}
 use Rattle.sig_modifiers.specs.Judged.{Judged}
 use Rattle.sig_modifiers.specs.TestsOf.{TestsOf, value_refusal}
-use Rattle.sig_modifiers.proofs.ViewLemmas.{view-Text}
+use Rattle.sig_modifiers.specs.Written.{Written}
+use Rattle.sig_modifiers.specs.declared.test.Test.{Test}
+use Rattle.sig_modifiers.proofs.ViewLemmas.{view-Null, view-Truth, view-Whole, view-Text}
 use Rattle.sig_modifiers.proofs.resolving.resolve.Goals as goal
+
+abbrev Answered : Written → ℕ → Result (List Test) Fault → Tree → Type 0
+Answered chain most r v = Judged (TestsOf chain v) (value_refusal most chain v) r
+
+pub returns-in-Null : goal.returns-in-Null
+returns-in-Null c =
+    subst (Answered c.args.chain.now c.args.limits.now.value_chars c.resolve_null.result)
+    (sym (view-Null c.args.value.now c.in-Null.is)) c.resolve_null.ensures
+
+pub returns-in-Truth : goal.returns-in-Truth
+returns-in-Truth c =
+    subst (Answered c.args.chain.now c.args.limits.now.value_chars c.resolve_truth.result)
+    (sym (view-Truth c.args.value.now c.in-Truth.truth c.in-Truth.is)) c.resolve_truth.ensures
+
+pub returns-in-Whole : goal.returns-in-Whole
+returns-in-Whole c =
+    subst (Answered c.args.chain.now c.args.limits.now.value_chars c.resolve_whole.result)
+    (sym (view-Whole c.args.value.now c.in-Whole.number c.in-Whole.is)) c.resolve_whole.ensures
 
 pub returns-in-Text : goal.returns-in-Text
 returns-in-Text c =
-    let Answered = λ (v : Tree). Judged (TestsOf c.args.chain.now v) (value_refusal c.args.limits.now.value_chars v) c.resolve_text.result in
-    subst Answered (sym (view-Text c.args.value.now c.in-Text.text c.in-Text.is)) (rw c.as_str.ensures.chars at c.resolve_text.ensures)
+    subst (Answered c.args.chain.now c.args.limits.now.value_chars c.resolve_string.result)
+    (sym (view-Text c.args.value.now c.in-Text.text c.in-Text.is)) c.resolve_string.ensures

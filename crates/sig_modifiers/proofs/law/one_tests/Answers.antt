@@ -1,0 +1,5 @@
+use Rattle.sig_modifiers.proofs.TestsLemmas.{one_list}
+use Rattle.sig_modifiers.proofs.law.one_tests.Goals as goal
+
+pub returns : goal.returns
+returns c = one_list c.one_pattern.ensures.same
