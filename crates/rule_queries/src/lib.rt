@@ -1,0 +1,6 @@
+//! From a document's tree to its rule and its query, or the first cause for which it has none.
+#![tactic(auto)]
+
+pub use converting::{check_node, convert_node};
+
+mod converting;
