@@ -2,7 +2,6 @@
 use Rattle.std.proofs.Common.{◌≡◌, ℕ, ◌+◌, ◌≤◌, Bool, true, false, cond, List, [], ◌∷◌, length, refl, arith}
 use Rattle.std.specs.Prelude.{map as list_map}
 use Rattle.yaml_lines.specs.File.{Line}
-use Rattle.yaml_lines.specs.Line.{body}
 use Rattle.yaml_blocks.specs.Blocks.{rest_while, Part, Parts, put_line, inside, divide}
 use Rattle.yaml_blocks.specs.Reading.{Item, item_of, items_of, offset}
 use Rattle.yaml_bounds.proofs.Rests.{body_within}

@@ -1,12 +1,11 @@
 -- The nodes of small trees, computed.
-use Rattle.std.proofs.Common.{◌≡◌, ℕ, ◌≤◌, List, [], ◌∷◌, length, codes, Ok, refl, arith}
-use Rattle.yaml_tree.specs.Tree.{At, null, text, Tree, scalar, list, map, Elements, no_elements, element, Members, no_members, member, Answer, tree, refusal}
-use Rattle.yaml_lines.specs.File.{Line, line_texts, lines_of, is_parting, is_marker, parted, documents_of, skip_blanks, carries_nothing, ends_line}
+use Rattle.std.proofs.Common.{◌≡◌, ℕ, ◌≤◌, List, [], ◌∷◌, length, codes, refl, arith}
+use Rattle.yaml_tree.specs.Tree.{At, null, text, Tree, scalar, list, map, no_elements, element, no_members, member, tree, refusal}
+use Rattle.yaml_lines.specs.File.{line_texts, lines_of, is_parting, is_marker, parted, documents_of, skip_blanks, carries_nothing, ends_line}
 use Rattle.yaml_lines.specs.Line.{indentation, indent, body, is_void, barred}
-use Rattle.yaml_blocks.specs.Reading.{element_in, node_in, block_in}
+use Rattle.yaml_blocks.specs.Reading.{element_in, node_in}
 use Rattle.yaml_blocks.specs.Documents.{home, AreAnswers}
 use Rattle.yaml_blocks.proofs.Sound.{reads_trees}
-use Rattle.yaml_files.specs.Call.{IsTaken}
 use Rattle.yaml_bounds.specs.Nodes.{nodes, all_nodes}
 use Rattle.yaml_bounds.specs.Laws.{SomeHasAsMany}
 

@@ -1,11 +1,10 @@
 -- The nodes of a file's documents are paid by its bytes.
-use Rattle.std.proofs.Common.{◌≡◌, ℕ, suc, ◌+◌, ◌*◌, ◌≤◌, Bool, true, false, not, cond, ◌&&◌, ◌||◌, ◌==◌, inl, inr, List, [], ◌∷◌, length, refl, ap, arith}
+use Rattle.std.proofs.Common.{◌≡◌, ℕ, suc, ◌+◌, ◌*◌, ◌≤◌, Bool, true, false, not, cond, ◌&&◌, ◌==◌, inl, inr, List, [], ◌∷◌, length, refl, ap, arith}
 use Rattle.std.specs.List.{list_any}
 use Rattle.yaml_tree.specs.Tree.{Answer, tree, refusal}
 use Rattle.yaml_lines.specs.File.{Line, begins, skip_blanks, carries_nothing, put_first, line_texts, numbered, skip_mark, lines_of, is_parting, put_line, parted, carries, with_content, documents_of}
 use Rattle.yaml_blocks.specs.Documents.{home, IsAnswer, AreAnswers}
 use Rattle.yaml_blocks.proofs.Tools.{either}
-use Rattle.yaml_files.specs.Call.{IsTaken}
 use Rattle.yaml_files.proofs.Utf8.{text_within}
 use Rattle.yaml_bounds.specs.Nodes.{nodes_of, all_nodes}
 use Rattle.yaml_bounds.specs.Laws.{NodesWithinBytes, NodesWithinLimit}

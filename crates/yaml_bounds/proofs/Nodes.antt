@@ -1,13 +1,10 @@
 -- The nodes of a tree are paid by the characters that it's laid out in: two for each.
-use Rattle.std.proofs.Common.{◌≡◌, ℕ, zero, suc, ◌+◌, ◌*◌, ◌≤◌, max, Bool, true, false, ◌||◌, ◌==◌, inl, inr, List, [], ◌∷◌, ◌++◌, length, drop, Ok, refl, ap, arith}
+use Rattle.std.proofs.Common.{◌≡◌, ℕ, zero, suc, ◌+◌, ◌*◌, ◌≤◌, max, Bool, true, false, ◌||◌, ◌==◌, inl, inr, List, [], ◌∷◌, ◌++◌, length, drop, refl, ap, arith}
 use Rattle.std.proofs.lemmas.Bool.Decides.{nat_tests}
 use Rattle.yaml_tree.specs.Tree.{At, Scalar, Tree, scalar, list, map, Elements, no_elements, element, Members, no_members, member}
 use Rattle.yaml_lines.specs.File.{Line, begins, blank_or_end, skip_blanks}
-use Rattle.yaml_lines.specs.Line.{body, starts_plain}
+use Rattle.yaml_lines.specs.Line.{body, is_void, starts_plain}
 use Rattle.yaml_lines.specs.Flow.{is_quote, is_bracket}
-use Rattle.yaml_lines.specs.Key.{keyed, key_at}
-use Rattle.yaml_blocks.specs.Blocks.{skip_void}
-use Rattle.yaml_lines.specs.Line.{is_void}
 use Rattle.yaml_blocks.specs.Reading.{Item, items_of, offset}
 use Rattle.yaml_blocks.specs.Lays.{IsFlow, IsScalar, LaysBlock, LaysElement, LaysValue, LaysNode, LaysElements, LaysMembers}
 use Rattle.yaml_blocks.proofs.Tools.{either}

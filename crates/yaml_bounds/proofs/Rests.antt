@@ -1,5 +1,5 @@
 -- What is left of a line behind what was read is no longer than before.
-use Rattle.std.proofs.Common.{◌≡◌, ℕ, zero, suc, ◌+◌, ◌<◌, ◌≤◌, Bool, true, false, cond, not, ◌&&◌, ◌||◌, ◌==◌, inl, inr, List, [], ◌∷◌, length, drop, Option, Some, None, Ok, Err, refl, ap, arith}
+use Rattle.std.proofs.Common.{◌≡◌, ℕ, zero, suc, ◌<◌, ◌≤◌, Bool, true, false, cond, not, ◌&&◌, ◌==◌, inl, inr, List, [], ◌∷◌, length, drop, Option, Some, None, Ok, Err, refl, ap, arith}
 use Rattle.std.specs.List.{prefix_len}
 use Rattle.std.specs.Str.{bytes_eq}
 use Rattle.std.proofs.lemmas.List.{length-drop}
@@ -7,9 +7,9 @@ use Rattle.yaml_lines.specs.File.{Line, is_blank, begins, skip_blanks, ends_line
 use Rattle.yaml_lines.specs.Line.{indentation, body, is_dash, is_left_out, starts_plain, plain_len, plain_front, plain_rest}
 use Rattle.yaml_lines.specs.Scalar.{Quoted, closed, open_ended, bad_escape, behind, passed, single, escape, escaped, double}
 use Rattle.yaml_lines.specs.Flow.{Front, quoted_as, is_quote, quoted, merge, behind_colon, flow_key, is_seen, fresh_key, after_element}
-use Rattle.yaml_lines.specs.Key.{Keyed, keyed, unkeyed, key_stop, colon_then, quoted_key, key_at}
+use Rattle.yaml_lines.specs.Key.{keyed, colon_then, quoted_key, key_at}
 use Rattle.yaml_lines.proofs.Flows.{length-tail}
-use Rattle.yaml_blocks.proofs.Tools.{choose, allowed, bind_ok, ok_same, both}
+use Rattle.yaml_blocks.proofs.Tools.{choose, allowed, bind_ok, ok_same}
 
 pub skip_within : (cs : List ℕ) → length (skip_blanks cs) ≤ length cs
 unfolding skip_blanks
