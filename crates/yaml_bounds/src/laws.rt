@@ -9,7 +9,7 @@ pub fn nodes_are_few()
     ensures limit { NodesWithinLimit }
 {}
 
-/// No smaller bound holds: a file `-` has a sequence and its null.
+/// Some file has as many: `-`, a sequence and its null.
 pub fn some_has_as_many()
     ensures { SomeHasAsMany }
 {}
