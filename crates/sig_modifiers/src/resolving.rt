@@ -79,8 +79,11 @@ fn resolve_null(alloc: Global, limits: &Limits, chain: &Chain, place: Place) -> 
     ensures { ScalarJudged chain.now limits.now.value_chars place null result }
 {
     match chain.form() {
-        Form::Bare | Form::Texts(true) => one_test(alloc, Test::Absent),
-        Form::Presence | Form::Texts(false) => Err(refused(Code::VALUE_NOT_ALLOWED, place)),
+        Form::Bare | Form::Texts { nulls: true } => one_test(alloc, Test::Absent),
+        Form::Presence | Form::Texts { nulls: false } => Err(refused(
+            Code::VALUE_NOT_ALLOWED,
+            place,
+        )),
     }
 }
 
@@ -95,7 +98,7 @@ fn resolve_truth(
 {
     match chain.form() {
         Form::Presence => one_test(alloc, Test::Exists(value)),
-        Form::Bare | Form::Texts(_) => {
+        Form::Bare | Form::Texts { .. } => {
             resolve_text(alloc, limits, chain, truth_text(value), place)
         }
     }
@@ -113,7 +116,7 @@ fn resolve_whole(
     match chain.form() {
         Form::Bare => one_test(alloc, Test::Equals(*value)),
         Form::Presence => Err(refused(Code::VALUE_NOT_ALLOWED, place)),
-        Form::Texts(_) => {
+        Form::Texts { .. } => {
             let mut buffer = Buffer::new();
             let text = decimal_in(&mut buffer, *value);
             resolve_text(alloc, limits, chain, text, place)
@@ -132,7 +135,9 @@ fn resolve_string(
 {
     match chain.form() {
         Form::Presence => Err(refused(Code::VALUE_NOT_ALLOWED, place)),
-        Form::Bare | Form::Texts(_) => { resolve_text(alloc, limits, chain, value.as_str(), place) }
+        Form::Bare | Form::Texts { .. } => {
+            resolve_text(alloc, limits, chain, value.as_str(), place)
+        }
     }
 }
 
