@@ -8,8 +8,11 @@ pub use rule::Rule;
 pub use source::LogSource;
 
 mod copying;
+mod dates;
 mod detection;
+mod forms;
 mod head;
+mod heading;
 mod item;
 mod nodes;
 mod rule;
