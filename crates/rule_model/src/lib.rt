@@ -17,4 +17,5 @@ mod item;
 mod nodes;
 mod rule;
 mod source;
+mod sourcing;
 mod tables;

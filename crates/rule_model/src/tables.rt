@@ -41,11 +41,18 @@ pub fn value_at<'a>(node: &'a Node, key: &str) -> Option<&'a Node>
     find_value(all_entries(node), key)
 }
 
+/// Whether a map has the key.
+pub fn has_key(node: &Node, key: &str) -> bool
+    requires { is_ascii key.now ≡ true }
+    ensures { result ≡ spec.has_key key.now (node_view node.now) }
+{
+    value_at(node, key).is_some()
+}
+
 /// Refuses a map that lacks the key.
 pub fn required(node: &Node, key: &str) -> Result<(), Fault>
     requires { is_ascii key.now ≡ true }
     ensures { Judged (λ done. Unit {0}) (spec.required key.now (node_view node.now)) result }
 {
-    let value = value_at(node, key);
-    must(Code::MISSING_KEY, place_of(node), value.is_some())
+    must(Code::MISSING_KEY, place_of(node), has_key(node, key))
 }
