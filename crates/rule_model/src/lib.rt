@@ -14,3 +14,4 @@ mod item;
 mod nodes;
 mod rule;
 mod source;
+mod tables;
