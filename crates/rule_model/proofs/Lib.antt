@@ -1,4 +1,7 @@
 pub mod Days
+pub mod Faultless
 pub mod Firsts
+pub mod ConditionLists
 pub mod Found
+pub mod Texts
 pub mod Views

@@ -7,6 +7,7 @@ pub use item::{Fields, Item, Values};
 pub use rule::Rule;
 pub use source::LogSource;
 
+mod conditioning;
 mod copying;
 mod dates;
 mod detection;
