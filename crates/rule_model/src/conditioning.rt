@@ -1,13 +1,15 @@
 //! Reading the conditions of a rule.
 
-ghost use Rattle.std.specs.Prelude.{◌≡◌, not, map, filter, codes, IfOk, IfErr};
+ghost use Rattle.std.specs.Prelude.{◌≡◌, not, map, filter, codes, length, IfOk, IfErr};
 ghost use Rattle.std.specs.List.{AllZip};
 ghost use Rattle.sig_conditions.specs.Formulas.{form_view, forms_view};
 ghost use Rattle.sig_modifiers.specs.Judged.{Judged};
 ghost use Rattle.yaml_tree.specs.View.{node_view, entries_view};
 ghost use Rattle.rule_model.specs.Conditions as spec;
 ghost use Rattle.rule_model.specs.Detections.{is_key};
+ghost use Rattle.rule_model.specs.Lists.{EachOf};
 ghost use Rattle.rule_model.specs.Nodes.{parts_in};
+ghost use Rattle.rule_model.specs.Whole.{IsSome, IsWholeForm};
 
 use crate::nodes::{all_entries, parts_of, place_of, text_of};
 use crate::tables::{must, refused, value_at};
@@ -58,10 +60,15 @@ fn read_listed(alloc: Global, limits: &Limits, names: &[Text], node: &Node) -> R
     Ok(formulas)
 }
 
-/// The conditions of a rule, of which `node` is the map of its detections.
+/// Reads the conditions of a rule, of which `node` is the map of its detections. A map without `condition` is refused
+/// 70. Of one condition, or each of a list, what is no text is refused 71, one with a `|` 61, one with too many words
+/// that nest 62, one without a reading 60, and one with a name or selector that takes no detection 63 or 64; an empty
+/// list is refused 78.
 pub fn read_conditions(alloc: Global, limits: &Limits, node: &Node) -> Result<Vec<Formula>, Fault>
-    ensures { Judged (λ fs. spec.AreConditions (node_view node.now) (forms_view fs.items))
+    ensures judged { Judged (λ fs. spec.AreConditions (node_view node.now) (forms_view fs.items))
         (spec.conditions_refusal limits.now (node_view node.now)) result }
+    ensures some { IfOk result (λ fs. IsSome (forms_view fs.items)) }
+    ensures whole { IfOk result (λ fs. EachOf (IsWholeForm (length (spec.names_of (node_view node.now)))) (forms_view fs.items)) }
 {
     let Some(value) = value_at(node, "condition") else {
         return Err(refused(Code::MISSING_KEY, place_of(node)));
