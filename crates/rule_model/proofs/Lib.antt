@@ -1,3 +1,7 @@
 pub mod Firsts
 pub mod Found
+pub mod KeyLemmas
+pub mod Lines
 pub mod Views
+pub mod WholeItems
+pub mod Zips

@@ -5,6 +5,7 @@ pub mod Plain
 pub mod Heads
 pub mod Sources
 pub mod Keys
+pub mod Pieces
 pub mod Items
 pub mod Detections
 pub mod Conditions

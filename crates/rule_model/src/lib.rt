@@ -11,6 +11,8 @@ mod copying;
 mod detection;
 mod head;
 mod item;
+mod itemizing;
+mod keys;
 mod nodes;
 mod rule;
 mod source;

@@ -9,6 +9,7 @@ ghost use Rattle.rule_model.specs.Found.{IsFound};
 ghost use Rattle.rule_model.specs.Nodes as spec;
 
 use sig_base::{Code, Detail, Place, Refusal, Text};
+use std::slice;
 use yaml_tree::{Entry, Kind, Node};
 
 /// The place of a node.
@@ -39,6 +40,16 @@ pub fn elements_of(node: &Node) -> Option<&[Node]>
     match &node.kind {
         Kind::List(elements) => Some(elements.as_slice()),
         Kind::Null | Kind::Truth(_) | Kind::Whole(_) | Kind::Text(_) | Kind::Map(_) => None,
+    }
+}
+
+/// The elements of a list, or else the node alone.
+pub fn parts_of(node: &Node) -> &[Node]
+    ensures { nodes_view result.now ≡ spec.parts_in (node_view node.now) }
+{
+    match elements_of(node) {
+        Some(elements) => elements,
+        None => slice::from_ref(node),
     }
 }
 
