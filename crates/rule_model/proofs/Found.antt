@@ -15,7 +15,7 @@ pub found_at : (key : List ℕ) (es fs : List Member) (r : Option (Bor Node)) �
 found_at key es fs r ascii same h =
     subst (λ k. IsFound (value_in k es) r) (ascii_chars key ascii) (subst (λ ms. IsFound (value_in (chars key) ms) r) (sym same) h)
 
-no_entries : (t : Tree) → is_map t ≡ false → entries_in t ≡ []
+pub no_entries : (t : Tree) → is_map t ≡ false → entries_in t ≡ []
 no_entries (scalar a s) h = refl
 no_entries (list a es) h = refl
 no_entries (map a ms) h = absurd cc

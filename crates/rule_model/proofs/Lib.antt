@@ -1,3 +1,4 @@
+pub mod Days
 pub mod Firsts
 pub mod Found
 pub mod KeyLemmas

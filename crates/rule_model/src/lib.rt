@@ -8,12 +8,16 @@ pub use rule::Rule;
 pub use source::LogSource;
 
 mod copying;
+mod dates;
 mod detection;
+mod forms;
 mod head;
+mod heading;
 mod item;
 mod itemizing;
 mod keys;
 mod nodes;
 mod rule;
 mod source;
+mod sourcing;
 mod tables;

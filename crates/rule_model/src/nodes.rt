@@ -32,6 +32,24 @@ pub fn entries_of(node: &Node) -> Option<&[Entry]>
     }
 }
 
+/// Whether the node is a map.
+pub fn is_map(node: &Node) -> bool
+    ensures { result ≡ spec.is_map (node_view node.now) }
+{
+    entries_of(node).is_some()
+}
+
+/// The entries of a map, in their order; none of another node.
+#[tactic(auto, using(crate::proofs::Found::no_entries))]
+pub fn all_entries(node: &Node) -> &[Entry]
+    ensures { spec.entries_in (node_view node.now) ≡ entries_view result.now }
+{
+    match entries_of(node) {
+        Some(entries) => entries,
+        None => &[],
+    }
+}
+
 /// The elements of a list, in their order.
 pub fn elements_of(node: &Node) -> Option<&[Node]>
     ensures some { IfSome result (λ ns. spec.parts_in (node_view node.now) ≡ nodes_view ns.now) }
