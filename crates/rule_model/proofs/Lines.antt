@@ -34,3 +34,6 @@ not_holds false h = refl
 -- the last line judges
 pub judged_last : {X : Type 0} (IsRead : X → Type 0) (whole part : Option Refusal) (result : Result X Fault) → whole ≡ part → Judged IsRead part result → Judged IsRead whole result
 judged_last IsRead whole part result same judged = subst (λ o. Judged IsRead o result) (sym same) judged
+
+pub must_same : (code : ℕ) (p q : Place) (a b : Bool) → p ≡ q → a ≡ b → must code p a ≡ must code q b
+must_same code p q a b places tests = ap (λ x. must code x a) places ∙ ap (λ x. must code q x) tests

@@ -13,7 +13,7 @@ ghost use Rattle.rule_model.specs.Whole.{IsWholeItem};
 
 use crate::item::{Fields, Item, Values};
 use crate::keys::Key;
-use crate::nodes::{is_scalar, parts_of, place_of};
+use crate::nodes::{is_empty, is_scalar, parts_of, place_of};
 use crate::tables::must;
 use sig_base::{Code, Fault, Limits, Place, Text, Texts};
 use sig_modifiers::{Chain, resolve};
@@ -83,7 +83,7 @@ fn read_tests(
 {
     let values = parts_of(value);
     check_shapes(values)?;
-    must(Code::EMPTY_LIST, place_of(value), !values.is_empty())?;
+    must(Code::EMPTY_LIST, place_of(value), !is_empty(values))?;
     must(
         Code::TOO_MANY_VALUES,
         place,
