@@ -1,8 +1,12 @@
+pub mod ConditionLists
 pub mod Days
 pub mod Faultless
 pub mod Firsts
-pub mod ConditionLists
 pub mod Found
+pub mod KeyLemmas
+pub mod Lines
 pub mod RuleLemmas
 pub mod Texts
 pub mod Views
+pub mod WholeItems
+pub mod Zips

@@ -6,6 +6,7 @@ pub mod Heads
 pub mod Forms
 pub mod Sources
 pub mod Keys
+pub mod Pieces
 pub mod Items
 pub mod Detections
 pub mod Conditions

@@ -15,6 +15,8 @@ mod forms;
 mod head;
 mod heading;
 mod item;
+mod itemizing;
+mod keys;
 mod nodes;
 mod rule;
 mod source;

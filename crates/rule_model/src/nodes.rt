@@ -6,6 +6,7 @@ ghost use Rattle.sig_modifiers.specs.Judged.{must};
 ghost use Rattle.sig_modifiers.specs.TestsOf.{place_of};
 ghost use Rattle.yaml_tree.specs.View.{node_view, nodes_view, entry_view, entries_view};
 ghost use Rattle.rule_model.specs.Found.{IsFound};
+ghost use Rattle.rule_model.specs.Keys.{is_empty};
 ghost use Rattle.rule_model.specs.Nodes as spec;
 
 use sig_base::{Code, Detail, Place, Refusal, Text};
@@ -69,6 +70,13 @@ pub fn parts_of(node: &Node) -> &[Node]
         Some(elements) => elements,
         None => slice::from_ref(node),
     }
+}
+
+/// Whether there is no node.
+pub fn is_empty(nodes: &[Node]) -> bool
+    ensures { result ≡ is_empty (nodes_view nodes.now) }
+{
+    nodes.is_empty()
 }
 
 /// The characters of a text.
