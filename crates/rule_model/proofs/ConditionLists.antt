@@ -17,23 +17,20 @@ use Rattle.yaml_tree.specs.View.{nodes_view}
 use Rattle.yaml_tree.specs.declared.tree.Node.{Node}
 use Rattle.sig_conditions.specs.Words.{words}
 use Rattle.rule_model.proofs.Faultless.{whole_formula}
-use Rattle.rule_model.proofs.Firsts.{alone, behind, judged_as}
+use Rattle.rule_model.proofs.Firsts.{behind, judged_as}
+use Rattle.rule_model.proofs.Lines.{first_one, first_holds, must_holds, must_same, not_holds}
+use Rattle.rule_model.proofs.Zips.{zip_some}
 use Rattle.rule_model.specs.Conditions.{names_of, IsFormula, listed_refusal, conditions_refusal, conditions_in, AreConditions}
 use Rattle.rule_model.specs.Keys.{is_empty}
 use Rattle.rule_model.specs.Nodes.{parts_in, value_in, entries_in, refused_by, text_in}
 use Rattle.rule_model.specs.Lists.{EachOf}
 use Rattle.rule_model.specs.Whole.{IsSome, IsWholeForm}
 
-empty_view : (ns : List Node) → (length ns == 0) ≡ is_empty (nodes_view ns)
-empty_view [] = refl
-empty_view (n ∷ ns) = grind (arith, nat_tests)
-
 -- a list that isn't empty isn't refused as such
-pub unempty : (ns : List Node) (t : Tree) (place : Place) (b : Bool) → nodes_view ns ≡ parts_in t → place ≡ place_of t → b ≡ (length ns == 0)
+pub unempty : (ns : List Node) (t : Tree) (place : Place) (b : Bool) → nodes_view ns ≡ parts_in t → place ≡ place_of t → b ≡ is_empty (nodes_view ns)
     → must 78 place (not b) ≡ None → must 78 (place_of t) (not (is_empty (parts_in t))) ≡ None
 unempty ns t place b view at is h =
-    let same : b ≡ is_empty (parts_in t) = is ∙ (empty_view ns ∙ ap is_empty view) in
-    ap (λ (p : Place). must 78 p (not (is_empty (parts_in t)))) (sym at) ∙ (ap (λ (c : Bool). must 78 place (not c)) (sym same) ∙ h)
+    must_same 78 (place_of t) place (not (is_empty (parts_in t))) (not b) (sym at) (ap not (sym (is ∙ ap is_empty view))) ∙ h
 
 abbrev pub IsJudged : Limits → Tree → Result (Vec Formula Global) Fault → Type 0
 IsJudged limits t r = Judged (λ (fs : Vec Formula Global). AreConditions t (forms_view fs.items)) (conditions_refusal limits t) r
@@ -57,27 +54,19 @@ pushed_view fs gs f is = ap forms_view is ∙ map-append form_view fs (f ∷ [])
 
 -- ---- what is read is whole
 
-zip_some : {A B : Type 0} (R : A → B → Type 0) (xs : List A) (ys : List B) → is_empty xs ≡ false → AllZip R xs ys → IsSome ys
-zip_some R [] ys some all = absurd cc
-zip_some R (x ∷ xs) [] some all = all
-zip_some R (x ∷ xs) (y ∷ ys) some all = tt
-
-zip_each : {A B : Type 0} (R : A → B → Type 0) (Q : B → Type 0) → ((x : A) (y : B) → R x y → Q y) → (xs : List A) (ys : List B) → AllZip R xs ys → EachOf Q ys
-zip_each R Q f [] [] all = tt
-zip_each R Q f [] (y ∷ ys) all = absurd all
-zip_each R Q f (x ∷ xs) [] all = absurd all
-zip_each R Q f (x ∷ xs) (y ∷ ys) all = (f x y all.0, zip_each R Q f xs ys all.1)
-
--- a list that isn't refused isn't empty
-not_empty : (place : Place) (b : Bool) (o : Option Refusal) → first (must 78 place (not b) ∷ o ∷ []) ≡ None → b ≡ false
-not_empty place true o h = absurd cc
-not_empty place false o h = refl
+each_read : {A B : Type 0} (R : A → B → Type 0) (Q : B → Type 0) → ((x : A) (y : B) → R x y → Q y) → (xs : List A) (ys : List B) → AllZip R xs ys → EachOf Q ys
+each_read R Q f [] [] all = tt
+each_read R Q f [] (y ∷ ys) all = absurd all
+each_read R Q f (x ∷ xs) [] all = absurd all
+each_read R Q f (x ∷ xs) (y ∷ ys) all = (f x y all.0, each_read R Q f xs ys all.1)
 
 some_listed : (limits : Limits) (names : List (List ℕ)) (place : Place) (o : Option Tree) (fs : List Form)
     → first (must 70 place (is_some o) ∷ refused_by (listed_refusal limits names) o ∷ []) ≡ None → AllZip (IsFormula names) (conditions_in o) fs → IsSome fs
 some_listed limits names place None fs h all = absurd cc
 some_listed limits names place (Some v) fs h all =
-    zip_some (IsFormula names) (parts_in v) fs (not_empty (place_of v) (is_empty (parts_in v)) _ (sym (alone (listed_refusal limits names v)) ∙ h)) all
+    let listed : listed_refusal limits names v ≡ None = sym (first_one (listed_refusal limits names v)) ∙ h in
+    zip_some (IsFormula names) (parts_in v) fs all
+    (not_holds (is_empty (parts_in v)) (must_holds 78 (place_of v) (not (is_empty (parts_in v))) (first_holds _ _ listed).0))
 
 -- a rule that is read has a condition
 pub some_conditions : (limits : Limits) (t : Tree) (fs : List Form) → conditions_refusal limits t ≡ None → AreConditions t fs → IsSome fs
@@ -86,7 +75,7 @@ some_conditions limits t fs h all = some_listed limits (names_of t) (place_of t)
 -- whose numbers are below the count of its detections, and which has no empty chain
 pub whole_conditions : (t : Tree) (fs : List Form) → AreConditions t fs → EachOf (IsWholeForm (length (names_of t))) fs
 whole_conditions t fs all =
-    zip_each (IsFormula (names_of t)) (IsWholeForm (length (names_of t)))
+    each_read (IsFormula (names_of t)) (IsWholeForm (length (names_of t)))
     (λ v f is. whole_formula (names_of t) (words (text_in v)) is.condition f is.reads is.formula)
     (conditions_in (value_in (codes "condition") (entries_in t))) fs all
 

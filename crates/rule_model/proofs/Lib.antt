@@ -5,6 +5,7 @@ pub mod Firsts
 pub mod Found
 pub mod KeyLemmas
 pub mod Lines
+pub mod OneRule
 pub mod RuleLemmas
 pub mod Texts
 pub mod Views

@@ -21,7 +21,7 @@ use Rattle.sig_modifiers.specs.Judged.{refusal, must, first, Judged}
 use Rattle.sig_modifiers.specs.TestsOf.{place_of}
 use Rattle.yaml_tree.specs.Tree.{Tree}
 use Rattle.rule_model.proofs.Faultless.{no_faults}
-use Rattle.rule_model.proofs.Firsts.{alone}
+use Rattle.rule_model.proofs.Lines.{first_one}
 use Rattle.rule_model.specs.Conditions.{condition_refusal, first_fault, unresolved, IsFormula}
 use Rattle.rule_model.specs.Nodes.{is_text, text_in}
 
@@ -40,7 +40,7 @@ table_60 : (p : Place) (a b c d : Bool) (last : Option Refusal) → a ≡ true �
 table_60 p a b c d last h i j k = rw h (rw i (rw j (rw k refl)))
 
 table_last : (p : Place) (a b c d : Bool) (last : Option Refusal) → a ≡ true → b ≡ true → c ≡ true → d ≡ true → table p a b c d last ≡ last
-table_last p a b c d last h i j k = rw h (rw i (rw j (rw k (alone last))))
+table_last p a b c d last h i j k = rw h (rw i (rw j (rw k (first_one last))))
 
 same_refusal : (r : Refusal) (code : ℕ) (p : Place) → r.code ≡ code → r.place ≡ p → r.detail ≡ details.None → Some r ≡ Some (refusal code p)
 same_refusal r code p h k d = rw (← h) (rw (← k) (rw (← d) refl))

@@ -11,7 +11,7 @@ ghost use Rattle.rule_model.specs.Lists.{EachOf};
 ghost use Rattle.rule_model.specs.Nodes.{parts_in};
 ghost use Rattle.rule_model.specs.Whole.{IsSome, IsWholeForm};
 
-use crate::nodes::{all_entries, parts_of, place_of, text_of};
+use crate::nodes::{all_entries, is_empty, parts_of, place_of, text_of};
 use crate::tables::{must, refused, value_at};
 use sig_base::{Code, Fault, Limits, Text, Texts};
 use sig_conditions::{Formula, read_condition, resolve_condition};
@@ -51,7 +51,7 @@ fn read_listed(alloc: Global, limits: &Limits, names: &[Text], node: &Node) -> R
         (spec.listed_refusal limits.now names.now (node_view node.now)) result }
 {
     let parts = parts_of(node);
-    must(Code::EMPTY_LIST, place_of(node), !parts.is_empty())?;
+    must(Code::EMPTY_LIST, place_of(node), !is_empty(parts))?;
     let mut formulas = Vec::new(alloc);
     for part in parts {
         let formula = read_formula(alloc, limits, names, part)?;

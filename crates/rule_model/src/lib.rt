@@ -4,6 +4,7 @@
 pub use detection::{Alternative, Alternatives, Detection, Detections};
 pub use head::Head;
 pub use item::{Fields, Item, Values};
+pub use law::one_rule;
 pub use rule::Rule;
 pub use source::LogSource;
 
@@ -17,6 +18,7 @@ mod heading;
 mod item;
 mod itemizing;
 mod keys;
+mod law;
 mod nodes;
 mod rule;
 mod source;
