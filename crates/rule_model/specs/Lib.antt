@@ -3,8 +3,10 @@ pub mod Nodes
 pub mod Found
 pub mod Plain
 pub mod Heads
+pub mod Forms
 pub mod Sources
 pub mod Keys
+pub mod Pieces
 pub mod Items
 pub mod Detections
 pub mod Conditions

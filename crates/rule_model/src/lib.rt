@@ -4,13 +4,23 @@
 pub use detection::{Alternative, Alternatives, Detection, Detections};
 pub use head::Head;
 pub use item::{Fields, Item, Values};
+pub use law::one_rule;
 pub use rule::Rule;
 pub use source::LogSource;
 
+mod conditioning;
 mod copying;
+mod dates;
 mod detection;
+mod forms;
 mod head;
+mod heading;
 mod item;
+mod itemizing;
+mod keys;
+mod law;
 mod nodes;
 mod rule;
 mod source;
+mod sourcing;
+mod tables;

@@ -2,6 +2,8 @@ pub mod Chains
 pub mod Holds
 pub mod Judged
 pub mod Kinds
+pub mod Lists
+pub mod PlainTests
 pub mod Resolved
 pub mod TestsOf
 pub mod Words
