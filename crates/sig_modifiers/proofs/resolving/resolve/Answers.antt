@@ -1,4 +1,4 @@
-use Rattle.std.proofs.Common.{◌≡◌, ℕ, List, sym, subst}
+use Rattle.std.proofs.Common.{ℕ, List, sym, subst}
 use Rattle.std.specs.Prelude.{Result}
 use Rattle.sig_base.specs.declared.refusal.Fault.{Fault}
 use Rattle.yaml_tree.specs.Tree.{Tree}
