@@ -1,25 +1,24 @@
 -- Tests of keywords are patterns; patterns of values that aren't refused have no U+0000, and no dash and no placeholder.
 use Rattle.std.proofs.Common.{◌≡◌, ℕ, Bool, true, false, List, [], ◌∷◌, ◌++◌, refl, sym, ◌∙◌, ap, subst, arith}
-use Rattle.std.specs.Prelude.{Option, None, length, nat_le, nat_lt, ◌&&◌, ◌||◌, not, ◌==◌, if◌then◌else◌}
-use Rattle.std.specs.List.{list_any, list_all}
+use Rattle.std.specs.Prelude.{None, length, nat_le, nat_lt, ◌||◌, not, ◌==◌, if◌then◌else◌}
+use Rattle.std.specs.List.{list_all}
 use Rattle.std.proofs.lemmas.Bool.{and_from, or_parts}
 use Rattle.std.proofs.lemmas.Bool.Decides.{nat_tests}
 use Rattle.sig_base.specs.declared.refusal.Place.{Place}
 use Rattle.sig_strings.specs.Edits.{is_written, all_written, plain_text, plain_piece, starts_with_run, ends_with_run, with_run_before, with_run_after}
 use Rattle.sig_strings.specs.Spells.{Spells, SpellsFront, star, question, escaped, backslash, hole, other}
 use Rattle.sig_strings.specs.declared.part.Part.{Part}
-use Rattle.sig_strings.specs.declared.part.Part.TheVariants.{Char, One, Run, Dash, Hole}
-use Rattle.yaml_tree.specs.Tree.{Tree, Scalar, null, truth, whole, text, scalar, list, map}
+use Rattle.sig_strings.specs.declared.part.Part.TheVariants.{Run}
+use Rattle.yaml_tree.specs.Tree.{Tree, null, truth, whole, text, scalar, list, map}
 use Rattle.sig_modifiers.specs.Judged.{must, first}
 use Rattle.sig_modifiers.specs.Kinds.{is_fits, is_plain}
-use Rattle.sig_modifiers.specs.TestsOf.{Use, unused, absent, existing, pattern, number, UseTests, TestsOf, use_of, form_use, form_of, use_refusal, value_refusal, pattern_of, all_edited, edited, keyword_edited, place_of, has_nul}
+use Rattle.sig_modifiers.specs.TestsOf.{Use, unused, absent, existing, pattern, number, UseTests, TestsOf, use_of, form_use, form_of, use_refusal, value_refusal, pattern_of, all_edited, edited, place_of, has_nul}
 use Rattle.sig_modifiers.specs.Written.{Written}
 use Rattle.sig_modifiers.specs.declared.form.Form.TheVariants.{Texts}
 use Rattle.sig_modifiers.specs.declared.form.Form.{Form}
 use Rattle.sig_modifiers.specs.declared.modifier.Modifier.{Modifier}
 use Rattle.sig_modifiers.specs.declared.modifier.Modifier.TheVariants.{Contains, StartsWith, EndsWith, All, Cased, Exists}
 use Rattle.sig_modifiers.specs.declared.test.Test.{Test}
-use Rattle.sig_modifiers.specs.declared.test.Test.TheVariants as tests
 
 one_fits : (ts : List Test) (t : Test) → is_fits t ≡ true → ts ≡ t ∷ [] → list_all is_fits ts ≡ true
 one_fits ts t h e = ap (λ (us : List Test). list_all is_fits us) e ∙ and_from (is_fits t) true h refl
