@@ -11,3 +11,5 @@ pub mod Texts
 pub mod Views
 pub mod WholeItems
 pub mod Zips
+pub mod Gathering
+pub mod Gathered

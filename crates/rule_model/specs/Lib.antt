@@ -14,3 +14,4 @@ pub mod Rules
 pub mod Matching
 pub mod Whole
 pub mod Inferred
+pub mod Gathered

@@ -15,6 +15,7 @@ mod detection;
 mod forms;
 mod head;
 mod heading;
+mod inferring;
 mod item;
 mod itemizing;
 mod keys;
