@@ -1,0 +1,4 @@
+//! Whole files of YAML: the answer to each document, its tree or its refusal.
+#![tactic(auto)]
+
+pub mod laws;
