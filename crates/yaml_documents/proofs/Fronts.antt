@@ -79,3 +79,12 @@ skip_all (l ∷ ls) e =
       | inl is ↦ rw is (skip_all ls (rw is at e))
       | inr is ↦ let g : true ≡ false = rw is at e in cc
     ]
+
+pub content_begins : (ls : List Line) → has_content ls ≡ true → (first : Line) × (more : List Line) × (skip_void ls ≡ first ∷ more)
+unfolding is_void
+content_begins [] e = cc
+content_begins (l ∷ ls) e =
+    elim (is_bool (carries_nothing l.text)) [
+      | inl is ↦ let (first, more, begins) = content_begins ls (rw is at e) in (first, more, rw is begins)
+      | inr is ↦ (l, ls, rw is refl)
+    ]

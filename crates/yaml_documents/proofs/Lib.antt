@@ -4,3 +4,6 @@ pub mod Fronts
 pub mod Refusing
 pub mod Splits
 pub mod Giving
+pub mod Placing
+pub mod Ready
+pub mod Judging

@@ -17,7 +17,7 @@ use Rattle.yaml_documents.specs.Places.{StandsOn, StopsOnTheLine}
 use Rattle.yaml_documents.proofs.OneLine.{OnLine, on_if, on_bind, spot_on, start_on, stray_on, quoted_on, KeyOn, key_on, flow_on}
 
 -- where the first reading goes through, the second stops on this line or goes through
-abbrev Then : {A B : Type 0} → Line → Read A → Read B → Type 0
+abbrev pub Then : {A B : Type 0} → Line → Read A → Read B → Type 0
 Then k (Ok x) r = OnLine k r
 Then k (Err s) r = Unit {0}
 
@@ -403,7 +403,7 @@ blocks_then d m home a k = block_then d (nodes_on d) (nodes_then d) k m home a
 
 -- ---- the first line up to which there is no tree
 
-stands : {A B : Type 0} (k : Line) (r : Read A) (t : Read B) (x : A) (s : Stop) → Then k r t → r ≡ Ok x → t ≡ Err s → StandsOn k s
+pub stands : {A B : Type 0} (k : Line) (r : Read A) (t : Read B) (x : A) (s : Stop) → Then k r t → r ≡ Ok x → t ≡ Err s → StandsOn k s
 stands k (Ok y) (Ok z) x s h read stop = cc
 stands k (Ok y) (Err u) x s h read stop = let same : u ≡ s = cc in subst (StandsOn k) same h
 stands k (Err u) t x s h read stop = cc

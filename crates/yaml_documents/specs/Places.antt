@@ -4,6 +4,7 @@ use Rattle.yaml_tree.specs.Tree.{At}
 use Rattle.yaml_lines.specs.File.{Line}
 use Rattle.yaml_lines.specs.Line.{Stop, refused, unclosed}
 use Rattle.yaml_blocks.specs.Laws.{StopsFirst}
+use Rattle.yaml_blocks.specs.Documents.{IsRefusedAt, IsCode}
 
 -- the place of a character of the line, or directly behind its last one
 pub record IsOn (l : Line) (a : At) : Type 0 where
@@ -22,3 +23,8 @@ StandsOn l (unclosed n opens) = (n ≡ l.number) × AreOn l opens
 -- A reading that stops does so on the first line up to which the lines have no tree.
 abbrev pub StopsOnTheLine : Type 0
 StopsOnTheLine = (depth : ℕ) (home : At) (ls : List Line) (s : Stop) (h : StopsFirst depth home ls s) → StandsOn h.line s
+
+-- The place of a document's refusal lies on the line that it is refused at.
+abbrev pub RefusedOnTheLine : Type 0
+RefusedOnTheLine =
+    (depth : ℕ) (ls front : List Line) (line : Line) (more : List Line) (p : ℕ × At) → IsRefusedAt depth ls front line more → IsCode depth front line more p → IsOn line p.1

@@ -2,6 +2,8 @@
 #![tactic(auto)]
 
 pub use document::read_document;
+pub use file::read_documents;
 
 mod document;
+mod file;
 pub mod laws;
