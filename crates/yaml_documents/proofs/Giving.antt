@@ -38,13 +38,13 @@ pub so_stopped : (o : Option Stop) (xs later : List code.Line) (first x : code.L
 so_stopped None xs later first x n d rows e x_is later_is h = cc
 so_stopped (Some s) xs later first x n d rows e x_is later_is h =
     λ front line more is number.
-      let parts = split xs front line more is in
-      let same : n ≡ number_of s = cc in
-      let counted : line.number ≡ (get_or xs 0 first).number + length front = number_at xs first front line more rows is in
-      let index : n - (get_or xs 0 first).number ≡ length front = omega arith in
-      let here : line_view x ≡ line = ap line_view (x_is ∙ ap (λ (i : ℕ). get_or xs i x) index) ∙ parts.here x in
-      let behind : lines_view later ≡ more = ap lines_view later_is ∙ (ap (λ (i : ℕ). lines_view (drop (i + 1) xs)) index ∙ parts.behind) in
-      subst (λ (p : ℕ × At). IsRefused p d) (ap (λ (l : Line). stop_code l (lines_view later) s) here ∙ ap (λ (ls : List Line). stop_code line ls s) behind) h
+    let parts = split xs front line more is in
+    let same : n ≡ number_of s = cc in
+    let counted : line.number ≡ (get_or xs 0 first).number + length front = number_at xs first front line more rows is in
+    let index : n - (get_or xs 0 first).number ≡ length front = omega arith in
+    let here : line_view x ≡ line = ap line_view (x_is ∙ ap (λ (i : ℕ). get_or xs i x) index) ∙ parts.here x in
+    let behind : lines_view later ≡ more = ap lines_view later_is ∙ (ap (λ (i : ℕ). lines_view (drop (i + 1) xs)) index ∙ parts.behind) in
+    subst (λ (p : ℕ × At). IsRefused p d) (ap (λ (l : Line). stop_code l (lines_view later) s) here ∙ ap (λ (ls : List Line). stop_code line ls s) behind) h
 
 -- ---- the line behind so many
 
@@ -57,9 +57,9 @@ here_is xs count x front line more x_is is n = ap line_view (x_is ∙ ap (λ (i 
 pub marked : (depth count : ℕ) (xs : List code.Line) (x : code.Line) (p : At) (d : Document) → x ≡ get_or xs count x → is_marker (line_view x) ≡ true → p ≡ at (line_view x) 0 → IsRefused (3, p) d → Behind depth count xs d
 marked depth count xs x p d x_is marker p_is h =
     λ front line more is n.
-      let here = here_is xs count x front line more x_is is n in
-      let there : is_marker line ≡ true = ap is_marker (sym here) ∙ marker in
-      subst (λ (q : ℕ × At). IsRefused q d) (ap (λ (a : At). (3, a)) (p_is ∙ ap (λ (l : Line). at l 0) here) ∙ rw there refl) h
+    let here = here_is xs count x front line more x_is is n in
+    let there : is_marker line ≡ true = ap is_marker (sym here) ∙ marker in
+    subst (λ (q : ℕ × At). IsRefused q d) (ap (λ (a : At). (3, a)) (p_is ∙ ap (λ (l : Line). at l 0) here) ∙ rw there refl) h
 
 through_is : (xs : List code.Line) (count : ℕ) (front : List Line) (line : Line) (more : List Line) → lines_view xs ≡ front ++ line ∷ more → length front ≡ count → lines_view (take (count + 1) xs) ≡ front ++ line ∷ []
 through_is xs count front line more is n = ap (λ (i : ℕ). lines_view (take (i + 1) xs)) (sym n) ∙ (split xs front line more is).through
@@ -68,24 +68,24 @@ pub unread : (depth count : ℕ) (xs through : List code.Line) (x : code.Line) (
     → block_in depth 0 home (lines_view through) ≡ Ok t → p ≡ at (line_view x) 0 → IsRefused (4, p) d → Behind depth count xs d
 unread depth count xs through x t p d x_is marker through_is_taken read p_is h =
     λ front line more is n.
-      let here = here_is xs count x front line more x_is is n in
-      let there : is_marker line ≡ false = ap is_marker (sym here) ∙ marker in
-      let all : lines_view through ≡ front ++ line ∷ [] = ap lines_view through_is_taken ∙ through_is xs count front line more is n in
-      let whole : block_in depth 0 home (front ++ line ∷ []) ≡ Ok t = ap (block_in depth 0 home) (sym all) ∙ read in
-      subst (λ (q : ℕ × At). IsRefused q d) (ap (λ (a : At). (4, a)) (p_is ∙ ap (λ (l : Line). at l 0) here) ∙ rw (there, whole) refl) h
+    let here = here_is xs count x front line more x_is is n in
+    let there : is_marker line ≡ false = ap is_marker (sym here) ∙ marker in
+    let all : lines_view through ≡ front ++ line ∷ [] = ap lines_view through_is_taken ∙ through_is xs count front line more is n in
+    let whole : block_in depth 0 home (front ++ line ∷ []) ≡ Ok t = ap (block_in depth 0 home) (sym all) ∙ read in
+    subst (λ (q : ℕ × At). IsRefused q d) (ap (λ (a : At). (4, a)) (p_is ∙ ap (λ (l : Line). at l 0) here) ∙ rw (there, whole) refl) h
 
 halted_with : (o : Option Stop) (depth count : ℕ) (xs through later : List code.Line) (x : code.Line) (d : Document) → x ≡ get_or xs count x → is_marker (line_view x) ≡ false → through ≡ take (count + 1) xs
     → later ≡ drop (count + 1) xs → IfSome o (λ s. block_in depth 0 home (lines_view through) ≡ Err s) → IsSomeAnd o (λ s. IsRefused (stop_code (line_view x) (lines_view later) s) d) → Behind depth count xs d
 halted_with None depth count xs through later x d x_is marker taken dropped read h = absurd h
 halted_with (Some s) depth count xs through later x d x_is marker taken dropped read h =
     λ front line more is n.
-      let here = here_is xs count x front line more x_is is n in
-      let there : is_marker line ≡ false = ap is_marker (sym here) ∙ marker in
-      let all : lines_view through ≡ front ++ line ∷ [] = ap lines_view taken ∙ through_is xs count front line more is n in
-      let whole : block_in depth 0 home (front ++ line ∷ []) ≡ Err s = ap (block_in depth 0 home) (sym all) ∙ read in
-      let behind : lines_view later ≡ more = ap lines_view dropped ∙ (ap (λ (i : ℕ). lines_view (drop (i + 1) xs)) (sym n) ∙ (split xs front line more is).behind) in
-      subst (λ (q : ℕ × At). IsRefused q d)
-      (ap (λ (l : Line). stop_code l (lines_view later) s) here ∙ (ap (λ (ls : List Line). stop_code line ls s) behind ∙ (rw (there, whole) refl))) h
+    let here = here_is xs count x front line more x_is is n in
+    let there : is_marker line ≡ false = ap is_marker (sym here) ∙ marker in
+    let all : lines_view through ≡ front ++ line ∷ [] = ap lines_view taken ∙ through_is xs count front line more is n in
+    let whole : block_in depth 0 home (front ++ line ∷ []) ≡ Err s = ap (block_in depth 0 home) (sym all) ∙ read in
+    let behind : lines_view later ≡ more = ap lines_view dropped ∙ (ap (λ (i : ℕ). lines_view (drop (i + 1) xs)) (sym n) ∙ (split xs front line more is).behind) in
+    subst (λ (q : ℕ × At). IsRefused q d)
+    (ap (λ (l : Line). stop_code l (lines_view later) s) here ∙ (ap (λ (ls : List Line). stop_code line ls s) behind ∙ (rw (there, whole) refl))) h
 
 pub halted : (h : Halt) (depth count : ℕ) (xs through later : List code.Line) (x : code.Line) (d : Document) → x ≡ get_or xs count x → is_marker (line_view x) ≡ false → through ≡ take (count + 1) xs
     → later ≡ drop (count + 1) xs → Fails h (block_in depth 0 home (lines_view through)) → IsSomeAnd (halt_view h) (λ s. IsRefused (stop_code (line_view x) (lines_view later) s) d) → Behind depth count xs d

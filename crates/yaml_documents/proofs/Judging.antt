@@ -65,8 +65,7 @@ bad_at bytes none =
     let short : l.count < length bytes = elim (order (length bytes) l.count) [
       | inl all ↦ absurd (none (subst IsUtf8 (take_all l.count bytes all) l.front))
       | inr less ↦ less
-    ] in
-    (
+    ] in (
       place_behind (chars (take l.count bytes)),
       record {
         count = l.count;
@@ -108,8 +107,7 @@ past_at zero (d ∷ ds) h more =
     let (first, others, begins) = content_begins d h.0 in
     (at first 0, record { front = []; document = d; others = ds; parts = refl; count = refl; first = first; more = others; begins = begins; place = refl })
 past_at (suc n) (d ∷ ds) h more =
-    let (a, past) = past_at n ds h.2 (omega arith) in
-    (
+    let (a, past) = past_at n ds h.2 (omega arith) in (
       a,
       record {
         front = d ∷ past.front;

@@ -7,3 +7,4 @@ pub mod Giving
 pub mod Placing
 pub mod Ready
 pub mod Judging
+pub mod Taking

@@ -4,6 +4,7 @@ use Rattle.std.specs.Borrow.{Bor}
 use Rattle.std.specs.List.{list_any, All}
 use Rattle.std.proofs.Math.Seq.{take-suc}
 use Rattle.std.proofs.lemmas.List.{map-append, take_all}
+use Rattle.std.proofs.lemmas.List.Elements.{All-append}
 use Rattle.yaml_tree.specs.Tree.{Answer}
 use Rattle.yaml_tree.specs.View.{document_view}
 use Rattle.yaml_tree.specs.declared.tree.Document.{Document}
@@ -91,3 +92,10 @@ answers_more depth ds i x given d h is so_far answer =
 pub answers_end : (depth : ℕ) (ds : List (Bor (List code.Line))) (i : ℕ) (given : List Document) → length ds ≤ i → AreAnswers depth (documents_view (take i ds)) (answers_view given)
     → AreAnswers depth (documents_view ds) (answers_view given)
 answers_end depth ds i given h so_far = subst (λ (xs : List (Bor (List code.Line))). AreAnswers depth (documents_view xs) (answers_view given)) (take_all i ds h) so_far
+
+one_plain : (d : Document) → IsPlain d → All IsPlain (d ∷ [])
+one_plain d h zero e within = h
+one_plain d h (suc k) e within = absurd (omega arith)
+
+pub plain_more : (given : List Document) (d : Document) → All IsPlain given → IsPlain d → All IsPlain (given ++ d ∷ [])
+plain_more given d all h = All-append IsPlain given (d ∷ []) all (one_plain d h)

@@ -51,8 +51,7 @@ regular_unmarked l e = not_true (is_marker l) (both (not (is_marker l)) _ e).0
 pub stop_given : (depth : ℕ) (regular others : List Line) (s : Stop) (h : StopsFirst depth home regular s) → list_all is_regular regular ≡ true
     → IsAnswer depth (regular ++ others) (refusal (stop_code h.line (h.more ++ others) s))
 stop_given depth regular others s h all =
-    let here = both (is_regular h.line) (list_all is_regular h.more) (all_behind is_regular h.front (h.line ∷ h.more) (ap (list_all is_regular) (sym h.lines) ∙ all)) in
-    (
+    let here = both (is_regular h.line) (list_all is_regular h.more) (all_behind is_regular h.front (h.line ∷ h.more) (ap (list_all is_regular) (sym h.lines) ∙ all)) in (
       h.front,
       h.line,
       h.more ++ others,
@@ -88,8 +87,7 @@ dead_given depth front line more t count read =
     let irregular : list_all is_regular (front ++ line ∷ []) ≡ false =
     not_all is_regular (front ++ line ∷ []) more (behind_one front line _ (ap≤ (ap (prefix_len is_regular) whole) (omega arith))) in
     let content : has_content (front ++ line ∷ []) ≡ true =
-    void_not_all (front ++ line ∷ []) (not_all is_void (front ++ line ∷ []) more (behind_one front line _ (ap≤ (ap (prefix_len is_void) whole) (omega arith)))) in
-    (
+    void_not_all (front ++ line ∷ []) (not_all is_void (front ++ line ∷ []) more (behind_one front line _ (ap≤ (ap (prefix_len is_void) whole) (omega arith)))) in (
       front,
       line,
       more,

@@ -84,7 +84,12 @@ fn line_number(halt: &Halt) -> Option<u32>
 }
 
 /// The refusal of a document at the line behind so many lines.
-fn refused_behind(alloc: Global, depth: usize, count: usize, lines: &[Line<'_>]) -> Result<Document, Fault>
+fn refused_behind(
+    alloc: Global,
+    depth: usize,
+    count: usize,
+    lines: &[Line<'_>],
+) -> Result<Document, Fault>
     requires { count < length lines.now }
     ensures refused { IfOk result (IsRefusedBehind depth count (lines_view lines.now)) }
     ensures memory { IfErr result (λ e. e ≡ Memory) }
