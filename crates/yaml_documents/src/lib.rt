@@ -7,3 +7,5 @@ pub use file::read_documents;
 mod document;
 mod file;
 pub mod laws;
+#[cfg(test)]
+mod tests;
