@@ -9,6 +9,7 @@ pub use source::LogSource;
 
 mod copying;
 mod dates;
+mod detecting;
 mod detection;
 mod forms;
 mod head;
