@@ -1,3 +1,4 @@
+pub mod ByKind
 pub mod Days
 pub mod Firsts
 pub mod Found

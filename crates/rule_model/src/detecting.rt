@@ -151,7 +151,7 @@ fn is_identified(entry: &Entry) -> bool
 }
 
 fn has_identified(entries: &[Entry]) -> bool
-    ensures { result ≡ list_any spec.is_identified (entries_view entries.now) }
+    ensures { result ≡ list_any (λ e. spec.is_identified (entry_view e)) entries.now }
 {
     entries.iter().any(is_identified)
 }
@@ -183,6 +183,7 @@ fn read_entries(alloc: Global, limits: &Limits, entries: &[Entry]) -> Result<Det
 }
 
 /// Reads the value of `detection`: its entries but `condition`, in their order.
+#[tactic(auto, using(crate::proofs::Zips::any_viewed))]
 pub fn read_detections(alloc: Global, limits: &Limits, node: &Node) -> Result<Detections, Fault>
     ensures judged { Judged (λ all. spec.AreDetections (node_view node.now) all) (spec.detections_refusal limits.now (node_view node.now)) result }
     ensures whole { IfOk result (λ all. EachOf IsWholeDetection all) }
