@@ -11,6 +11,7 @@ pub use source::LogSource;
 mod conditioning;
 mod copying;
 mod dates;
+mod detecting;
 mod detection;
 mod forms;
 mod head;
