@@ -1,0 +1,5 @@
+pub mod JoiningLemmas
+pub mod Decimals
+pub mod Meaning
+pub mod Found
+pub mod Soundness

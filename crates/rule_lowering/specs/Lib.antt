@@ -1,0 +1,5 @@
+pub mod Joining
+pub mod Leaves
+pub mod Refused
+pub mod Texts
+pub mod TreeOf

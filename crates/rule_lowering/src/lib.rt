@@ -1,0 +1,6 @@
+//! Lowering: the tree of tests that a rule is.
+#![tactic(auto)]
+
+pub use law::{tree_is_sound, tree_means_rule};
+
+mod law;
