@@ -1,5 +1,6 @@
 pub mod Joining
 pub mod Leaves
+pub mod Numbered
 pub mod Refused
 pub mod Texts
 pub mod TreeOf

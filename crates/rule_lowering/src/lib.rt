@@ -3,4 +3,7 @@
 
 pub use law::{tree_is_sound, tree_means_rule};
 
+mod joining;
 mod law;
+mod lowering;
+mod numbers;
