@@ -5,4 +5,5 @@ pub mod Found
 pub mod Soundness
 pub mod ViewLemmas
 pub mod Levels
+pub mod LeafCounts
 pub mod Indexing

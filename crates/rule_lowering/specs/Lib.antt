@@ -1,3 +1,4 @@
+pub mod Counts
 pub mod Joining
 pub mod Leaves
 pub mod Numbered

@@ -3,6 +3,8 @@
 
 pub use law::{tree_is_sound, tree_means_rule};
 
+mod counting;
+mod formula;
 mod joining;
 mod law;
 mod lowering;
