@@ -1,0 +1,7 @@
+pub mod Counts
+pub mod Joining
+pub mod Leaves
+pub mod Numbered
+pub mod Refused
+pub mod Texts
+pub mod TreeOf
