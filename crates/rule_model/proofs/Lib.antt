@@ -14,3 +14,4 @@ pub mod WholeItems
 pub mod Zips
 pub mod Gathering
 pub mod Gathered
+pub mod Keywords

@@ -15,3 +15,4 @@ pub mod Matching
 pub mod Whole
 pub mod Inferred
 pub mod Gathered
+pub mod Fitting

@@ -13,6 +13,7 @@ mod copying;
 mod dates;
 mod detecting;
 mod detection;
+mod fitting;
 mod forms;
 mod head;
 mod heading;
