@@ -11,6 +11,7 @@ pub use source::LogSource;
 mod conditioning;
 mod copying;
 mod dates;
+mod detecting;
 mod detection;
 mod forms;
 mod head;
@@ -20,7 +21,10 @@ mod itemizing;
 mod keys;
 mod law;
 mod nodes;
+mod reading;
 mod rule;
+#[cfg(test)]
+mod rule_tests;
 mod source;
 mod sourcing;
 mod tables;
