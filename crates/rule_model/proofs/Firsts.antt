@@ -60,13 +60,13 @@ hands_on IsRead IsPart (Err y) (Refused r) Q whole part h q j f =
     subst (λ (z : Fault). Judged IsRead whole (Err z)) (sym (q y h)) (f r j)
 
 -- what is read of the elements before one, and of this one, place by place
-zip_push : {A B : Type 0} (R : A → B → Type 0) (xs : List A) (ys : List B) (x : A) (y : B) → AllZip R xs ys → R x y → AllZip R (xs ++ x ∷ []) (ys ++ y ∷ [])
+pub zip_push : {A B : Type 0} (R : A → B → Type 0) (xs : List A) (ys : List B) (x : A) (y : B) → AllZip R xs ys → R x y → AllZip R (xs ++ x ∷ []) (ys ++ y ∷ [])
 zip_push R [] [] x y all one = (one, tt)
 zip_push R [] (z ∷ ys) x y all one = absurd all
 zip_push R (w ∷ xs) [] x y all one = absurd all
 zip_push R (w ∷ xs) (z ∷ ys) x y all one = (all.0, zip_push R xs ys x y all.1 one)
 
-taken_at : {X A : Type 0} (view : X → A) (i : ℕ) (xs : List X) (x : X) → i < length xs → x ≡ get_or xs i x
+pub taken_at : {X A : Type 0} (view : X → A) (i : ℕ) (xs : List X) (x : X) → i < length xs → x ≡ get_or xs i x
     → map view (take (i + 1) xs) ≡ map view (take i xs) ++ view x ∷ []
 taken_at view i xs x h is =
     ap (map view) (take_more xs i x h)

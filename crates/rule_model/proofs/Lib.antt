@@ -1,4 +1,5 @@
 pub mod ConditionLists
+pub mod ByKind
 pub mod Days
 pub mod Faultless
 pub mod Firsts
