@@ -58,8 +58,8 @@ whole_fields false name values patterns legal scalars = (tt, (record { legal = l
 unfoldable more_checks : Limits → Written → Place → Tree → List (Option Refusal)
 more_checks limits chain place t =
     must 79 place (nat_le (length (parts_in t)) limits.list_values)
-  ∷ first (list_map (value_refusal limits.value_chars chain) (parts_in t))
-  ∷ []
+    ∷ first (list_map (value_refusal limits.value_chars chain) (parts_in t))
+    ∷ []
 
 -- where no value is refused, there is one
 values_some : (limits : Limits) (chain : Written) (place : Place) (t : Tree) → values_refusal limits chain place t ≡ None → is_empty (parts_in t) ≡ false

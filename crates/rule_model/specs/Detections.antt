@@ -48,10 +48,10 @@ is_key key e = bytes_eq e.key key
 abbrev pub content_refusal : Limits → Place → Tree → Option Refusal
 content_refusal limits place t = first (
     must 77 (place_of t) (not (is_null t))
-  ∷ must 78 (place_of t) (not (is_empty (parts_in t)))
-  ∷ must 79 place (nat_le (length (parts_in t)) limits.list_values)
-  ∷ first (list_map (alternative_refusal limits) (parts_in t))
-  ∷ [])
+    ∷ must 78 (place_of t) (not (is_empty (parts_in t)))
+    ∷ must 79 place (nat_le (length (parts_in t)) limits.list_values)
+    ∷ first (list_map (alternative_refusal limits) (parts_in t))
+    ∷ [])
 
 -- a detection's name; `timeframe`, which old rules have, is none
 abbrev pub is_detection_key : Member → Bool
@@ -61,8 +61,8 @@ is_detection_key e = is_identifier e.key && not (is_key (codes "timeframe") e)
 abbrev pub detection_refusal : Limits → Member → Option Refusal
 detection_refusal limits e = first (
     must 71 (key_place e) (is_detection_key e)
-  ∷ content_refusal limits (key_place e) e.value
-  ∷ [])
+    ∷ content_refusal limits (key_place e) e.value
+    ∷ [])
 
 pub record IsDetection (e : Member) (d : Detection) : Type 0 where
   pub name : d.name ≡ e.key
@@ -89,9 +89,9 @@ begins_with_timeframe (e ∷ es) = is_key (codes "timeframe") e
 abbrev pub detections_refusal : Limits → Tree → Option Refusal
 detections_refusal limits t = first (
     must 71 (place_of t) (is_map t)
-  ∷ must 77 (place_of t) (list_any is_identified (entries_in t) || begins_with_timeframe (entries_in t))
-  ∷ first (list_map (detection_refusal limits) (detection_entries t))
-  ∷ [])
+    ∷ must 77 (place_of t) (list_any is_identified (entries_in t) || begins_with_timeframe (entries_in t))
+    ∷ first (list_map (detection_refusal limits) (detection_entries t))
+    ∷ [])
 
 abbrev pub AreDetections : Tree → List Detection → Type 0
 AreDetections t ds = AllZip IsDetection (detection_entries t) ds

@@ -33,18 +33,18 @@ shape_refusal t = must 71 (place_of t) (is_scalar t)
 abbrev pub values_refusal : Limits → Written → Place → Tree → Option Refusal
 values_refusal limits chain place t = first (
     first (list_map shape_refusal (parts_in t))
-  ∷ must 78 (place_of t) (not (is_empty (parts_in t)))
-  ∷ must 79 place (nat_le (length (parts_in t)) limits.list_values)
-  ∷ first (list_map (value_refusal limits.value_chars chain) (parts_in t))
-  ∷ [])
+    ∷ must 78 (place_of t) (not (is_empty (parts_in t)))
+    ∷ must 79 place (nat_le (length (parts_in t)) limits.list_values)
+    ∷ first (list_map (value_refusal limits.value_chars chain) (parts_in t))
+    ∷ [])
 
 -- why an entry is no item: its name, its modifiers, and then its values
 abbrev pub item_refusal : Limits → Member → Option Refusal
 item_refusal limits e = first (
     must 71 (key_place e) (is_item_key e.key)
-  ∷ chain_refusal (is_keyword_key e.key) (key_place e) (words_in e.key)
-  ∷ values_refusal limits (key_chain e) (key_place e) e.value
-  ∷ [])
+    ∷ chain_refusal (is_keyword_key e.key) (key_place e) (words_in e.key)
+    ∷ values_refusal limits (key_chain e) (key_place e) e.value
+    ∷ [])
 
 -- the item that an entry is
 pub record IsItem (e : Member) (i : Item) : Type 0 where

@@ -14,7 +14,7 @@ ghost use Rattle.rule_model.specs.Whole.{IsSome, IsWholeForm};
 use crate::nodes::{all_entries, is_empty, parts_of, place_of, text_of};
 use crate::tables::{must, refused, value_at};
 use sig_base::{Code, Fault, Limits, Text, Texts};
-use sig_conditions::{Formula, read_condition, resolve_condition};
+use sig_conditions::{Formula, Names, read_condition, resolve_condition};
 use std::alloc::Global;
 use yaml_tree::{Entry, Node};
 
@@ -33,7 +33,7 @@ fn copy_names(alloc: Global, entries: &[Entry]) -> Result<Texts, Fault>
 }
 
 /// One condition over detections of these names.
-fn read_formula(alloc: Global, limits: &Limits, names: &[Text], node: &Node) -> Result<Formula, Fault>
+fn read_formula(alloc: Global, limits: &Limits, names: &Names, node: &Node) -> Result<Formula, Fault>
     ensures { Judged (λ f. spec.IsFormula names.now (node_view node.now) (form_view f))
         (spec.condition_refusal limits.now names.now (node_view node.now)) result }
 {
@@ -46,7 +46,7 @@ fn read_formula(alloc: Global, limits: &Limits, names: &[Text], node: &Node) -> 
 }
 
 /// One condition, or those of a list, in order.
-fn read_listed(alloc: Global, limits: &Limits, names: &[Text], node: &Node) -> Result<Vec<Formula>, Fault>
+fn read_listed(alloc: Global, limits: &Limits, names: &Names, node: &Node) -> Result<Vec<Formula>, Fault>
     ensures { Judged (λ fs. AllZip (spec.IsFormula names.now) (parts_in (node_view node.now)) (forms_view fs.items))
         (spec.listed_refusal limits.now names.now (node_view node.now)) result }
 {
@@ -73,6 +73,6 @@ pub fn read_conditions(alloc: Global, limits: &Limits, node: &Node) -> Result<Ve
     let Some(value) = value_at(node, "condition") else {
         return Err(refused(Code::MISSING_KEY, place_of(node)));
     };
-    let names = copy_names(alloc, all_entries(node))?;
-    read_listed(alloc, limits, names.as_slice(), value)
+    let names = Names::number(alloc, copy_names(alloc, all_entries(node))?)?;
+    read_listed(alloc, limits, &names, value)
 }

@@ -13,12 +13,17 @@ ghost use Rattle.rule_model.specs.Whole.{IsWholeItem, IsWholeAlternative, IsWhol
 
 use crate::detection::{Alternative, Alternatives, Detection, Detections};
 use crate::item::Item;
-use crate::nodes::{all_entries, entries_of, is_empty, is_map, is_null, is_scalar, parts_of, place_of};
+use crate::nodes::{
+    all_entries, entries_of, is_empty, is_map, is_null, is_scalar, parts_of, place_of,
+};
 use crate::tables::{must, refused};
 use sig_base::{Code, Fault, Limits, Place, Text};
 use sig_conditions::is_identifier;
 use std::alloc::Global;
 use yaml_tree::{Entry, Node};
+
+#[cfg(test)]
+mod tests;
 
 /// The items of entries.
 fn read_items(alloc: Global, limits: &Limits, entries: &[Entry]) -> Result<Alternative, Fault>
@@ -110,7 +115,11 @@ fn read_content(
     must(Code::EMPTY_DETECTION, place_of(value), !is_null(value))?;
     let parts = parts_of(value);
     must(Code::EMPTY_LIST, place_of(value), !is_empty(parts))?;
-    must(Code::TOO_MANY_VALUES, place, parts.len() <= limits.list_values)?;
+    must(
+        Code::TOO_MANY_VALUES,
+        place,
+        parts.len() <= limits.list_values,
+    )?;
     read_alternatives(alloc, limits, parts)
 }
 

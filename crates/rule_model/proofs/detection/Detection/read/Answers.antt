@@ -43,6 +43,7 @@ returns-clause-judged c =
     let limits = c.args.limits.now in
     let named : c.is_detection_key.result ≡ is_detection_key (member_of entry) = c.is_detection_key.ensures ∙ ap is_detection_key (view-Entry entry) in
     let d : Detection = record { name = c.in_ok-name.name; alternatives = c.in_ok-alternatives.alternatives; place = entry.place } in
-    subst (λ (e : Member). (detection_refusal limits e ≡ None) × IsDetection e d) (sym (view-Entry entry))
-    (skips _ _ (ap (must 71 entry.place) (sym named) ∙ c.in_ok-must.ensures.0) ∙ (first_one _ ∙ c.in_ok-alternatives.ensures.judged.0),
-    record { name = c.in_ok-name.ensures.ok ∙ c.as_str.ensures.chars; alternatives = c.in_ok-alternatives.ensures.judged.1; place = refl })
+    subst (λ (e : Member). (detection_refusal limits e ≡ None) × IsDetection e d) (sym (view-Entry entry)) (
+      skips _ _ (ap (must 71 entry.place) (sym named) ∙ c.in_ok-must.ensures.0) ∙ (first_one _ ∙ c.in_ok-alternatives.ensures.judged.0),
+      record { name = c.in_ok-name.ensures.ok ∙ c.as_str.ensures.chars; alternatives = c.in_ok-alternatives.ensures.judged.1; place = refl },
+    )

@@ -56,7 +56,7 @@ returns-in_err-chain-clause-judged c =
     (item_refusal c.args.limits.now (member_of entry)) (chain_refusal key.keyword entry.place c.as_slice.result.now)
     c.from_residual-in_err-chain.ensures.1 (λ y p. p) c.in_err-chain.ensures
     (λ r p. skips _ _ c.in_ok-key.ensures.judged.0 ∙ stops _ _ r
-        (sym (chain_same key.keyword (is_keyword_key entry.key) entry.place c.as_slice.result.now (words_in entry.key) is_key.keyword (c.as_slice.ensures ∙ is_key.words)) ∙ p)))
+    (sym (chain_same key.keyword (is_keyword_key entry.key) entry.place c.as_slice.result.now (words_in entry.key) is_key.keyword (c.as_slice.ensures ∙ is_key.words)) ∙ p)))
 
 pub returns-in_err-tests-clause-judged : goal.returns-in_err-tests-clause-judged
 returns-in_err-tests-clause-judged c =
@@ -70,11 +70,11 @@ returns-in_err-tests-clause-judged c =
     (item_refusal limits (member_of entry)) (values_refusal limits c.in_ok-chain.chain entry.place (node_view entry.value))
     c.from_residual-in_err-tests.ensures.1 (λ y p. p) c.in_err-tests.ensures.judged
     (λ r p. skips _ _ c.in_ok-key.ensures.judged.0
-        ∙ (skips _ _ (sym (chain_same key.keyword (is_keyword_key entry.key) entry.place c.as_slice.result.now (words_in entry.key) is_key.keyword words) ∙ c.in_ok-chain.ensures.0)
-        ∙ (first_one _
-        ∙ (ap (λ (w : Written). values_refusal limits w entry.place (node_view entry.value))
-            (sym (key_chain_is c.in_ok-chain.chain key.keyword (is_keyword_key entry.key) entry.place c.as_slice.result.now (words_in entry.key) is_key.keyword words c.in_ok-chain.ensures.1))
-        ∙ p)))))
+    ∙ (skips _ _ (sym (chain_same key.keyword (is_keyword_key entry.key) entry.place c.as_slice.result.now (words_in entry.key) is_key.keyword words) ∙ c.in_ok-chain.ensures.0)
+    ∙ (first_one _
+    ∙ (ap (λ (w : Written). values_refusal limits w entry.place (node_view entry.value))
+    (sym (key_chain_is c.in_ok-chain.chain key.keyword (is_keyword_key entry.key) entry.place c.as_slice.result.now (words_in entry.key) is_key.keyword words c.in_ok-chain.ensures.1))
+    ∙ p)))))
 
 pub returns-clause-judged : goal.returns-clause-judged
 returns-clause-judged c =
@@ -84,19 +84,20 @@ returns-clause-judged c =
     let words = c.as_slice.ensures ∙ is_key.words in
     let limits = c.args.limits.now in
     let chain : c.in_ok-chain.chain ≡ key_chain (member_of entry) =
-        key_chain_is c.in_ok-chain.chain key.keyword (is_keyword_key entry.key) entry.place c.as_slice.result.now (words_in entry.key) is_key.keyword words c.in_ok-chain.ensures.1 in
+    key_chain_is c.in_ok-chain.chain key.keyword (is_keyword_key entry.key) entry.place c.as_slice.result.now (words_in entry.key) is_key.keyword words c.in_ok-chain.ensures.1 in
     let i : Item = record { fields = c.in_ok-fields.fields; tests = c.in_ok-tests.tests; joined = c.joined.result; place = entry.place } in
-    subst (λ (e : Member). (item_refusal limits e ≡ None) × IsItem e i) (sym (view-Entry entry))
-    (skips _ _ c.in_ok-key.ensures.judged.0
-        ∙ (skips _ _ (sym (chain_same key.keyword (is_keyword_key entry.key) entry.place c.as_slice.result.now (words_in entry.key) is_key.keyword words) ∙ c.in_ok-chain.ensures.0)
-        ∙ (first_one _
-        ∙ (ap (λ (w : Written). values_refusal limits w entry.place (node_view entry.value)) (sym chain) ∙ c.in_ok-tests.ensures.judged.0))),
-    record {
-      fields = c.in_ok-fields.ensures.ok ∙ fields_are key.keyword (is_keyword_key entry.key) key.name (name_in entry.key) is_key.keyword is_key.name;
-      tests = subst (λ (w : Written). AllZip (TestsOf w) (parts_in (node_view entry.value)) c.in_ok-tests.tests) chain c.in_ok-tests.ensures.judged.1;
-      joined = c.joined.ensures ∙ ap joined_of chain;
-      place = refl;
-    })
+    subst (λ (e : Member). (item_refusal limits e ≡ None) × IsItem e i) (sym (view-Entry entry)) (
+      skips _ _ c.in_ok-key.ensures.judged.0
+          ∙ (skips _ _ (sym (chain_same key.keyword (is_keyword_key entry.key) entry.place c.as_slice.result.now (words_in entry.key) is_key.keyword words) ∙ c.in_ok-chain.ensures.0)
+          ∙ (first_one _
+          ∙ (ap (λ (w : Written). values_refusal limits w entry.place (node_view entry.value)) (sym chain) ∙ c.in_ok-tests.ensures.judged.0))),
+      record {
+        fields = c.in_ok-fields.ensures.ok ∙ fields_are key.keyword (is_keyword_key entry.key) key.name (name_in entry.key) is_key.keyword is_key.name;
+        tests = subst (λ (w : Written). AllZip (TestsOf w) (parts_in (node_view entry.value)) c.in_ok-tests.tests) chain c.in_ok-tests.ensures.judged.1;
+        joined = c.joined.ensures ∙ ap joined_of chain;
+        place = refl;
+      },
+    )
 
 pub returns-clause-whole : goal.returns-clause-whole
 returns-clause-whole c =
