@@ -11,3 +11,5 @@ mod law;
 mod lowering;
 mod numbers;
 mod rule;
+#[cfg(test)]
+mod tests;

@@ -1,14 +1,12 @@
 //! The tree of a rule.
 
-ghost use Rattle.std.specs.Prelude.{◌≡◌, ◌↔◌, ◌<◌, ◌-◌, ◌^◌, ◌≤◌, List, Option, None, length, IfOk, IfErr};
+ghost use Rattle.std.specs.Prelude.{◌≡◌, ◌↔◌, ◌-◌, ◌^◌, ◌≤◌, List, Option, None, IfOk};
 ghost use Rattle.backend_core.specs.Holds.{TreeHolds};
 ghost use Rattle.backend_core.specs.Sound.{IsSound};
 ghost use Rattle.backend_core.specs.View.{tree_view};
 ghost use Rattle.event_schema.specs.Events.{IsEvent};
 ghost use Rattle.event_schema.specs.declared.value.Value.{Value};
-ghost use Rattle.rule_lowering.specs.Numbered.{Numbered};
 ghost use Rattle.rule_lowering.specs.Refused.{told, leaves_refusal};
-ghost use Rattle.rule_lowering.specs.Texts.{AreTexts};
 ghost use Rattle.rule_lowering.specs.TreeOf.{tree_of};
 ghost use Rattle.rule_model.specs.Inferred.{fit_refusal};
 ghost use Rattle.rule_model.specs.Matching.{Matches};
@@ -40,19 +38,12 @@ fn too_many(place: Place, count: u128, limit: usize) -> Fault
 
 /// The tree of a rule, which holds of an event exactly where the rule matches it. A rule whose tree would have more than
 /// `leaves` tests is refused at its place (110), with their number, or 2^127 - 1 where there are more, and the limit. They
-/// are counted before the tree is made, so a refused rule costs little.
-pub fn lower(
-    alloc: Global,
-    limits: &Limits,
-    rule: &Rule,
-    schema: &Schema,
-) -> Result<Tree, Fault>
-    requires whole { IsWhole (rule_view rule.now) }
-    requires fits { fit_refusal schema.now (rule_view rule.now) ≡ None }
-    requires texts { AreTexts schema.now.fields }
-    requires few { length schema.now.fields < 2 ^ 32 }
+/// are counted before the tree is made, so a refused rule costs little. More than 2^32 - 1 fields can't be numbered, which
+/// is want of memory.
+pub fn lower(alloc: Global, limits: &Limits, rule: &Rule, schema: &Schema) -> Result<Tree, Fault>
     ensures tree { Judged (λ t. tree_view t ≡ tree_of schema.now (rule_view rule.now)) (leaves_refusal limits.now schema.now (rule_view rule.now)) result }
-    ensures sound { IfOk result (λ t. IsSound schema.now.fields (tree_view t)) }
+    ensures sound { IsWhole (rule_view rule.now) → fit_refusal schema.now (rule_view rule.now) ≡ None
+        → IfOk result (λ t. IsSound schema.now.fields (tree_view t)) }
     ensures means { IfOk result (λ t. (row : List (Option Value))
         → IsEvent schema.now.fields row → TreeHolds row (tree_view t) ↔ Matches schema.now.fields row (rule_view rule.now)) }
 {
