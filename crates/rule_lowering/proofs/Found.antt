@@ -57,7 +57,7 @@ each_behind : (whole before fields : List Field) → whole ≡ before ++ fields 
 each_behind whole before [] e = tt
 each_behind whole before (f ∷ fields) e =
     let found : is_field whole f.name ≡ true =
-        ap (λ (fs : List Field). is_field fs f.name) e ∙ any_behind (λ (g : Field). bytes_eq g.name f.name) before f fields (same_name f.name) in
+    ap (λ (fs : List Field). is_field fs f.name) e ∙ any_behind (λ (g : Field). bytes_eq g.name f.name) before f fields (same_name f.name) in
     (field_within whole f.name found, each_behind whole (before ++ f ∷ []) fields (e ∙ sym (append_assoc before (f ∷ []) fields)))
 
 kept_step : {A B : Type 0} (p : A → Bool) (g : A → B) (P : B → Type 0) (x : A) (xs : List A) → P (g x) → EachOf P (map g (filter p xs)) → (b : Bool) → p x ≡ b

@@ -63,8 +63,7 @@ each_append P (x ∷ xs) ys =
 some_append : {A : Type 0} (P : A → Type 0) (xs ys : List A) → SomeOf P (xs ++ ys) ↔ (SomeOf P xs ⊎ SomeOf P ys)
 some_append P [] ys = ((λ h. inr h), (λ h. elim h [ inl e ↦ absurd e | inr e ↦ e ]))
 some_append P (x ∷ xs) ys =
-    let rest = some_append P xs ys in
-    (
+    let rest = some_append P xs ys in (
       (λ h. elim h [ inl e ↦ inl (inl e) | inr e ↦ elim (rest.0 e) [ inl f ↦ inl (inr f) | inr f ↦ inr f ] ]),
       (λ h. elim h [ inl e ↦ elim e [ inl f ↦ inl f | inr f ↦ inr (rest.1 (inl f)) ] | inr e ↦ inr (rest.1 (inr e)) ]),
     )

@@ -54,7 +54,7 @@ total_parts Any (leaf l) = one_total (leaf l)
 
 total_flat : (j : Joined) (ts : List Plain) → sum_by leaves (flat_map (parts_of j) ts) ≡ sum_by leaves ts
 total_flat j [] = refl
-total_flat j (t ∷ ts) = 
+total_flat j (t ∷ ts) =
     sum_by-append leaves (parts_of j t) (flat_map (parts_of j) ts)
     ∙ omega (arith, total_parts j t, total_flat j ts, sum_by-cons leaves t ts)
 

@@ -30,7 +30,7 @@ unfolding join
 level_ends j f i xs done t past h is =
     let none : drop i xs ≡ [] = drop_all i xs past in
     let all : done ≡ flat_map (parts_of j) (map f xs) =
-        sym (append-nil done) ∙ (sym (ap (λ ys. done ++ flat_map (parts_of j) (map f ys)) none) ∙ h) in
+    sym (append-nil done) ∙ (sym (ap (λ ys. done ++ flat_map (parts_of j) (map f ys)) none) ∙ h) in
     is ∙ ap (closed j) all
 
 -- one more of those that pass, and one that doesn't

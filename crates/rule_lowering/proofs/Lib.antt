@@ -6,4 +6,5 @@ pub mod Soundness
 pub mod ViewLemmas
 pub mod Levels
 pub mod LeafCounts
+pub mod RuleLemmas
 pub mod Indexing

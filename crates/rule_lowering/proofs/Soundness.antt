@@ -190,6 +190,6 @@ tree_sound schema rule w fits =
     let fields = schema.fields in
     let ds = rule.detections in
     let pass : EachOf (DetectionPasses fields) ds =
-        items_pass fields ds (each_passes (λ (i : Item). fields_refusal fields i.place i.fields) (items_of ds) fits) in
+    items_pass fields ds (each_passes (λ (i : Item). fields_refusal fields i.place i.fields) (items_of ds) fits) in
     let fine : Fine fields ds = each_both IsWholeDetection (DetectionPasses fields) ds w.detections pass in
     join_map_sound fields (IsWholeForm (length ds)) Any (form_tree fields ds) (form_sound fields ds fine) rule.conditions w.some w.conditions

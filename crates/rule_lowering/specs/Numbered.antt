@@ -1,5 +1,5 @@
 -- The numbers of a schema's fields, as the code keeps them.
-use Rattle.std.specs.Prelude.{ℕ, ◌≡◌, true, List, encode_utf8_all, String}
+use Rattle.std.specs.Prelude.{ℕ, ◌≡◌, ◌<◌, ◌^◌, true, List, length, encode_utf8_all, String}
 use Rattle.std.specs.BTreeMap.{BTreeMap, get_by_text}
 use Rattle.std.specs.Str.{all_scalars}
 use Rattle.event_schema.specs.Rows.{field_number}
@@ -13,5 +13,6 @@ pub record Indexes {Y : Type 0} (fields : List Field) (index : BTreeMap (String 
 
 -- an index of all fields, and the numbers of those that keywords search
 pub record Numbered (fields : List Field) (numbers : Numbers) : Type 0 where
+  pub few : length fields < 2 ^ 32
   pub index : Indexes fields numbers.index
   pub searched : numbers.searched.items ≡ searched fields

@@ -9,12 +9,13 @@ use Rattle.sig_base.specs.declared.refusal.Refusal.{Refusal}
 use Rattle.rule_lowering.specs.Leaves.{leaves}
 use Rattle.rule_lowering.specs.TreeOf.{tree_of}
 
--- code 110, with the number of tests, counted up to 2^127 - 1, and the limit
-abbrev pub too_many : Place → ℕ → ℕ → Refusal
-too_many place count limit = record { code = 110; place = place; detail = Numbers (pos (min count (2 ^ 127 - 1))) (pos limit) }
+-- code 110, with the number that is told and the limit
+abbrev pub told : Place → ℕ → ℕ → Refusal
+told place count limit = record { code = 110; place = place; detail = Numbers (pos count) (pos limit) }
 
+-- more than the limit are refused, and are counted up to 2^127 - 1
 abbrev pub count_refusal : Place → ℕ → ℕ → Option Refusal
-count_refusal place count limit = if nat_le count limit then None else Some (too_many place count limit)
+count_refusal place count limit = if nat_le count limit then None else Some (told place (min count (2 ^ 127 - 1)) limit)
 
 -- at the rule's place, exactly where its tree has more tests than the limit
 abbrev pub leaves_refusal : Limits → Schema → PlainRule → Option Refusal

@@ -1,4 +1,5 @@
--- The tree of tests that a rule is under a schema whose fields are all texts.
+-- The tree of tests that a rule is under a schema (Sigma specification 2.0, detection and condition), each field of which is
+-- tested as a text.
 use Rattle.std.specs.Prelude.{ℕ, zero, suc, true, false, List, [], ◌∷◌, length, map, filter, unwrap_or}
 use Rattle.std.specs.Fmt.{signed_decimal}
 use Rattle.backend_core.specs.Trees.{Plain, any, negated, leaf, no_parts}

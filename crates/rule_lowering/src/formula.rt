@@ -1,6 +1,6 @@
 //! The trees of formulas.
 
-ghost use Rattle.std.specs.Prelude.{◌≡◌, ◌<◌, ◌^◌, length, IfOk, IfErr};
+ghost use Rattle.std.specs.Prelude.{◌≡◌, IfOk, IfErr};
 ghost use Rattle.backend_core.specs.View.{tree_view};
 ghost use Rattle.rule_lowering.specs.Joining.{join};
 ghost use Rattle.rule_lowering.specs.Numbered.{Numbered};
@@ -26,8 +26,7 @@ fn lower_formula(
     detections: &[Detection],
     formula: &Formula,
 ) -> Result<Tree, Fault>
-    requires few { length fields.now < 2 ^ 32 }
-    requires numbered { Numbered fields.now numbers.now }
+    requires { Numbered fields.now numbers.now }
     ensures ok { IfOk result (λ t. tree_view t ≡ spec.form_tree fields.now detections.now (form_view formula.now)) }
     ensures err { IfErr result (λ e. e ≡ Fault.Memory) }
 {
@@ -56,8 +55,7 @@ pub fn lower_formulas(
     joined: Joined,
     formulas: &[Formula],
 ) -> Result<Tree, Fault>
-    requires few { length fields.now < 2 ^ 32 }
-    requires numbered { Numbered fields.now numbers.now }
+    requires { Numbered fields.now numbers.now }
     ensures ok { IfOk result (λ t. tree_view t ≡ join joined (spec.form_trees fields.now detections.now (forms_of (forms_view formulas.now)))) }
     ensures err { IfErr result (λ e. e ≡ Fault.Memory) }
 {

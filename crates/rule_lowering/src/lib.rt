@@ -2,6 +2,7 @@
 #![tactic(auto)]
 
 pub use law::{tree_is_sound, tree_means_rule};
+pub use rule::lower;
 
 mod counting;
 mod formula;
@@ -9,3 +10,6 @@ mod joining;
 mod law;
 mod lowering;
 mod numbers;
+mod rule;
+#[cfg(test)]
+mod tests;

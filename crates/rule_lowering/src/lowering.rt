@@ -1,7 +1,7 @@
 //! The trees of detections.
 #![tactic(auto, using(crate::proofs::Levels::level_ends))]
 
-ghost use Rattle.std.specs.Prelude.{◌≡◌, ◌<◌, ◌^◌, length, map, IfOk, IfErr};
+ghost use Rattle.std.specs.Prelude.{◌≡◌, map, IfOk, IfErr};
 ghost use Rattle.std.specs.Fmt.{signed_decimal};
 ghost use Rattle.backend_core.specs.View.{tree_view};
 ghost use Rattle.rule_lowering.specs.Joining.{join};
@@ -97,7 +97,12 @@ fn lower_values(
 }
 
 /// A value at some one of these fields.
-fn lower_keyword(alloc: Global, place: Place, searched: &[u32], tests: &[Test]) -> Result<Tree, Fault>
+fn lower_keyword(
+    alloc: Global,
+    place: Place,
+    searched: &[u32],
+    tests: &[Test],
+) -> Result<Tree, Fault>
     ensures ok { IfOk result (λ t. tree_view t ≡ join Any (map (λ field. spec.value_tree place field tests.now) searched.now)) }
     ensures err { IfErr result (λ e. e ≡ Fault.Memory) }
 {
@@ -117,21 +122,14 @@ fn lower_names(
     item: &Item,
     names: &[Text],
 ) -> Result<Tree, Fault>
-    requires few { length fields.now < 2 ^ 32 }
-    requires numbered { Numbered fields.now numbers.now }
+    requires { Numbered fields.now numbers.now }
     ensures ok { IfOk result (λ t. tree_view t ≡ spec.fields_tree fields.now item.now.place item.now.joined item.now.tests (Names names.now)) }
     ensures err { IfErr result (λ e. e ≡ Fault.Memory) }
 {
     let mut parts = Vec::new(alloc);
     for name in names {
         let field = numbers.find(fields, name);
-        let part = lower_values(
-            alloc,
-            item.place,
-            item.joined,
-            item.tests.as_slice(),
-            field,
-        )?;
+        let part = lower_values(alloc, item.place, item.joined, item.tests.as_slice(), field)?;
         add_part(Joined::Any, &mut parts, part)?;
     }
     Ok(close_parts(Joined::Any, parts))
@@ -144,8 +142,7 @@ fn lower_keywords(
     numbers: &Numbers,
     item: &Item,
 ) -> Result<Tree, Fault>
-    requires few { length fields.now < 2 ^ 32 }
-    requires numbered { Numbered fields.now numbers.now }
+    requires { Numbered fields.now numbers.now }
     ensures ok { IfOk result (λ t. tree_view t ≡ spec.fields_tree fields.now item.now.place item.now.joined item.now.tests Keyword) }
     ensures err { IfErr result (λ e. e ≡ Fault.Memory) }
 {
@@ -163,8 +160,7 @@ fn lower_item(
     numbers: &Numbers,
     item: &Item,
 ) -> Result<Tree, Fault>
-    requires few { length fields.now < 2 ^ 32 }
-    requires numbered { Numbered fields.now numbers.now }
+    requires { Numbered fields.now numbers.now }
     ensures ok { IfOk result (λ t. tree_view t ≡ spec.item_tree fields.now item.now) }
     ensures err { IfErr result (λ e. e ≡ Fault.Memory) }
 {
@@ -181,8 +177,7 @@ fn lower_alternative(
     numbers: &Numbers,
     items: &[Item],
 ) -> Result<Tree, Fault>
-    requires few { length fields.now < 2 ^ 32 }
-    requires numbered { Numbered fields.now numbers.now }
+    requires { Numbered fields.now numbers.now }
     ensures ok { IfOk result (λ t. tree_view t ≡ spec.alternative_tree fields.now items.now) }
     ensures err { IfErr result (λ e. e ≡ Fault.Memory) }
 {
@@ -201,8 +196,7 @@ fn lower_detection(
     numbers: &Numbers,
     detection: &Detection,
 ) -> Result<Tree, Fault>
-    requires few { length fields.now < 2 ^ 32 }
-    requires numbered { Numbered fields.now numbers.now }
+    requires { Numbered fields.now numbers.now }
     ensures ok { IfOk result (λ t. tree_view t ≡ spec.detection_tree fields.now detection.now) }
     ensures err { IfErr result (λ e. e ≡ Fault.Memory) }
 {
@@ -222,8 +216,7 @@ pub fn lower_numbered(
     detections: &[Detection],
     number: u32,
 ) -> Result<Tree, Fault>
-    requires few { length fields.now < 2 ^ 32 }
-    requires numbered { Numbered fields.now numbers.now }
+    requires { Numbered fields.now numbers.now }
     ensures ok { IfOk result (λ t. tree_view t ≡ spec.numbered_tree fields.now detections.now number) }
     ensures err { IfErr result (λ e. e ≡ Fault.Memory) }
 {

@@ -65,12 +65,14 @@ fn search_fields(
 }
 
 impl Numbers {
-    /// The numbers of these fields.
+    /// The numbers of these fields. More than 2^32 - 1 can't be numbered, which is want of memory.
     pub fn of(alloc: Global, fields: &[Field]) -> Result<Numbers, Fault>
-        requires { length fields.now < 2 ^ 32 }
         ensures ok { IfOk result (λ numbers. Numbered fields.now numbers) }
         ensures err { IfErr result (λ e. e ≡ Fault.Memory) }
     {
+        if fields.len() > u32::MAX as usize {
+            return Err(Fault::Memory);
+        }
         let index = index_fields(alloc, fields)?;
         let searched = search_fields(alloc, &index, fields)?;
         Ok(Numbers { index, searched })
@@ -78,8 +80,7 @@ impl Numbers {
 
     /// The number of the field of this name, or the number behind the last field's.
     pub fn find(&self, fields: &[Field], name: &Text) -> u32
-        requires few { length fields.now < 2 ^ 32 }
-        requires numbered { Numbered fields.now self.now }
+        requires { Numbered fields.now self.now }
         ensures { result ≡ number_of fields.now name.now }
     {
         number_in(&self.index, fields, name)
