@@ -1,11 +1,10 @@
 -- Fields that are made of names are found by them.
 use Rattle.std.proofs.Common.{ℕ, zero, suc, ◌≡◌, ◌<◌, refl, sym, Bool, true, false, List, [], ◌∷◌, length, map, arith}
 use Rattle.std.specs.Prelude.{Some}
-use Rattle.std.specs.Str.{all_scalars}
 use Rattle.std.proofs.lemmas.Slice.Eq.{bytes_eq-Decides}
 use Rattle.sig_base.specs.Folding.{folded}
 use Rattle.event_schema.specs.Inferred.{text_field}
-use Rattle.sql_lang.specs.Names.{is_named, next, column_of}
+use Rattle.sql_lang.specs.Names.{is_named, column_of}
 use Rattle.sqlite_writer.specs.Guarded.{name_at}
 use Rattle.sqlite_writer.specs.Schemas.{AreTexts, AreScalars, IsOther, AreApart}
 
@@ -14,9 +13,9 @@ named_itself name = (bytes_eq-Decides (folded name) (folded name)).1 refl
 
 named_other : (name later : List ℕ) → (folded later ≡ folded name → ⊥) → is_named name later ≡ false
 named_other name later other = by (is_named name later) refl where
-    by : (so : Bool) → is_named name later ≡ so → is_named name later ≡ false
-    by true is = absurd (other (sym ((bytes_eq-Decides (folded name) (folded later)).0 is)))
-    by false is = is
+  by : (so : Bool) → is_named name later ≡ so → is_named name later ≡ false
+  by true is = absurd (other (sym ((bytes_eq-Decides (folded name) (folded later)).0 is)))
+  by false is = is
 
 pub fields_are_texts : (names : List (List ℕ)) → AreScalars names → AreTexts (map text_field names)
 fields_are_texts [] scalars = tt
