@@ -4,3 +4,5 @@ pub mod Flows
 pub mod Blocks
 pub mod Nodes
 pub mod Files
+pub mod Scalars
+pub mod FlowTexts
