@@ -1,7 +1,7 @@
 -- Keys, and trees of one line, have texts of scalar values where the line has.
-use Rattle.std.proofs.Common.{◌≡◌, ℕ, zero, suc, ◌&&◌, ◌||◌, List, [], ◌∷◌, ◌++◌, length, drop, cond, Bool, true, false, not, Option, Some, None, Ok, Err, ◌==◌, ℤ}
+use Rattle.std.proofs.Common.{ℕ, zero, suc, ◌&&◌, ◌||◌, List, [], ◌∷◌, ◌++◌, length, drop, true, false, not, Option, Some, None, Ok, Err, ◌==◌, ℤ}
 use Rattle.std.specs.Str.{bytes_eq}
-use Rattle.yaml_tree.specs.Tree.{At, Scalar, text, Tree, scalar, list, Elements, element, Members, no_members, member, Member}
+use Rattle.yaml_tree.specs.Tree.{At, text, Tree, scalar, list, element, Members, no_members, member, Member}
 use Rattle.yaml_tree.specs.Texts.{IsScalarText, HasScalarTexts, HaveScalarTexts, MembersHave}
 use Rattle.yaml_lines.specs.File.{Line, begins, blank_or_end, skip_blanks, ends_line}
 use Rattle.yaml_lines.specs.Line.{spot, Read, starts_plain, plain_front, plain_rest, is_left_out}

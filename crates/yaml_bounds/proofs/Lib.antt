@@ -6,3 +6,6 @@ pub mod Nodes
 pub mod Files
 pub mod Scalars
 pub mod FlowTexts
+pub mod BlockTexts
+pub mod NodeTexts
+pub mod FileTexts

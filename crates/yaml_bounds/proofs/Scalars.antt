@@ -7,7 +7,7 @@ use Rattle.std.proofs.Math.Utf8.{scalar}
 use Rattle.std.proofs.lemmas.Bool.Decides.{nat_tests}
 use Rattle.yaml_lines.specs.File.{is_blank, is_empty, skip_blanks}
 use Rattle.yaml_lines.specs.Line.{Read, ◌>>=◌, plain_len, trimmed, plain_front, plain_rest}
-use Rattle.yaml_lines.specs.Scalar.{is_digit, Quoted, closed, open_ended, bad_escape, behind, passed, single, hex_value, hex_step, hex_front, is_surrogate, scalar_of, taking, escape, escaped, double, feeds, joint}
+use Rattle.yaml_lines.specs.Scalar.{is_digit, Quoted, closed, open_ended, bad_escape, behind, passed, single, hex_value, hex_step, hex_front, is_surrogate, taking, escape, escaped, double, feeds, joint}
 use Rattle.yaml_blocks.proofs.Tools.{both}
 
 abbrev pub AreScalars : List ℕ → Type 0
@@ -21,7 +21,7 @@ pub all_of_scalars : (cs : List ℕ) → AreScalars cs → all_scalars cs ≡ tr
 all_of_scalars [] h = refl
 all_of_scalars (c ∷ cs) h = let here = h.0 in rw here (all_of_scalars cs h.1)
 
--- ---- what holds on either branch, of each element, and of what is read
+-- ---- on either branch, of each element, and where the reading does not stop
 
 pub if_both : {A : Type 0} (P : A → Type 0) (b : Bool) (x y : A) → P x → P y → P (cond b x y)
 if_both P true x y h k = h
@@ -41,7 +41,6 @@ pub all_append : {A : Type 0} (P : A → Type 0) (xs ys : List A) → AllByRecur
 all_append P [] ys h k = k
 all_append P (x ∷ xs) ys h k = (h.0, all_append P xs ys h.1 k)
 
--- what is read, if the reading does not stop
 abbrev pub Gives : {A : Type 0} → (A → Type 0) → Read A → Type 0
 Gives P (Ok x) = P x
 Gives P (Err s) = Unit {0}
