@@ -8,6 +8,7 @@ pub mod KeyLemmas
 pub mod Lines
 pub mod OneRule
 pub mod RuleLemmas
+pub mod SomeRule
 pub mod Texts
 pub mod Views
 pub mod WholeItems
