@@ -12,6 +12,7 @@ pub mod SomeRule
 pub mod Texts
 pub mod Views
 pub mod WholeItems
+pub mod WholeRule
 pub mod Zips
 pub mod Gathering
 pub mod Gathered

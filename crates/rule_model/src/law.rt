@@ -3,12 +3,14 @@
 
 ghost use Rattle.std.specs.Prelude.{◌≡◌, None};
 ghost use Rattle.sig_base.specs.declared.limits.Limits.{Limits};
+ghost use Rattle.yaml_tree.specs.Texts.{HasScalarTexts};
 ghost use Rattle.yaml_tree.specs.Tree.{Tree};
 ghost use Rattle.rule_model.specs.Plain.{PlainRule};
 ghost use Rattle.rule_model.specs.Rules.{rule_refusal, IsRule};
+ghost use Rattle.rule_model.specs.Whole.{IsWhole};
 
 use sig_conditions::one_condition;
-use sig_modifiers::{one_tests, tests_or_refusal};
+use sig_modifiers::{one_tests, plain_tests, tests_or_refusal};
 
 /// A document is one rule, if any.
 pub fn one_rule()
@@ -23,4 +25,12 @@ pub fn rule_or_refusal()
     ensures { (limits : Limits) (t : Tree) → rule_refusal limits t ≡ None → (rule : PlainRule) × IsRule t rule }
 {
     tests_or_refusal();
+}
+
+/// A rule of a document that no line of the table refuses, and whose texts are of Unicode scalar values, is whole.
+pub fn rules_are_whole()
+    ensures { (limits : Limits) (t : Tree) (rule : PlainRule)
+        → rule_refusal limits t ≡ None → IsRule t rule → HasScalarTexts t → IsWhole rule }
+{
+    plain_tests();
 }
