@@ -8,9 +8,11 @@ pub mod KeyLemmas
 pub mod Lines
 pub mod OneRule
 pub mod RuleLemmas
+pub mod SomeRule
 pub mod Texts
 pub mod Views
 pub mod WholeItems
+pub mod WholeRule
 pub mod Zips
 pub mod Gathering
 pub mod Gathered

@@ -4,7 +4,7 @@
 pub use detection::{Alternative, Alternatives, Detection, Detections};
 pub use head::Head;
 pub use item::{Fields, Item, Values};
-pub use law::one_rule;
+pub use law::{one_rule, rule_or_refusal, rules_are_whole};
 pub use rule::Rule;
 pub use source::LogSource;
 
