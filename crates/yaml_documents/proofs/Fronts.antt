@@ -1,0 +1,90 @@
+-- The lines at the front of a document, by tests that they pass.
+use Rattle.std.proofs.Common.{◌≡◌, ℕ, suc, ◌+◌, ◌<◌, ◌≤◌, Bool, true, false, not, cond, ◌&&◌, ◌||◌, ◌⊎◌, inl, inr, List, [], ◌∷◌, ◌++◌, length, take, refl, sym, ap, ◌∙◌, arith}
+use Rattle.std.specs.List.{prefix_len, list_any, list_all}
+use Rattle.yaml_lines.specs.declared.line.Line as code
+use Rattle.yaml_lines.specs.File.{Line, carries_nothing, carries}
+use Rattle.yaml_lines.specs.Line.{is_void}
+use Rattle.yaml_lines.specs.View.{line_view}
+use Rattle.yaml_blocks.specs.Blocks.{skip_void}
+use Rattle.yaml_blocks.specs.Documents.{has_content}
+use Rattle.yaml_blocks.specs.Views.{lines_view}
+use Rattle.yaml_blocks.proofs.Tools.{both, neither, choose}
+
+-- a count over the code's lines
+pub prefix_view : (p : Line → Bool) (xs : List code.Line) → prefix_len (λ l. p (line_view l)) xs ≡ prefix_len p (lines_view xs)
+prefix_view p [] = refl
+prefix_view p (x ∷ xs) = ap (λ (n : ℕ). cond (p (line_view x)) (1 + n) 0) (prefix_view p xs)
+
+pub all_before : (p : Line → Bool) (a b : List Line) → list_all p (a ++ b) ≡ true → list_all p a ≡ true
+all_before p [] b e = refl
+all_before p (l ∷ ls) b e = let h = both (p l) (list_all p (ls ++ b)) e in rw h.0 (all_before p ls b h.1)
+
+pub all_behind : (p : Line → Bool) (a b : List Line) → list_all p (a ++ b) ≡ true → list_all p b ≡ true
+all_behind p [] b e = e
+all_behind p (l ∷ ls) b e = all_behind p ls b (both (p l) (list_all p (ls ++ b)) e).1
+
+is_bool : (b : Bool) → (b ≡ true) ⊎ (b ≡ false)
+is_bool true = inl refl
+is_bool false = inr refl
+
+-- no more lines than pass
+pub all_counted : (p : Line → Bool) (a b : List Line) → length a ≤ prefix_len p (a ++ b) → list_all p a ≡ true
+all_counted p [] b h = refl
+all_counted p (l ∷ ls) b h =
+    elim (is_bool (p l)) [
+      | inl is ↦ let g : suc (length ls) ≤ 1 + prefix_len p (ls ++ b) = rw is at h in rw is (all_counted p ls b (omega arith))
+      | inr is ↦ let g : suc (length ls) ≤ 0 = rw is at h in absurd (omega arith)
+    ]
+
+-- more lines than pass
+pub not_all : (p : Line → Bool) (a b : List Line) → prefix_len p (a ++ b) < length a → list_all p a ≡ false
+not_all p [] b h = absurd (omega arith)
+not_all p (l ∷ ls) b h =
+    elim (is_bool (p l)) [
+      | inl is ↦ let g : 1 + prefix_len p (ls ++ b) < suc (length ls) = rw is at h in rw is (not_all p ls b (omega arith))
+      | inr is ↦ rw is refl
+    ]
+
+-- ---- content
+
+pub void_all : (ls : List Line) → list_all is_void ls ≡ true → has_content ls ≡ false
+unfolding is_void
+void_all [] e = refl
+void_all (l ∷ ls) e = let h = both (carries_nothing l.text) (list_all is_void ls) e in rw h.0 (void_all ls h.1)
+
+pub void_not_all : (ls : List Line) → list_all is_void ls ≡ false → has_content ls ≡ true
+unfolding is_void
+void_not_all [] e = cc
+void_not_all (l ∷ ls) e =
+    elim (is_bool (carries_nothing l.text)) [
+      | inl is ↦ rw is (void_not_all ls (rw is at e))
+      | inr is ↦ rw is refl
+    ]
+
+pub content_ends : (ls : List Line) → has_content ls ≡ true → prefix_len is_void ls < length ls
+unfolding is_void
+content_ends [] e = cc
+content_ends (l ∷ ls) e =
+    elim (is_bool (carries_nothing l.text)) [
+      | inl is ↦ let h : prefix_len is_void ls < length ls = content_ends ls (rw is at e) in rw is (omega arith)
+      | inr is ↦ rw is (omega arith)
+    ]
+
+-- lines without content are passed over
+pub skip_all : (ls : List Line) → has_content ls ≡ false → skip_void ls ≡ []
+unfolding is_void
+skip_all [] e = refl
+skip_all (l ∷ ls) e =
+    elim (is_bool (carries_nothing l.text)) [
+      | inl is ↦ rw is (skip_all ls (rw is at e))
+      | inr is ↦ let g : true ≡ false = rw is at e in cc
+    ]
+
+pub content_begins : (ls : List Line) → has_content ls ≡ true → (first : Line) × (more : List Line) × (skip_void ls ≡ first ∷ more)
+unfolding is_void
+content_begins [] e = cc
+content_begins (l ∷ ls) e =
+    elim (is_bool (carries_nothing l.text)) [
+      | inl is ↦ let (first, more, begins) = content_begins ls (rw is at e) in (first, more, rw is begins)
+      | inr is ↦ (l, ls, rw is refl)
+    ]

@@ -1,0 +1,10 @@
+pub mod OneLine
+pub mod OneMore
+pub mod Fronts
+pub mod Refusing
+pub mod Splits
+pub mod Giving
+pub mod Placing
+pub mod Ready
+pub mod Judging
+pub mod Taking
