@@ -6,6 +6,8 @@ pub use fields::Fields;
 pub use schema::{Field, FieldKind, Schema, Time, TimeForm};
 pub use value::{Value, decimal, decimal_in};
 
+#[cfg(test)]
+mod checks;
 mod event;
 mod fields;
 mod schema;

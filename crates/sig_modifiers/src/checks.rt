@@ -1,8 +1,10 @@
-use crate::{Chain, Joined, Test};
-use sig_base::{Detail, Fault, Limits, Place, Text};
+//! Rows of the table of chains, reckoned by hand.
+
+use crate::{Chain, Joined, Test, Tests};
+use sig_base::{Detail, Fault, Limits, Place, Refusal, Text};
 use std::alloc::Global;
 use std::test::Fail;
-use yaml_tree::Node;
+use yaml_tree::{Kind, Node};
 
 const KEY: Place = Place { line: 6, column: 5 };
 
@@ -11,26 +13,18 @@ const VALUE: Place = Place {
     column: 12,
 };
 
-fn words_of(alloc: Global, words: &[&str]) -> Result<Vec<Text>, Fail> {
+fn chain(alloc: Global, words: &[&str], keyword: bool) -> Result<Result<Chain, Fault>, Fail> {
     let mut texts = Vec::new(alloc);
     for word in words {
         texts.push(Text::copy(alloc, word)?)?;
     }
-    Ok(texts)
+    Ok(Chain::read(alloc, &texts, keyword, KEY))
 }
 
-fn chain(alloc: Global, words: &[&str], keyword: bool) -> Result<Chain, Fail> {
-    Ok(Chain::read(alloc, &words_of(alloc, words)?, keyword, KEY)?)
-}
-
-/// The number and the detail of what refuses the words, which stands at their item.
-fn refused_words(alloc: Global, words: &[&str]) -> Result<String, Fail> {
+/// The number and the detail of a refusal, or nothing where it stands elsewhere.
+fn refused(alloc: Global, refusal: &Refusal, place: Place) -> Result<String, Fail> {
     let mut shown = String::new(alloc);
-    let Err(Fault::Refused(refusal)) = Chain::read(alloc, &words_of(alloc, words)?, false, KEY)
-    else {
-        return Ok(shown);
-    };
-    if refusal.place != KEY {
+    if refusal.place != place {
         return Ok(shown);
     }
     let code = refusal.code.number();
@@ -42,103 +36,233 @@ fn refused_words(alloc: Global, words: &[&str]) -> Result<String, Fail> {
     Ok(shown)
 }
 
+/// What refuses the words, or nothing.
+fn refused_words(alloc: Global, words: &[&str], keyword: bool) -> Result<String, Fail> {
+    let Err(Fault::Refused(refusal)) = chain(alloc, words, keyword)? else {
+        return Ok(String::new(alloc));
+    };
+    refused(alloc, &refusal, KEY)
+}
+
 #[test]
 fn words_are_refused(rt: HostRuntime) -> Result<(), Fail> {
     let alloc = rt.alloc();
-    for (words, want) in [
-        (["near", "near"].as_slice(), "40 near"),
-        (["contains", "startswith"].as_slice(), "41"),
-        (["cased", "cased"].as_slice(), "41"),
+    for (words, keyword, want) in [
+        (["near", "near"].as_slice(), false, "40 near"),
+        (["contains", "startswith"].as_slice(), false, "41"),
+        (["contains", "all", "startswith"].as_slice(), true, "41"),
+        (["cased", "cased"].as_slice(), false, "41"),
+        (["all", "contains", "all"].as_slice(), false, "41"),
         (
             ["contains", "startswith", "near", "far"].as_slice(),
+            false,
             "40 near",
         ),
-        (["cased", ""].as_slice(), "40 "),
-        (["Contains"].as_slice(), "40 Contains"),
-        (["cased", "endswith"].as_slice(), ""),
-        ([].as_slice(), ""),
+        (["cased", ""].as_slice(), false, "40 "),
+        (["Contains"].as_slice(), false, "40 Contains"),
+        (["exists"].as_slice(), false, ""),
+        (["exists"].as_slice(), true, "41"),
+        (["exists", "near"].as_slice(), true, "40 near"),
+        (["exists", "all"].as_slice(), false, "41"),
+        (["cased", "exists"].as_slice(), false, "41"),
+        (["exists", "exists"].as_slice(), false, "41"),
+        (["cased", "all", "endswith"].as_slice(), true, ""),
+        ([].as_slice(), false, ""),
+        ([].as_slice(), true, ""),
     ] {
-        assert_eq!(rt; refused_words(alloc, words)?.as_str(), want);
+        assert_eq!(rt; refused_words(alloc, words, keyword)?.as_str(), want);
     }
     Ok(())
 }
 
-/// How the one test that the words make of a text shows the text, with `*` for a run.
-fn shown(alloc: Global, words: &[&str], keyword: bool, text: &str) -> Result<String, Fail> {
-    let chain = chain(alloc, words, keyword)?;
-    let value = Node::text(VALUE, Text::copy(alloc, text)?);
-    let tests = crate::resolve(alloc, &Limits::standard(), &chain, &value)?.copy(alloc)?;
-    let mut shown = String::new(alloc);
-    for test in tests.as_slice() {
-        let Test::Fits { pattern, cased } = test else {
-            return Ok(shown);
-        };
-        let text = if pattern.is_written() {
-            pattern.write_sigma(alloc)?
-        } else {
-            Text::new(alloc)
-        };
-        shown.push_str(text.as_str())?;
-        if *cased {
-            shown.push_str(" cased")?;
+#[test]
+fn all_joins(rt: HostRuntime) -> Result<(), Fail> {
+    let alloc = rt.alloc();
+    for (words, want) in [
+        ([].as_slice(), Joined::Any),
+        (["contains", "cased"].as_slice(), Joined::Any),
+        (["contains", "all"].as_slice(), Joined::All),
+        (["all"].as_slice(), Joined::All),
+    ] {
+        let chain = chain(alloc, words, false)??;
+        assert_eq!(rt; chain.joined(), want);
+    }
+    Ok(())
+}
+
+/// A value by how it's written here: a text where it's nothing else.
+fn value(alloc: Global, written: &str) -> Result<Node, Fail> {
+    let kind = match written {
+        "null" => Kind::Null,
+        "true" => Kind::Truth(true),
+        "false" => Kind::Truth(false),
+        "-7" => Kind::Whole(-7),
+        "1234" => Kind::Whole(1234),
+        "least" => Kind::Whole(i64::MIN),
+        "list" => Kind::List(Vec::new(alloc)),
+        "map" => Kind::Map(Vec::new(alloc)),
+        _ => Kind::Text(Text::copy(alloc, written)?),
+    };
+    Ok(Node { place: VALUE, kind })
+}
+
+/// A test: a pattern with `*` for a run.
+fn shown(alloc: Global, test: &Test) -> Result<String, Fail> {
+    match test {
+        Test::Absent => Ok(format!(in alloc; "absent")?),
+        Test::Exists(exists) => Ok(format!(in alloc; "exists {exists}")?),
+        Test::Equals(number) => Ok(format!(in alloc; "= {number}")?),
+        Test::Fits { pattern, cased } => {
+            if !pattern.is_written() {
+                return Ok(String::new(alloc));
+            }
+            let text = pattern.write_sigma(alloc)?;
+            let end = if *cased { " cased" } else { "" };
+            Ok(format!(in alloc; "{}{end}", text.as_str())?)
         }
     }
-    Ok(shown)
+}
+
+fn all_shown(alloc: Global, tests: &Tests) -> Result<String, Fail> {
+    let mut all = String::new(alloc);
+    for test in tests.as_slice() {
+        all.push_str(&shown(alloc, test)?)?;
+    }
+    Ok(all)
+}
+
+/// The tests that the words make of a value, or what refuses it.
+fn resolved(
+    alloc: Global,
+    limits: &Limits,
+    words: &[&str],
+    keyword: bool,
+    written: &str,
+) -> Result<String, Fail> {
+    let chain = chain(alloc, words, keyword)??;
+    match crate::resolve(alloc, limits, &chain, &value(alloc, written)?) {
+        Ok(tests) => all_shown(alloc, &tests.copy(alloc)?),
+        Err(Fault::Refused(refusal)) => refused(alloc, &refusal, VALUE),
+        Err(Fault::Memory) => Ok(String::new(alloc)),
+    }
 }
 
 #[test]
 fn texts_become_patterns(rt: HostRuntime) -> Result<(), Fail> {
     let alloc = rt.alloc();
+    let limits = Limits::standard();
     for (words, keyword, text, want) in [
         ([].as_slice(), false, r"a\b", r"a\\b"),
         (["contains"].as_slice(), false, "100%_x", "*100%_x*"),
-        (["startswith"].as_slice(), false, "100%_x", "100%_x*"),
+        (["startswith", "all"].as_slice(), false, "100%_x", "100%_x*"),
         (
             ["endswith", "cased"].as_slice(),
             false,
             "*.exe",
             "*.exe cased",
         ),
+        (["all"].as_slice(), false, "a", "a"),
         ([].as_slice(), true, "a", "*a*"),
         (["cased"].as_slice(), true, "*a", "*a* cased"),
         (["startswith"].as_slice(), true, "a", "a*"),
     ] {
         assert_eq!(rt;
-            shown(alloc, words, keyword, text)?.as_str(),
+            resolved(alloc, &limits, words, keyword, text)?.as_str(),
             want,
             "{text}"
         );
     }
-    let joined = chain(alloc, ["contains"].as_slice(), false)?.joined();
-    assert_eq!(rt; joined, Joined::Any);
     Ok(())
 }
 
-/// The number of what refuses a value, which stands there.
-fn refused_value(alloc: Global, limits: &Limits, value: &Node) -> Result<u16, Fail> {
-    let chain = chain(alloc, ["contains"].as_slice(), false)?;
-    let Err(Fault::Refused(refusal)) = crate::resolve(alloc, limits, &chain, value) else {
-        return Ok(0);
-    };
-    if refusal.place != VALUE {
-        return Ok(0);
+#[test]
+fn other_values_by_their_chains(rt: HostRuntime) -> Result<(), Fail> {
+    let alloc = rt.alloc();
+    let limits = Limits::standard();
+    for (words, keyword, wants) in [
+        (
+            [].as_slice(),
+            false,
+            ["absent", "true", "= -7", "= -9223372036854775808", "42"],
+        ),
+        (
+            ["exists"].as_slice(),
+            false,
+            ["42", "exists true", "42", "42", "42"],
+        ),
+        (
+            ["contains"].as_slice(),
+            false,
+            ["42", "*true*", "*-7*", "*-9223372036854775808*", "42"],
+        ),
+        (
+            ["all", "cased"].as_slice(),
+            false,
+            [
+                "absent",
+                "true cased",
+                "-7 cased",
+                "-9223372036854775808 cased",
+                "42",
+            ],
+        ),
+        (
+            ["cased", "endswith"].as_slice(),
+            false,
+            [
+                "42",
+                "*true cased",
+                "*-7 cased",
+                "*-9223372036854775808 cased",
+                "42",
+            ],
+        ),
+        (
+            [].as_slice(),
+            true,
+            ["42", "*true*", "*-7*", "*-9223372036854775808*", "42"],
+        ),
+        (
+            ["all"].as_slice(),
+            true,
+            ["42", "*true*", "*-7*", "*-9223372036854775808*", "42"],
+        ),
+    ] {
+        for (written, want) in ["null", "true", "-7", "least", "list"].iter().zip(&wants) {
+            assert_eq!(rt;
+                resolved(alloc, &limits, words, keyword, written)?.as_str(),
+                *want,
+                "{written}"
+            );
+        }
     }
-    Ok(refusal.code.number())
+    Ok(())
 }
 
 #[test]
-fn values_are_refused(rt: HostRuntime) -> Result<(), Fail> {
+fn the_first_cause_is_told(rt: HostRuntime) -> Result<(), Fail> {
     let alloc = rt.alloc();
     let mut limits = Limits::standard();
-    limits.value_chars = 2;
-    for (text, want) in [("a\0", 50), ("\u{e9}\u{e9}", 0), ("abc", 49), ("a\0c", 49)] {
-        let value = Node::text(VALUE, Text::copy(alloc, text)?);
-        assert_eq!(rt; refused_value(alloc, &limits, &value)?, want, "{text}");
+    limits.value_chars = 3;
+    for (words, written, want) in [
+        (["contains"].as_slice(), "abc", "*abc*"),
+        (["contains"].as_slice(), "\u{e9}\u{e9}\u{e9}\u{e9}", "49"),
+        (["contains"].as_slice(), "a\0", "50"),
+        (["contains"].as_slice(), "ab\0d", "49"),
+        (["exists"].as_slice(), "ab\0d", "42"),
+        (["exists"].as_slice(), "false", "exists false"),
+        (["contains"].as_slice(), "false", "49"),
+        ([].as_slice(), "false", "49"),
+        (["cased"].as_slice(), "1234", "49"),
+        ([].as_slice(), "1234", "= 1234"),
+        (["contains"].as_slice(), "map", "42"),
+        ([].as_slice(), "", ""),
+    ] {
+        assert_eq!(rt;
+            resolved(alloc, &limits, words, false, written)?.as_str(),
+            want,
+            "{written}"
+        );
     }
-    assert_eq!(rt; refused_value(alloc, &limits, &Node::null(VALUE))?, 42);
-    assert_eq!(rt;
-        refused_value(alloc, &limits, &Node::list(VALUE, Vec::new(alloc)))?,
-        42
-    );
     Ok(())
 }

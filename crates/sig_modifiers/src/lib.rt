@@ -16,6 +16,8 @@ mod counting;
 mod editing;
 mod form;
 mod holding;
+#[cfg(test)]
+mod holding_checks;
 mod law;
 mod modifier;
 mod reading;

@@ -28,19 +28,19 @@ map_map : {A B C : Type 0} (f : B → C) (g : A → B) (r : Front A) → front_m
 map_map f g (Ok p) = refl
 map_map f g (Err s) = refl
 
-put_elements-push : (ts : List Tree) (t : Tree) (es : Elements) → put_elements ts (element t es) ≡ put_elements (ts ++ t ∷ []) es
+pub put_elements-push : (ts : List Tree) (t : Tree) (es : Elements) → put_elements ts (element t es) ≡ put_elements (ts ++ t ∷ []) es
 put_elements-push [] t es = refl
 put_elements-push (u ∷ us) t es = ap (element u) (put_elements-push us t es)
 
-put_elements-end : (ts : List Tree) → put_elements ts no_elements ≡ elements_of ts
+pub put_elements-end : (ts : List Tree) → put_elements ts no_elements ≡ elements_of ts
 put_elements-end [] = refl
 put_elements-end (t ∷ ts) = ap (element t) (put_elements-end ts)
 
-put_members-push : (us : List Member) (m : Member) (ms : Members) → put_members us (member m.key m.place m.value ms) ≡ put_members (us ++ m ∷ []) ms
+pub put_members-push : (us : List Member) (m : Member) (ms : Members) → put_members us (member m.key m.place m.value ms) ≡ put_members (us ++ m ∷ []) ms
 put_members-push [] m ms = refl
 put_members-push (u ∷ us) m ms = ap (member u.key u.place u.value) (put_members-push us m ms)
 
-put_members-end : (us : List Member) → put_members us no_members ≡ members_of us
+pub put_members-end : (us : List Member) → put_members us no_members ≡ members_of us
 put_members-end [] = refl
 put_members-end (u ∷ us) = ap (member u.key u.place u.value) (put_members-end us)
 

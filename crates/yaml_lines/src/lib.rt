@@ -3,6 +3,7 @@
 
 pub use halt::{Halt, Opening};
 pub use line::Line;
+pub use seen::Seen;
 
 pub mod flow;
 mod halt;

@@ -1,0 +1,103 @@
+//! Tests and values, reckoned by hand.
+
+use crate::Test;
+use event_schema::{Event, Field, FieldKind, Fields, Schema, Value};
+use sig_base::{Limits, Place, Text, Texts};
+use sig_strings::Pattern;
+use std::alloc::Global;
+use std::test::Fail;
+
+fn field(alloc: Global, name: &str, kind: FieldKind) -> Result<Field, Fail> {
+    let mut at = Texts::new(alloc);
+    at.push(Text::copy(alloc, name)?)?;
+    Ok(Field {
+        name: Text::copy(alloc, name)?,
+        kind,
+        at,
+        search: false,
+        cased: false,
+    })
+}
+
+fn schema(alloc: Global) -> Result<Schema, Fail> {
+    let mut fields = Fields::new(alloc);
+    fields.push(field(alloc, "Image", FieldKind::Text)?)?;
+    fields.push(field(alloc, "Size", FieldKind::Whole)?)?;
+    Ok(Schema {
+        table: Text::copy(alloc, "events")?,
+        fields,
+        time: None,
+    })
+}
+
+fn event(alloc: Global, image: &str, size: i64) -> Result<Event, Fail> {
+    let mut values = Vec::new(alloc);
+    values.push(Some(Value::Text(Text::copy(alloc, image)?)))?;
+    values.push(Some(Value::Whole(size)))?;
+    Ok(Event::new(values, None))
+}
+
+fn fits(alloc: Global, text: &str, cased: bool) -> Result<Test, Fail> {
+    let place = Place::START;
+    let pattern = Pattern::read(alloc, &Limits::standard(), text, false, place)?;
+    Ok(Test::Fits { pattern, cased })
+}
+
+#[test]
+fn tests_of_values(rt: HostRuntime) -> Result<(), Fail> {
+    let alloc = rt.alloc();
+    let schema = schema(alloc)?;
+    let event = event(alloc, r"C:\Cmd.exe", -7)?;
+    for (test, name, want) in [
+        (Test::Absent, "Image", false),
+        (Test::Exists(true), "Image", true),
+        (Test::Exists(false), "Size", false),
+        (fits(alloc, r"*\cmd.exe", false)?, "Image", true),
+        (fits(alloc, r"*\cmd.exe", true)?, "Image", false),
+        (fits(alloc, r"*\Cmd.exe", true)?, "Image", true),
+        (fits(alloc, "-?", false)?, "Size", true),
+        (fits(alloc, "7", false)?, "Size", false),
+        (Test::Equals(-7), "Size", true),
+        (Test::Equals(7), "Size", false),
+        (Test::Equals(-7), "Image", false),
+        (Test::Absent, "image", true),
+    ] {
+        assert_eq!(rt; test.holds(&schema, name, &event), want, "{test:?}");
+    }
+    Ok(())
+}
+
+#[test]
+fn tests_without_values(rt: HostRuntime) -> Result<(), Fail> {
+    let alloc = rt.alloc();
+    let schema = schema(alloc)?;
+    let mut values = Vec::new(alloc);
+    values.push(None)?;
+    values.push(None)?;
+    let event = Event::new(values, None);
+    for (test, want) in [
+        (Test::Absent, true),
+        (Test::Exists(true), false),
+        (Test::Exists(false), true),
+        (fits(alloc, "*", false)?, false),
+        (Test::Equals(0), false),
+    ] {
+        assert_eq!(rt; test.holds(&schema, "Size", &event), want, "{test:?}");
+    }
+    Ok(())
+}
+
+#[test]
+fn numbers_in_texts(rt: HostRuntime) -> Result<(), Fail> {
+    let alloc = rt.alloc();
+    let schema = schema(alloc)?;
+    for (text, want) in [("7", true), ("07", false), ("+7", false), ("7 ", false)] {
+        let event = event(alloc, text, 0)?;
+        assert_eq!(rt;
+            Test::Equals(7).holds(&schema, "Image", &event),
+            want,
+            "{text}"
+        );
+    }
+    Ok(())
+}

@@ -1,0 +1,104 @@
+//! Nodes that are no block collection: scalars and flow collections.
+
+ghost use Rattle.std.specs.Prelude.{◌≡◌, ◌≤◌, false, length, Ok, IfOk};
+ghost use Rattle.yaml_tree.specs.Tree.{At, scalar};
+ghost use Rattle.yaml_tree.specs.View.{node_view, kind_view};
+ghost use Rattle.yaml_lines.specs.File as file;
+ghost use Rattle.yaml_lines.specs.Line as spec_line;
+ghost use Rattle.yaml_lines.specs.Scalar as scalars;
+ghost use Rattle.yaml_lines.specs.View.{line_view, Gives};
+ghost use Rattle.yaml_blocks.specs.Blocks as blocks;
+ghost use Rattle.yaml_blocks.specs.Reading as reading;
+ghost use Rattle.yaml_blocks.specs.Views.{lines_view};
+ghost use Rattle.yaml_nodes.specs.Items as spec;
+
+use crate::inside::offset;
+use sig_base::{Code, Text};
+use std::alloc::{AllocError, Global};
+use yaml_blocks::content::block_scalar;
+use yaml_blocks::lines::nothing_in;
+use yaml_blocks::plain::plain_text;
+use yaml_lines::flow::{flow_node, is_bracket, is_quote, no_reading, quoted, refused};
+use yaml_lines::scan::{begins, ends_line, is_left_out, spot, starts_plain};
+use yaml_lines::word::resolved;
+use yaml_lines::{Halt, Line};
+use yaml_tree::{Kind, Node};
+
+/// The scalar or the flow collection that begins here, with nothing else in its block.
+#[tactic(auto, unfolding(yaml_blocks::specs::Reading::lone_in))]
+pub fn lone(
+    alloc: Global,
+    depth: usize,
+    least: usize,
+    line: &Line<'_>,
+    rest: &[char],
+    lines: &[Line<'_>],
+) -> Result<Node, Halt>
+    requires within { length rest.now ≤ length line.now.text.now }
+    requires solid { file.blank_or_end rest.now ≡ false }
+    ensures { Gives node_view result (reading.lone_in depth least (line_view line.now) rest.now (lines_view lines.now)) }
+{
+    if is_left_out(rest) || begins('%', rest) && offset(line, rest) == 0 {
+        return Err(refused(Code::UNSUPPORTED, line, rest));
+    }
+    if is_quote(rest) {
+        let (content, after) = quoted(alloc, line, rest)?;
+        return alone(line, after, lines, Node::text(spot(line, rest), content));
+    }
+    if is_bracket(rest) {
+        let (node, after) = flow_node(alloc, depth, line, rest)?;
+        return alone(line, after, lines, node);
+    }
+    if begins('|', rest) || begins('>', rest) {
+        let content = block_scalar(alloc, least, line, rest, lines)?;
+        return Ok(Node::text(spot(line, rest), content));
+    }
+    if !starts_plain(rest) {
+        return Err(no_reading(line));
+    }
+    plain(alloc, least, line, rest, lines)
+}
+
+/// A node that ends its line and its block.
+fn alone(line: &Line<'_>, after: &[char], lines: &[Line<'_>], node: Node) -> Result<Node, Halt>
+    ensures { Gives node_view result (blocks.alone (line_view line.now) after.now (lines_view lines.now) (node_view node)) }
+{
+    if !ends_line(after) {
+        return Err(no_reading(line));
+    }
+    nothing_in(lines)?;
+    Ok(node)
+}
+
+/// The plain scalar that begins here.
+fn plain(
+    alloc: Global,
+    least: usize,
+    line: &Line<'_>,
+    rest: &[char],
+    lines: &[Line<'_>],
+) -> Result<Node, Halt>
+    requires { length rest.now ≤ length line.now.text.now }
+    ensures { Gives node_view result (spec.plain_in least (line_view line.now) rest.now (lines_view lines.now)) }
+{
+    let content = plain_text(alloc, least, line, rest, lines)?;
+    let kind = meant(alloc, &content)?;
+    Ok(Node {
+        place: spot(line, rest),
+        kind,
+    })
+}
+
+/// What the text of a plain scalar is.
+fn meant(alloc: Global, content: &Text) -> Result<Kind, AllocError>
+    ensures { IfOk result (λ k. (a : At) → kind_view k a ≡ scalar a (scalars.resolved content.now)) }
+{
+    let chars = characters(alloc, content)?;
+    resolved(alloc, &chars)
+}
+
+fn characters(alloc: Global, content: &Text) -> Result<Vec<char>, AllocError>
+    ensures { IfOk result (λ v. v.items ≡ content.now) }
+{
+    content.as_str().chars().collect(alloc)
+}

@@ -1,0 +1,307 @@
+//! Block maps and sequences (YAML 1.2, 8.2), and the nodes inside them.
+
+ghost use Rattle.std.specs.Prelude.{◌≡◌, ℕ, List, ◌<◌, ◌≤◌, ◌++◌, ◌∷◌, [], true, false, length, IfOk};
+ghost use Rattle.yaml_tree.specs.View.{place_view, node_view, entry_view};
+ghost use Rattle.yaml_lines.specs.File as file;
+ghost use Rattle.yaml_lines.specs.Line.{is_dash};
+ghost use Rattle.yaml_lines.specs.SeenKeys.{Knows};
+ghost use Rattle.yaml_lines.specs.View.{line_view, text_front, Gives};
+ghost use Rattle.yaml_blocks.specs.Reading as reading;
+ghost use Rattle.yaml_blocks.specs.Views.{lines_view};
+ghost use Rattle.yaml_nodes.specs.Items as spec;
+
+use crate::inside::{after_spaces, content_of, count_void, lines_inside, offset};
+use crate::lone::lone;
+use sig_base::{Code, Place, Text};
+use std::alloc::Global;
+use yaml_blocks::lines::{body, is_barred, lines_behind, stray};
+use yaml_lines::flow::{no_reading, refused};
+use yaml_lines::key::key_at;
+use yaml_lines::scan::{behind, is_dash, spot};
+use yaml_lines::{Halt, Line, Seen};
+use yaml_tree::{Entry, Node};
+
+/// The tree of a block of lines, with collections at most so deep. Null stands at home where the
+/// lines carry nothing.
+pub fn read_block(
+    alloc: Global,
+    depth: usize,
+    home: Place,
+    lines: &[Line<'_>],
+) -> Result<Node, Halt>
+    ensures { Gives node_view result (reading.block_in depth 0 (place_view home) (lines_view lines.now)) }
+{
+    block(alloc, depth, 0, home, lines)
+}
+
+/// The node of a block, in which a scalar's further lines are indented at least so far.
+#[cycle(node)]
+fn block(
+    alloc: Global,
+    depth: usize,
+    least: usize,
+    home: Place,
+    lines: &[Line<'_>],
+) -> Result<Node, Halt>
+    ensures { Gives node_view result (reading.block_in depth least (place_view home) (lines_view lines.now)) }
+{
+    let rest = lines_behind(lines, count_void(lines));
+    let Some((line, more)) = rest.split_first() else {
+        return Ok(Node::null(home));
+    };
+    if is_barred(line) {
+        return Err(stray(line));
+    }
+    node(alloc, depth, true, least, line, body(line), more)
+}
+
+/// The node that begins here, which may be a block collection or not.
+#[cycle(node)]
+fn node(
+    alloc: Global,
+    depth: usize,
+    may: bool,
+    least: usize,
+    line: &Line<'_>,
+    rest: &[char],
+    lines: &[Line<'_>],
+) -> Result<Node, Halt>
+    requires within { length rest.now ≤ length line.now.text.now }
+    requires solid { file.blank_or_end rest.now ≡ false }
+    ensures { Gives node_view result (reading.node_in depth may least (line_view line.now) rest.now (lines_view lines.now)) }
+{
+    if !may {
+        return lone(alloc, depth, least, line, rest, lines);
+    }
+    if is_dash(rest) {
+        return sequence(alloc, depth, line, rest, lines);
+    }
+    let Some(_) = key_at(alloc, line, rest)? else {
+        return lone(alloc, depth, least, line, rest, lines);
+    };
+    map(alloc, depth, line, rest, lines)
+}
+
+/// The sequence that begins here, with collections at most so deep, itself counted.
+#[cycle(node)]
+fn sequence(
+    alloc: Global,
+    depth: usize,
+    line: &Line<'_>,
+    rest: &[char],
+    lines: &[Line<'_>],
+) -> Result<Node, Halt>
+    requires { length rest.now ≤ length line.now.text.now }
+    ensures { Gives node_view result (spec.list_in depth (line_view line.now) rest.now (lines_view lines.now)) }
+{
+    if depth == 0 {
+        return Err(refused(Code::TOO_DEEP, line, rest));
+    }
+    let elements = elements(alloc, depth - 1, line, rest, lines)?;
+    Ok(Node::list(spot(line, rest), elements))
+}
+
+/// The map that begins here, with collections at most so deep, itself counted.
+#[cycle(node)]
+fn map(
+    alloc: Global,
+    depth: usize,
+    line: &Line<'_>,
+    rest: &[char],
+    lines: &[Line<'_>],
+) -> Result<Node, Halt>
+    requires { length rest.now ≤ length line.now.text.now }
+    ensures { Gives node_view result (spec.mapping_in depth (line_view line.now) rest.now (lines_view lines.now)) }
+{
+    if depth == 0 {
+        return Err(refused(Code::TOO_DEEP, line, rest));
+    }
+    let entries = entries(alloc, depth - 1, line, rest, lines)?;
+    Ok(Node::map(spot(line, rest), entries))
+}
+
+/// The elements of the sequence that begins here.
+#[cycle(node)]
+fn elements(
+    alloc: Global,
+    depth: usize,
+    line: &Line<'_>,
+    rest: &[char],
+    lines: &[Line<'_>],
+) -> Result<Vec<Node>, Halt>
+    requires { length rest.now ≤ length line.now.text.now }
+    ensures { Gives spec.elements_given result (spec.elements_at depth (reading.offset (line_view line.now) rest.now) (reading.items_of false (line_view line.now) rest.now (lines_view lines.now))) }
+{
+    let level = offset(line, rest);
+    let mut elements = Vec::new(alloc);
+    let inner = lines_inside(false, level, lines);
+    let first = element(alloc, depth, level, line, rest, inner)?;
+    elements.push(first)?;
+    let mut at = inner.len();
+    while at < lines.len() {
+        let line = &lines[at];
+        let others = lines_behind(lines, at + 1);
+        let inner = lines_inside(false, level, others);
+        let next = element(alloc, depth, level, line, body(line), inner)?;
+        elements.push(next)?;
+        at += 1 + inner.len();
+    }
+    Ok(elements)
+}
+
+/// The element of an item, behind its dash.
+#[cycle(node)]
+#[tactic(auto, unfolding(crate::specs::Items::dashed_in))]
+fn element(
+    alloc: Global,
+    depth: usize,
+    level: usize,
+    line: &Line<'_>,
+    rest: &[char],
+    inner: &[Line<'_>],
+) -> Result<Node, Halt>
+    requires { length rest.now ≤ length line.now.text.now }
+    ensures { Gives node_view result (spec.dashed_in depth level (spec.item line.now rest.now inner.now)) }
+{
+    if is_barred(line) {
+        return Err(stray(line));
+    }
+    if offset(line, rest) != level || !is_dash(rest) {
+        return Err(no_reading(line));
+    }
+    let after = behind(rest, 1);
+    match content_of(after) {
+        None => block(alloc, depth, level + 1, spot(line, rest), inner),
+        Some(next) => node(
+            alloc,
+            depth,
+            after_spaces(after),
+            level + 1,
+            line,
+            next,
+            inner,
+        ),
+    }
+}
+
+/// The entries of the map that begins here.
+#[cycle(node)]
+fn entries(
+    alloc: Global,
+    depth: usize,
+    line: &Line<'_>,
+    rest: &[char],
+    lines: &[Line<'_>],
+) -> Result<Vec<Entry>, Halt>
+    requires { length rest.now ≤ length line.now.text.now }
+    ensures { Gives spec.entries_given result (spec.entries_at depth (reading.offset (line_view line.now) rest.now) [] (reading.items_of true (line_view line.now) rest.now (lines_view lines.now))) }
+{
+    let level = offset(line, rest);
+    let mut seen = Seen::new(alloc);
+    let mut entries = Vec::new(alloc);
+    let inner = lines_inside(true, level, lines);
+    let first = entry(alloc, depth, level, &mut seen, line, rest, inner)?;
+    entries.push(first)?;
+    let mut at = inner.len();
+    while at < lines.len() {
+        let line = &lines[at];
+        let others = lines_behind(lines, at + 1);
+        let inner = lines_inside(true, level, others);
+        let next = entry(alloc, depth, level, &mut seen, line, body(line), inner)?;
+        entries.push(next)?;
+        at += 1 + inner.len();
+    }
+    Ok(entries)
+}
+
+/// The entry of an item, whose key isn't one of those seen.
+#[cycle(node)]
+#[tactic(auto, unfolding(crate::specs::Items::keyed_in))]
+fn entry(
+    alloc: Global,
+    depth: usize,
+    level: usize,
+    seen: &mut Seen,
+    line: &Line<'_>,
+    rest: &[char],
+    inner: &[Line<'_>],
+) -> Result<Entry, Halt>
+    requires { length rest.now ≤ length line.now.text.now }
+    ensures entry { (ks : List (List ℕ)) → Knows seen.old ks → Gives entry_view result (spec.keyed_in depth level ks (spec.item line.now rest.now inner.now)) }
+    ensures seen { (ks : List (List ℕ)) → Knows seen.old ks → IfOk result (λ e. Knows seen.new (ks ++ (entry_view e).key ∷ [])) }
+{
+    let (key, after) = fresh_key(alloc, level, seen, line, rest)?;
+    let place = spot(line, rest);
+    let value = value(alloc, depth, level, place, line, after, inner)?;
+    Ok(Entry { key, place, value })
+}
+
+/// The value behind a key's colon; null has the key's place.
+#[cycle(node)]
+fn value(
+    alloc: Global,
+    depth: usize,
+    level: usize,
+    home: Place,
+    line: &Line<'_>,
+    after: &[char],
+    inner: &[Line<'_>],
+) -> Result<Node, Halt>
+    requires within { length after.now ≤ length line.now.text.now }
+    requires short { level < 4294967295 }
+    ensures { Gives node_view result (spec.behind depth false level (place_view home) (line_view line.now) after.now (lines_view inner.now)) }
+{
+    match content_of(after) {
+        None => block(alloc, depth, level + 1, home, inner),
+        Some(next) => node(alloc, depth, false, level + 1, line, next, inner),
+    }
+}
+
+/// The key of an item at this indentation, and what follows its colon.
+#[tactic(auto, unfolding(crate::specs::Items::item_key))]
+fn item_key<'t>(
+    alloc: Global,
+    level: usize,
+    line: &Line<'_>,
+    rest: &'t [char],
+) -> Result<(Text, &'t [char]), Halt>
+    requires { length rest.now ≤ length line.now.text.now }
+    ensures key { Gives text_front result (spec.item_key level (line_view line.now) rest.now) }
+    ensures short { IfOk result (λ p. level < 4294967295) }
+    ensures shorter { IfOk result (λ p. length p.1.now < length rest.now) }
+{
+    if is_barred(line) {
+        return Err(stray(line));
+    }
+    if offset(line, rest) != level {
+        return Err(no_reading(line));
+    }
+    match key_at(alloc, line, rest)? {
+        Some((key, after)) => Ok((key, after)),
+        None => Err(no_reading(line)),
+    }
+}
+
+/// The key of an item that isn't one of those seen, to which it's added.
+#[tactic(auto, unfolding(crate::specs::Items::key_in))]
+fn fresh_key<'t>(
+    alloc: Global,
+    level: usize,
+    seen: &mut Seen,
+    line: &Line<'_>,
+    rest: &'t [char],
+) -> Result<(Text, &'t [char]), Halt>
+    requires { length rest.now ≤ length line.now.text.now }
+    ensures key { (ks : List (List ℕ)) → Knows seen.old ks → Gives text_front result (spec.key_in level ks (line_view line.now) rest.now) }
+    ensures seen { (ks : List (List ℕ)) → Knows seen.old ks → IfOk result (λ p. Knows seen.new (ks ++ p.0 ∷ [])) }
+    ensures short { IfOk result (λ p. level < 4294967295) }
+    ensures shorter { IfOk result (λ p. length p.1.now < length rest.now) }
+{
+    let (key, after) = item_key(alloc, level, line, rest)?;
+    let fresh = seen.insert(alloc, &key)?;
+    if fresh {
+        Ok((key, after))
+    } else {
+        Err(refused(Code::DUPLICATE_KEY, line, rest))
+    }
+}
