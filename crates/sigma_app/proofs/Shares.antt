@@ -19,17 +19,22 @@ use Rattle.sigma_app.specs.declared.stop.Stop.TheVariants.{Unread, Unwritten, Me
 abbrev pub join : Share → Share → Share
 join a b = record { output = a.output ++ b.output; lines = a.lines ++ b.lines; found = a.found || b.found }
 
-share_of : (ao bo co : List ℕ) (al bl cl : List (List ℕ)) (af bf cf : Bool) → co ≡ ao ++ bo → cl ≡ al ++ bl → cf ≡ (af || bf)
-    → record { output = co; lines = cl; found = cf } ≡ join (record { output = ao; lines = al; found = af }) (record { output = bo; lines = bl; found = bf })
-share_of ao bo co al bl cl af bf cf first second third = rw (first, second, third) refl
+share_of : (a b c : Share) → c.output ≡ a.output ++ b.output → c.lines ≡ a.lines ++ b.lines → c.found ≡ (a.found || b.found) → c ≡ join a b
+share_of a b c first second third =
+    let with_output : List ℕ → Share = λ o. record { output = o; lines = c.lines; found = c.found } in
+    let with_lines : List (List ℕ) → Share = λ l. record { output = a.output ++ b.output; lines = l; found = c.found } in
+    let with_found : Bool → Share = λ f. record { output = a.output ++ b.output; lines = a.lines ++ b.lines; found = f } in
+    ap with_output first ∙ (ap with_lines second ∙ ap with_found third)
 
 pub verdicts_join : (command : Command) (name : List ℕ) (a b : List Verdict) → verdicts_share command name (a ++ b) ≡ join (verdicts_share command name a) (verdicts_share command name b)
 verdicts_join command name a b =
-    share_of _ _ _ _ _ _ _ _ _ (flat_map-append (output_of command name) a b) (flat_map-append (lines_of name) a b) (list_any-append is_refusal a b)
+    share_of (verdicts_share command name a) (verdicts_share command name b) (verdicts_share command name (a ++ b))
+    (flat_map-append (output_of command name) a b) (flat_map-append (lines_of name) a b) (list_any-append is_refusal a b)
 
 pub answers_join : (command : Command) (a b : List Answered) → answers_share command (a ++ b) ≡ join (answers_share command a) (answers_share command b)
 answers_join command a b =
-    share_of _ _ _ _ _ _ _ _ _ (flat_map-append (file_output command) a b) (flat_map-append file_lines a b)
+    share_of (answers_share command a) (answers_share command b) (answers_share command (a ++ b))
+    (flat_map-append (file_output command) a b) (flat_map-append file_lines a b)
     (list_any-append (λ (answer : Answered). list_any is_refusal answer.verdicts) a b)
 
 -- ---- lines
