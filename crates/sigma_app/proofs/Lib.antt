@@ -1,10 +1,7 @@
-pub mod Converting
 pub mod Documented
 pub mod Filed
 pub mod Gone
-pub mod OneVerdict
-pub mod Patterns
-pub mod QueryMeans
+pub mod Judging
 pub mod ReportLines
 pub mod Serving
-pub mod WordLists
+pub mod Shares

@@ -17,10 +17,3 @@ pub record LinesCut (names : List (List ℕ)) (old new : Option (List ℕ)) (lin
   pub parts : lines ≡ whole ++ later
   pub is_part : IsPart names part later
   pub grown : Appends old new (lines_text whole ++ part)
-
--- some of the lines, whole and in order, and then the one about a file that can't be read
-pub record LinesUnread (name : List ℕ) (old new : Option (List ℕ)) (lines : List (List ℕ)) : Type 0 where
-  pub whole : List (List ℕ)
-  pub later : List (List ℕ)
-  pub parts : lines ≡ whole ++ later
-  pub grown : Appends old new (lines_text (whole ++ unread_line name ∷ []))

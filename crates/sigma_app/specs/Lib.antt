@@ -1,13 +1,10 @@
 pub mod Codes
 pub mod Commands
-pub mod Converted
-pub mod Documents
 pub mod Ends
 pub mod Going
-pub mod Matching
-pub mod Queries
+pub mod Laws
 pub mod Reports
-pub mod Rules
 pub mod Served
-pub mod Tested
+pub mod Telling
 pub mod Verdicts
+pub mod Written

@@ -18,10 +18,17 @@ detail_text None = []
 detail_text (Text text) = 32 ∷ encode_utf8_all (map shown text)
 detail_text (Numbers first second) = 32 ∷ (signed_decimal first ++ (32 ∷ signed_decimal second))
 
+-- FILE:LINE:COLUMN: and what follows
+abbrev pub placed : List ℕ → Place → List ℕ → List ℕ
+placed file place rest = file ++ (58 ∷ (decimal place.line ++ (58 ∷ (decimal place.column ++ (58 ∷ 32 ∷ rest)))))
+
 -- FILE:LINE:COLUMN: CODE NAME, and what follows
 abbrev pub line_of : List ℕ → Place → ℕ → List ℕ → List ℕ → List ℕ
-line_of file place number cause rest =
-    file ++ (58 ∷ (decimal place.line ++ (58 ∷ (decimal place.column ++ (58 ∷ 32 ∷ (decimal number ++ (32 ∷ (cause ++ rest))))))))
+line_of file place number cause rest = placed file place (decimal number ++ (32 ∷ (cause ++ rest)))
+
+-- the line of a document that is a rule, with the place of its top node
+abbrev pub ok_line : List ℕ → Place → List ℕ
+ok_line name place = placed (encode_utf8_all name) place (codes "ok")
 
 -- the line of a refusal in a file, with its detail
 abbrev pub refusal_line : List ℕ → Refusal → List ℕ

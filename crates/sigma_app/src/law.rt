@@ -1,25 +1,25 @@
-//! That each file has exactly one verdict, and that a rule's query means the rule.
+//! That each file has exactly one list of verdicts, and that each rule's query means the rule.
 
-ghost use Rattle.std.specs.Prelude.{◌≡◌, ℕ, List};
-ghost use Rattle.sig_base.specs.declared.limits.Limits.{Limits};
-ghost use Rattle.sigma_app.specs.Matching.{Rule, Converts};
-ghost use Rattle.sigma_app.specs.Queries.{query_of};
-ghost use Rattle.sigma_app.specs.Verdicts.{Verdict, IsVerdict, SaysRule};
+ghost use Rattle.sigma_app.specs.Laws.{EachDocument, EachFile, OneDocument, OneFile, QueriesMean};
 
-/// The query of each rule that a file says is read as exactly one query, which selects what the rule matches.
-pub fn query_means_rule()
-    ensures { (limits : Limits) (bytes : List ℕ) (rule : Rule) → SaysRule limits bytes rule → Converts rule (query_of rule) }
+/// Each document of a file has a verdict, and so each file has its verdicts.
+pub fn each_verdict()
+    ensures document { EachDocument }
+    ensures file { EachFile }
 {
-    yaml_profile::words_are_ascii();
-    sqlite_writer::tree_is_query();
+    yaml_documents::laws::verdicts();
 }
 
-/// Each file has exactly one verdict.
+/// A document has at most one verdict, and a file one list of verdicts.
 pub fn one_verdict()
-    ensures some { (limits : Limits) (bytes : List ℕ) → (verdict : Verdict) × IsVerdict limits bytes verdict }
-    ensures only { (limits : Limits) (bytes : List ℕ) (v w : Verdict) → IsVerdict limits bytes v → IsVerdict limits bytes w → v ≡ w }
+    ensures document { OneDocument }
+    ensures file { OneFile }
 {
-    yaml_profile::says_or_not();
-    yaml_profile::one_reading();
-    sig_strings::one_pattern();
+    yaml_documents::laws::verdicts();
+    yaml_documents::laws::one_verdict();
 }
+
+/// The query of each rule that `convert` accepts means the rule.
+pub fn queries_mean_rules()
+    ensures { QueriesMean }
+{}

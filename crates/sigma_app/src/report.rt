@@ -1,10 +1,10 @@
 //! The lines about refusals and files that can't be read.
 
 ghost use Rattle.std.specs.Prelude.{◌≡◌, ◌++◌, ◌∷◌, [], IfOk, map, string_bytes, encode_utf8_all};
-ghost use Rattle.sigma_app.specs.Reports.{ended, refusal_line, unread_line};
+ghost use Rattle.sigma_app.specs.Reports.{ended, refusal_line, unread_line, ok_line};
 ghost use Rattle.sigma_app.specs.Reports as reports;
 
-use sig_base::{Detail, Place, Refusal, Text};
+use sig_base::{Bytes, Detail, Place, Refusal, Text};
 use std::alloc::{AllocError, Global};
 
 /// The line of a refusal, ended by a line feed.
@@ -85,6 +85,17 @@ fn shown(c: char) -> char
     ensures { result ≡ reports.shown c }
 {
     if c < ' ' { '?' } else { c }
+}
+
+/// The line of a document that is a rule, without a line feed.
+pub(super) fn ok_text(alloc: Global, name: &Text, place: Place) -> Result<Bytes, AllocError>
+    ensures { IfOk result (λ bytes. bytes ≡ ok_line name.now place) }
+{
+    let file = name.as_str();
+    let line = place.line;
+    let column = place.column;
+    let text = format!(in alloc; "{file}:{line}:{column}: ok")?;
+    Ok(Bytes::from_vec(text.into_bytes()))
 }
 
 /// The line about a file that can't be read, ended by a line feed.

@@ -1,8 +1,8 @@
-use Rattle.sigma_app.proofs.OneVerdict.{some_verdict, only_verdict}
+use Rattle.sigma_app.proofs.Judging.{one_document, one_file}
 use Rattle.sigma_app.proofs.law.one_verdict.Goals as goal
 
-pub returns-clause-some : goal.returns-clause-some
-returns-clause-some c = some_verdict c.says_or_not.ensures c.one_pattern.ensures.some
+pub returns-clause-document : goal.returns-clause-document
+returns-clause-document c = one_document ?
 
-pub returns-clause-only : goal.returns-clause-only
-returns-clause-only c = only_verdict c.one_reading.ensures c.one_pattern.ensures.same
+pub returns-clause-file : goal.returns-clause-file
+returns-clause-file c = one_file (one_document ?) c.verdicts.ensures.never_both c.one_verdict.ensures.list c.one_verdict.ensures.refusal

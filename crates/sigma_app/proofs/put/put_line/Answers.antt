@@ -1,6 +1,6 @@
 use Rattle.std.proofs.Common.{[], ◌∷◌}
 use Rattle.sig_base.proofs.Puts.{front_then}
-use Rattle.sigma_app.proofs.Documented.{err_then}
+use Rattle.sigma_app.proofs.Shares.{err_then}
 use Rattle.sigma_app.proofs.put.put_line.Goals as goal
 
 pub returns-in-Ok-clause-failed : goal.returns-in-Ok-clause-failed
