@@ -11,7 +11,8 @@ use Rattle.event_schema.specs.declared.schema.Schema.{Schema}
 use Rattle.rule_model.specs.Inferred.{fields_refusal, fit_refusal, items_of}
 use Rattle.rule_model.specs.Lists.{EachOf}
 use Rattle.rule_model.specs.Plain.{PlainRule}
-use Rattle.rule_model.specs.Whole.{IsSome, IsWholeTest, IsWholeValue, AreWholeFields, IsWholeItem, IsWholeAlternative, IsWholeDetection, IsWholeForm, AreSomeForms, AreWholeForms, IsWhole}
+use Rattle.sig_modifiers.specs.PlainTests.{IsPlainTest}
+use Rattle.rule_model.specs.Whole.{IsSome, IsWholeValue, AreWholeFields, IsWholeItem, IsWholeAlternative, IsWholeDetection, IsWholeForm, AreSomeForms, AreWholeForms, IsWhole}
 use Rattle.rule_model.specs.declared.detection.Detection.{Detection}
 use Rattle.rule_model.specs.declared.item.Fields.{Fields}
 use Rattle.rule_model.specs.declared.item.Fields.TheVariants.{Keyword, Names}
@@ -102,7 +103,7 @@ module _ (fields : List Field) where
   decimal_sound : (low : List ℕ) → IsPlainText low → IsSoundPattern (characters low)
   decimal_sound low h = record { written = characters_written low; plain = subst IsPlainText (sym (own_text low)) h }
 
-  test_sound : (test : Test) → IsWholeTest test → IsSoundTest (leaf_test test)
+  test_sound : (test : Test) → IsPlainTest test → IsSoundTest (leaf_test test)
   test_sound tests.Absent h = tt
   test_sound (tests.Exists true) h = tt
   test_sound (tests.Exists false) h = tt
@@ -111,7 +112,7 @@ module _ (fields : List Field) where
 
   value_sound : (place : Place) (n : ℕ) → n < length fields → (ts : List Test) → IsWholeValue ts → IsSound fields (value_tree place n ts)
   value_sound place n within ts h =
-      join_map_sound IsWholeTest Any (test_tree place n) (λ t whole. (within, test_sound t whole)) ts h.some h.each
+      join_map_sound IsPlainTest Any (test_tree place n) (λ t whole. (within, test_sound t whole)) ts h.some h.each
 
   values_sound : (place : Place) (j : Joined) (values : List (List Test)) → IsSome values → EachOf IsWholeValue values
       → (n : ℕ) → n < length fields → IsSound fields (values_tree place j values n)

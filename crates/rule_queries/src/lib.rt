@@ -2,5 +2,7 @@
 #![tactic(auto)]
 
 pub use converting::{check_node, convert_node};
+pub use law::{one_verdict, queries_mean_rules};
 
 mod converting;
+mod law;

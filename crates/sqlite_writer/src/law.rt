@@ -1,7 +1,6 @@
 //! Laws of written trees, each the contract of a function that does nothing.
 
 ghost use Rattle.std.specs.Prelude.{◌≡◌, ◌≤◌, ◌↔◌, ℕ, true, false, List, map, codes, Option, None};
-ghost use Rattle.std.specs.Str.{all_scalars};
 ghost use Rattle.event_schema.specs.declared.schema.Schema.{Schema};
 ghost use Rattle.event_schema.specs.declared.value.Value.{Value};
 ghost use Rattle.event_schema.specs.Events.{IsEvent};
@@ -41,8 +40,7 @@ pub fn polarity()
 /// The text of a sound tree is one query, and it selects an event exactly where the tree holds.
 pub fn tree_is_query()
     ensures { (limit : ℕ) (schema : Schema) (t : Plain) → IsTextSchema schema → IsSound schema.fields t
-        → 1 ≤ limit → depth (query_expr schema t) ≤ limit → all_scalars (query_text schema t) ≡ true
-        → IsQueryOf limit schema t (query_bytes schema t) }
+        → 1 ≤ limit → depth (query_expr schema t) ≤ limit → IsQueryOf limit schema t (query_bytes schema t) }
 {
     polarity();
     leaves_are_sound();

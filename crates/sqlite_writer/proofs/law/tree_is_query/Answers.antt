@@ -1,4 +1,6 @@
-use Rattle.std.proofs.Common.{◌≡◌, refl, sym, ◌∙◌, true, false, subst}
+use Rattle.std.proofs.Common.{ℕ, List, ◌≡◌, refl, sym, ◌∙◌, true, false, subst}
+use Rattle.std.specs.Str.{all_scalars}
+use Rattle.std.proofs.lemmas.Str.{encodes_same}
 use Rattle.sql_lang.specs.Grammar.{Query}
 use Rattle.sql_lang.specs.Trees.{layout_query, fine_or, IsSound as IsSoundLeaf}
 use Rattle.sqlite_writer.specs.Guarded.{name_at}
@@ -10,7 +12,7 @@ use Rattle.sqlite_writer.proofs.Laws.{writable_layout, within}
 use Rattle.sqlite_writer.proofs.law.tree_is_query.Goals as goal
 
 pub returns : goal.returns
-returns c = λ limit schema t texts sound some deep scalars.
+returns c = λ limit schema t texts sound some deep.
     let fields = schema.fields in
     let leaves = c.leaves_are_sound.ensures in
     let sound_named = named_sound fields (leaves.value fields) (leaves.no_value fields) (leaves.text fields) (leaves.like fields) (leaves.glob fields)
@@ -24,7 +26,7 @@ returns c = λ limit schema t texts sound some deep scalars.
     let reads = c.layout_is_read.ensures schema tree texts.table each_sound in
     record {
       characters = query_text schema t;
-      scalars = scalars;
+      scalars = subst (λ (cs : List ℕ). all_scalars cs ≡ true) (encodes_same reads.characters (query_text schema t) (sym reads.encoded)) reads.scalars;
       encoded = refl;
       expr = query_expr schema t;
       reads = within limit schema tree each_calm deep scanned reads;

@@ -1,6 +1,5 @@
-use Rattle.std.proofs.Common.{◌≡◌, ◌∙◌, sym, ap, true}
+use Rattle.std.proofs.Common.{◌≡◌, ◌∙◌, ap}
 use Rattle.std.specs.Prelude.{encode_utf8_all}
-use Rattle.std.specs.Str.{all_scalars}
 use Rattle.backend_core.specs.View.{tree_view}
 use Rattle.sqlite_writer.specs.Queries.{query_text}
 use Rattle.sqlite_writer.proofs.Whole.{law_of_bytes}
@@ -11,7 +10,6 @@ returns-clause-law c = λ sound texts.
     let schema = c.args.schema.now in
     let t = tree_view c.args.tree.now in
     let is : c.in_ok-query.query ≡ query_text schema t = c.in_ok-query.ensures.ok sound in
-    let scalars : all_scalars (query_text schema t) ≡ true = sym (ap all_scalars is) ∙ c.as_str.ensures.scalars in
     law_of_bytes c.copy.result c.as_bytes.result.now schema t c.copy.ensures.ok
     (c.as_bytes.ensures.value ∙ (c.as_str.ensures.bytes ∙ ap encode_utf8_all is))
-    (λ limit some deep. c.tree_is_query.ensures limit schema t texts sound some deep scalars)
+    (λ limit some deep. c.tree_is_query.ensures limit schema t texts sound some deep)

@@ -1,0 +1,30 @@
+//! What follows from the definitions, for the proofs of callers: each function does nothing else than name laws that it stands on.
+
+ghost use Rattle.std.specs.Prelude.{◌≡◌, None};
+ghost use Rattle.rule_model.specs.Plain.{PlainRule};
+ghost use Rattle.rule_model.specs.Rules.{rule_refusal};
+ghost use Rattle.rule_queries.specs.Queries.{query_of, Converts};
+ghost use Rattle.rule_queries.specs.Verdicts.{IsChecked, IsConverted};
+ghost use Rattle.sig_base.specs.declared.limits.Limits.{Limits};
+ghost use Rattle.yaml_tree.specs.Texts.{HasScalarTexts};
+ghost use Rattle.yaml_tree.specs.Tree.{Tree};
+
+/// A node that isn't refused is a rule, and one rule only.
+pub fn one_verdict()
+    ensures each { (limits : Limits) (t : Tree) → rule_refusal limits t ≡ None → (rule : PlainRule) × IsChecked limits t rule }
+    ensures one { (limits : Limits) (t : Tree) (a b : PlainRule) → IsChecked limits t a → IsChecked limits t b → a ≡ b }
+{
+    rule_model::rule_or_refusal();
+    rule_model::one_rule();
+}
+
+/// The query of each rule that has one means the rule.
+pub fn queries_mean_rules()
+    ensures { (limits : Limits) (t : Tree) (rule : PlainRule) → HasScalarTexts t → IsConverted limits t rule → Converts limits rule (query_of rule) }
+{
+    rule_model::rules_are_whole();
+    rule_lowering::tree_means_rule();
+    rule_lowering::tree_is_sound();
+    sqlite_writer::text_schemas();
+    sqlite_writer::tree_is_query();
+}
