@@ -1,5 +1,5 @@
 -- One more field at the front of those that are indexed.
-use Rattle.std.proofs.Common.{ℕ, ◌≡◌, ◌<◌, ◌≤◌, ◌+◌, ◌-◌, Bool, true, List, ◌∷◌, length, get_or, drop, ap, sym, ◌∙◌, arith}
+use Rattle.std.proofs.Common.{ℕ, ◌≡◌, ◌<◌, ◌≤◌, ◌+◌, ◌-◌, Bool, true, List, length, get_or, drop, ap, sym, ◌∙◌, arith}
 use Rattle.std.specs.Prelude.{Some, encode_utf8_all, if◌then◌else◌}
 use Rattle.std.specs.declared.option.Option.{Option}
 use Rattle.std.specs.List.{position_from}

@@ -1,5 +1,5 @@
 -- The code's count is the number of a tree's tests, up to the greatest number.
-use Rattle.std.proofs.Common.{ℕ, zero, suc, ◌≡◌, ◌+◌, ◌*◌, ◌≤◌, ◌<◌, min, refl, sym, ap, ◌∙◌, List, [], ◌∷◌, ◌++◌, length, map, sum_by, slice_index, get_or, arith}
+use Rattle.std.proofs.Common.{ℕ, zero, suc, ◌≡◌, ◌+◌, ◌*◌, ◌≤◌, min, refl, sym, ap, ◌∙◌, List, [], ◌∷◌, length, map, sum_by, slice_index, arith}
 use Rattle.std.specs.List.{flat_map}
 use Rattle.std.proofs.Math.Nat.{mul-suc, add-mul}
 use Rattle.std.proofs.lemmas.List.Sums.{sum_by-cons, sum_by-append}

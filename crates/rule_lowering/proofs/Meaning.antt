@@ -1,5 +1,5 @@
 -- The tree of a rule holds where the rule matches.
-use Rattle.std.proofs.Common.{ℕ, zero, suc, ◌≡◌, ◌≤◌, ◌↔◌, ◌⊎◌, Bool, true, false, List, [], ◌∷◌, length, map, filter, refl, sym, ap, subst, arith, ◌∙◌}
+use Rattle.std.proofs.Common.{ℕ, zero, suc, ◌≡◌, ◌↔◌, true, false, List, [], ◌∷◌, length, map, refl, sym, ap, subst, ◌∙◌}
 use Rattle.std.specs.Prelude.{Option, Some, None, unwrap_or}
 use Rattle.std.specs.Fmt.{signed_decimal}
 use Rattle.backend_core.specs.Holds.{TestHolds, TreeHolds}
@@ -30,7 +30,7 @@ use Rattle.sig_strings.specs.declared.part.Part.{Part}
 use Rattle.rule_lowering.specs.Joining.{join}
 use Rattle.rule_lowering.specs.TreeOf.{leaf_test, test_tree, value_tree, number_of, searched, keyword_tree, fields_tree, item_tree, alternative_tree, detection_tree, numbered_tree, form_tree, form_trees, tree_of}
 use Rattle.rule_lowering.proofs.Decimals.{characters, no_wildcard, own_text, low_decimal, low_text}
-use Rattle.rule_lowering.proofs.JoiningLemmas.{iff_same, iff_then, iff_back, iff_not, iff_both, iff_either, some_filtered, join_holds, join_map}
+use Rattle.rule_lowering.proofs.JoiningLemmas.{iff_same, iff_then, iff_not, iff_both, iff_either, some_filtered, join_holds, join_map}
 
 -- where there is no value behind the last field's
 behind_last : (fields : List Field) (row : List (Option Value)) → IsEvent fields row → field_value row (length fields) ≡ None

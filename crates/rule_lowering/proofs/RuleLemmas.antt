@@ -1,5 +1,5 @@
 -- Whether a rule is refused, and what its tree is.
-use Rattle.std.proofs.Common.{ℕ, ◌≡◌, ◌-◌, ◌^◌, ◌≤◌, ◌<◌, min, nat_le, Bool, true, false, if◌then◌else◌, refl, sym, ap, subst, ◌∙◌, List, length, map, IfOk, IfErr, Ok, Err, Result, arith}
+use Rattle.std.proofs.Common.{ℕ, ◌≡◌, ◌-◌, ◌^◌, ◌≤◌, ◌<◌, min, nat_le, Bool, true, false, if◌then◌else◌, refl, sym, ap, subst, ◌∙◌, List, length, IfOk, IfErr, Ok, Err, Result, arith}
 use Rattle.std.specs.Prelude.{Option, Some, None}
 use Rattle.std.proofs.lemmas.Bool.Decides.{nat_tests}
 use Rattle.backend_core.specs.Trees.{Plain}
@@ -22,7 +22,7 @@ use Rattle.rule_lowering.specs.Counts.{rule_count}
 use Rattle.rule_lowering.specs.Joining.{join}
 use Rattle.rule_lowering.specs.Leaves.{leaves}
 use Rattle.rule_lowering.specs.Refused.{told, count_refusal}
-use Rattle.rule_lowering.specs.TreeOf.{searched, form_tree, form_trees, tree_of}
+use Rattle.rule_lowering.specs.TreeOf.{searched, form_trees, tree_of}
 use Rattle.rule_lowering.proofs.LeafCounts.{form_trees_are, rule_leaves}
 
 -- ---- refusals

@@ -1,10 +1,9 @@
 -- The trees of vectors, and their parts.
-use Rattle.std.proofs.Common.{ℕ, ◌≡◌, rules, refl, sym, ap, ◌∙◌, List, [], ◌∷◌, ◌++◌, length, map, option_to_list, arith}
-use Rattle.std.specs.Prelude.{Option, Some, None}
+use Rattle.std.proofs.Common.{◌≡◌, rules, refl, sym, ap, ◌∙◌, List, [], ◌∷◌, ◌++◌, length, map, arith}
 use Rattle.std.specs.declared.alloc.Global.{Global}
 use Rattle.std.specs.declared.vec.Vec.{Vec}
 use Rattle.std.proofs.lemmas.List.{map-append}
-use Rattle.backend_core.specs.Trees.{Plain, all, any, Plains, no_parts, a_part}
+use Rattle.backend_core.specs.Trees.{Plain, all, any, Plains, a_part}
 use Rattle.backend_core.specs.View.{tree_view, plains_of}
 use Rattle.backend_core.specs.declared.tree.Tree.{Tree}
 use Rattle.backend_core.specs.declared.tree.Tree as trees

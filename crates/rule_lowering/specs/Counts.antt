@@ -1,5 +1,5 @@
 -- The code's own count of the tests of a rule's tree, made before the tree.
-use Rattle.std.specs.Prelude.{ℕ, ◌+◌, ◌*◌, min, List, [], ◌∷◌, length, map, sum_by, slice_index}
+use Rattle.std.specs.Prelude.{ℕ, ◌+◌, ◌*◌, min, List, length, map, sum_by, slice_index}
 use Rattle.rule_model.specs.Plain.{PlainRule}
 use Rattle.rule_model.specs.declared.detection.Detection.{Detection}
 use Rattle.rule_model.specs.declared.item.Fields.{Fields}

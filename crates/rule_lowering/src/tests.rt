@@ -1,5 +1,7 @@
 //! Trees of small rules, and the refusal of a large one, all reckoned by hand.
 
+ghost use Rattle.std.specs.Prelude.{◌≤◌};
+
 use crate::lower;
 use backend_core::{Leaf, LeafTest, Tree};
 use event_schema::{Field, FieldKind, Schema};
@@ -17,7 +19,7 @@ const RULE: Place = Place { line: 1, column: 1 };
 
 const KEY: Place = Place { line: 9, column: 5 };
 
-/// Texts of these fields, of which keywords search those with a `*` behind their names.
+/// Texts of these names, each with whether keywords search it.
 fn schema(alloc: Global, names: &[(&str, bool)]) -> Result<Schema, Fail> {
     let mut fields = event_schema::Fields::new(alloc);
     for (name, search) in names {
@@ -319,7 +321,10 @@ fn conditions(rt: HostRuntime) -> Result<(), Fail> {
 }
 
 /// Whether a rule of this many values is refused at its place, with these numbers.
-fn is_refused(alloc: Global, values: u32, limit: usize) -> Result<bool, Fail> {
+fn is_refused(alloc: Global, values: u32, limit: usize) -> Result<bool, Fail>
+    requires low { 1 ≤ limit }
+    requires high { limit ≤ 16384 }
+{
     let mut all = item(alloc, ["A"].as_slice(), Joined::Any, [].as_slice())?;
     for _ in 0..values {
         all.tests.push(fits(alloc, "a")?)?;

@@ -1,6 +1,6 @@
 use Rattle.std.proofs.Common.{◌∙◌, ap, sym, map}
 use Rattle.backend_core.specs.View.{tree_view}
-use Rattle.sig_conditions.specs.Formulas.{form_view, forms_view}
+use Rattle.sig_conditions.specs.Formulas.{form_view}
 use Rattle.sig_conditions.specs.declared.formula.Formula.{Formula}
 use Rattle.rule_lowering.specs.Joining.{join}
 use Rattle.rule_lowering.specs.TreeOf.{form_tree}

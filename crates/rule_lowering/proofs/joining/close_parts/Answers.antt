@@ -1,4 +1,4 @@
-use Rattle.std.proofs.Common.{◌∙◌, sym}
+use Rattle.std.proofs.Common.{◌∙◌}
 use Rattle.rule_lowering.proofs.ViewLemmas.{closes}
 use Rattle.rule_lowering.proofs.joining.close_parts.Goals as goal
 
