@@ -48,7 +48,7 @@ number_below : (k : ℕ) (name : List ℕ) (names : List (List ℕ)) (i : ℕ) �
 number_below k name [] i h = absurd cc
 number_below k name (n ∷ names) i h =
     elim (bytes_eq n name) as (λ (b : Bool). cond b (Some k) (number_from (k + 1) name names) ≡ Some i → i < k + length (n ∷ names)) [
-      true ↦ λ e. let same : k ≡ i = cc in omega arith
+      | true ↦ λ e. let same : k ≡ i = cc in omega arith
       | false ↦ λ e. let less = number_below (k + 1) name names i e in omega arith
     ] h
 
@@ -57,7 +57,7 @@ taken_below k count s [] h = tt
 taken_below k count s (n ∷ names) h =
     let rest : EachOf (λ i. i < count) (taken_from (k + 1) s names) = taken_below (k + 1) count s names (omega arith) in
     elim (takes s n) as (λ (b : Bool). EachOf (λ i. i < count) (cond b (k ∷ taken_from (k + 1) s names) (taken_from (k + 1) s names))) [
-      true ↦ (omega arith, rest)
+      | true ↦ (omega arith, rest)
       | false ↦ rest
     ]
 

@@ -1,5 +1,5 @@
-pub mod ConditionLists
 pub mod ByKind
+pub mod ConditionLists
 pub mod Days
 pub mod Faultless
 pub mod Firsts

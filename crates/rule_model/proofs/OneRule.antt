@@ -54,7 +54,7 @@ same_detection d e n a p =
 same_head : (g h : PlainHead) → g.title ≡ h.title → g.id ≡ h.id → g.name ≡ h.name → g.place ≡ h.place → g.rest ≡ h.rest → g ≡ h
 same_head g h t i n p r =
     let put : List ℕ → Option (List ℕ) → Option (List ℕ) → Place → List Member → PlainHead =
-        λ a b c d e. record { title = a; id = b; name = c; place = d; rest = e } in
+    λ a b c d e. record { title = a; id = b; name = c; place = d; rest = e } in
     ap (λ (x : List ℕ). put x g.id g.name g.place g.rest) t
     ∙ (ap (λ (x : Option (List ℕ)). put h.title x g.name g.place g.rest) i
     ∙ (ap (λ (x : Option (List ℕ)). put h.title h.id x g.place g.rest) n
@@ -72,8 +72,8 @@ head_one t g h p q =
     same_head g h (some_same _ g.title h.title p.title q.title) (p.id ∙ sym q.id) (p.name ∙ sym q.name) (p.place ∙ sym q.place) (p.rest ∙ sym q.rest)
 
 module _
-  (tests_one : (chain : Written) (value : Tree) (a b : List Test) → TestsOf chain value a → TestsOf chain value b → a ≡ b)
-  (condition_one : (ws : List Word) (c d : Cond) → ConditionReads ws c → ConditionReads ws d → c ≡ d) where
+    (tests_one : (chain : Written) (value : Tree) (a b : List Test) → TestsOf chain value a → TestsOf chain value b → a ≡ b)
+    (condition_one : (ws : List Word) (c d : Cond) → ConditionReads ws c → ConditionReads ws d → c ≡ d) where
   item_one : (e : Member) (i j : Item) → IsItem e i → IsItem e j → i ≡ j
   item_one e i j p q =
       same_item i j (p.fields ∙ sym q.fields) (zip_one (TestsOf (key_chain e)) (tests_one (key_chain e)) (parts_in e.value) i.tests j.tests p.tests q.tests)

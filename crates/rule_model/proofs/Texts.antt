@@ -91,9 +91,10 @@ module _ (limits : Limits) (names : List (List ℕ)) (t : Tree) where
       → IsRead most text c → IfOk r (λ f. formula_of names c ≡ Some (form_view f)) → IfErr r (λ e. IsUnresolved names c place e)
       → Judged (λ (f : Formula). IsFormula names t (form_view f)) cause r
   resolved_judged text place c (Ok f) is same at read ok err =
-      let own : IsRead most (text_in t) c = subst (λ (x : List ℕ). IsRead most x c) same read in
-      (read_cause c is own ∙ ap (first_fault (place_of t)) (no_faults names c (form_view f) ok),
-      record { condition = c; reads = own.reads; formula = ok })
+      let own : IsRead most (text_in t) c = subst (λ (x : List ℕ). IsRead most x c) same read in (
+        read_cause c is own ∙ ap (first_fault (place_of t)) (no_faults names c (form_view f) ok),
+        record { condition = c; reads = own.reads; formula = ok },
+      )
   resolved_judged text place c (Err Memory) is same at read ok err = tt
   resolved_judged text place c (Err (Refused s)) is same at read ok err =
       let own : IsRead most (text_in t) c = subst (λ (x : List ℕ). IsRead most x c) same read in

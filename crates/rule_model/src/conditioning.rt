@@ -33,7 +33,12 @@ fn copy_names(alloc: Global, entries: &[Entry]) -> Result<Texts, Fault>
 }
 
 /// One condition over detections of these names.
-fn read_formula(alloc: Global, limits: &Limits, names: &Names, node: &Node) -> Result<Formula, Fault>
+fn read_formula(
+    alloc: Global,
+    limits: &Limits,
+    names: &Names,
+    node: &Node,
+) -> Result<Formula, Fault>
     ensures { Judged (λ f. spec.IsFormula names.now (node_view node.now) (form_view f))
         (spec.condition_refusal limits.now names.now (node_view node.now)) result }
 {
@@ -46,7 +51,12 @@ fn read_formula(alloc: Global, limits: &Limits, names: &Names, node: &Node) -> R
 }
 
 /// One condition, or those of a list, in order.
-fn read_listed(alloc: Global, limits: &Limits, names: &Names, node: &Node) -> Result<Vec<Formula>, Fault>
+fn read_listed(
+    alloc: Global,
+    limits: &Limits,
+    names: &Names,
+    node: &Node,
+) -> Result<Vec<Formula>, Fault>
     ensures { Judged (λ fs. AllZip (spec.IsFormula names.now) (parts_in (node_view node.now)) (forms_view fs.items))
         (spec.listed_refusal limits.now names.now (node_view node.now)) result }
 {

@@ -46,8 +46,16 @@ fn add_pairs(
 ) -> Result<u32, Fail> {
     let mut at_line = line;
     for (key, text) in pairs {
-        let width = if key.len() < 100 { key.len() as u32 } else { 100 };
-        let value = value(alloc, at(at_line, column.saturating_add(width).saturating_add(2)), text)?;
+        let width = if key.len() < 100 {
+            key.len() as u32
+        } else {
+            100
+        };
+        let value = value(
+            alloc,
+            at(at_line, column.saturating_add(width).saturating_add(2)),
+            text,
+        )?;
         add(alloc, entries, key, at(at_line, column), value)?;
         at_line = at_line.saturating_add(1);
     }
@@ -65,7 +73,13 @@ fn add_map(
     let mut inner = Vec::new(alloc);
     let first = line.saturating_add(1);
     let next = add_pairs(alloc, &mut inner, first, 3, pairs)?;
-    add(alloc, entries, key, at(line, 1), Node::map(at(first, 3), inner))?;
+    add(
+        alloc,
+        entries,
+        key,
+        at(line, 1),
+        Node::map(at(first, 3), inner),
+    )?;
     Ok(next)
 }
 
@@ -124,7 +138,10 @@ fn heads_are_refused(rt: HostRuntime) -> Result<(), Fail> {
         ([("title", "")].as_slice(), "72 1 8"),
         ([("title", "~"), ("id", "x")].as_slice(), "72 1 8"),
         ([("title", "t"), ("id", "x")].as_slice(), "73 2 5"),
-        ([("id", "x"), ("name", "~"), ("title", "t")].as_slice(), "73 1 5"),
+        (
+            [("id", "x"), ("name", "~"), ("title", "t")].as_slice(),
+            "73 1 5",
+        ),
         ([("name", "[]"), ("title", "t")].as_slice(), "71 1 7"),
         ([("title", "t"), ("status", "Test")].as_slice(), "75 2 9"),
         ([("title", "t"), ("modified", "x")].as_slice(), "74 2 11"),
@@ -164,9 +181,15 @@ fn titles_have_1_to_256_characters(rt: HostRuntime) -> Result<(), Fail> {
     for _ in 0..256u32 {
         title.push('\u{e9}')?;
     }
-    assert_eq!(rt; with_head(alloc, [("title", title.as_str())].as_slice())?.as_str(), "");
+    assert_eq!(rt;
+        with_head(alloc, [("title", title.as_str())].as_slice())?.as_str(),
+        ""
+    );
     title.push('e')?;
-    assert_eq!(rt; with_head(alloc, [("title", title.as_str())].as_slice())?.as_str(), "72 1 8");
+    assert_eq!(rt;
+        with_head(alloc, [("title", title.as_str())].as_slice())?.as_str(),
+        "72 1 8"
+    );
     Ok(())
 }
 
@@ -198,7 +221,13 @@ fn the_rest_of_a_head_is_kept(rt: HostRuntime) -> Result<(), Fail> {
     let alloc = rt.alloc();
     let node = document(
         alloc,
-        [("author", "a"), ("title", "t"), ("level", "low"), ("tags", "[]")].as_slice(),
+        [
+            ("author", "a"),
+            ("title", "t"),
+            ("level", "low"),
+            ("tags", "[]"),
+        ]
+        .as_slice(),
         [("product", "p")].as_slice(),
         [("s", "x"), ("condition", "s")].as_slice(),
     )?;
@@ -219,7 +248,11 @@ fn what_is_no_map_is_refused(rt: HostRuntime) -> Result<(), Fail> {
     let limits = Limits::standard();
     let top = value(alloc, at(3, 2), "title")?;
     assert_eq!(rt; shown(alloc, &limits, &top)?.as_str(), "71 3 2");
-    for (key, want) in [("title", "70 1 1"), ("logsource", "71 2 12"), ("detection", "70 1 1")] {
+    for (key, want) in [
+        ("title", "70 1 1"),
+        ("logsource", "71 2 12"),
+        ("detection", "70 1 1"),
+    ] {
         let mut entries = Vec::new(alloc);
         let pairs = [("title", "t"), (key, "x")];
         if key == "title" {
@@ -238,7 +271,10 @@ fn log_sources_are_refused(rt: HostRuntime) -> Result<(), Fail> {
     let alloc = rt.alloc();
     for (source, want) in [
         ([("service", "s")].as_slice(), "60 6 14"),
-        ([("definition", "~"), ("product", "p")].as_slice(), "60 7 14"),
+        (
+            [("definition", "~"), ("product", "p")].as_slice(),
+            "60 7 14",
+        ),
         ([].as_slice(), "70 3 3"),
         ([("definition", "d")].as_slice(), "70 3 3"),
         ([("category", "[]")].as_slice(), "71 3 13"),
@@ -293,7 +329,11 @@ fn conditions_are_refused(rt: HostRuntime) -> Result<(), Fail> {
         ("1 of a* or missing", "64 7 14"),
         ("condition", "63 7 14 condition"),
     ] {
-        assert_eq!(rt; with_condition(alloc, condition)?.as_str(), want, "{condition}");
+        assert_eq!(rt;
+            with_condition(alloc, condition)?.as_str(),
+            want,
+            "{condition}"
+        );
     }
     Ok(())
 }
@@ -307,12 +347,30 @@ fn with_conditions(alloc: Global, conditions: &[&str]) -> Result<String, Fail> {
         line = line.saturating_add(1);
     }
     let mut detection = Vec::new(alloc);
-    add(alloc, &mut detection, "condition", at(4, 3), Node::list(at(5, 5), parts))?;
+    add(
+        alloc,
+        &mut detection,
+        "condition",
+        at(4, 3),
+        Node::list(at(5, 5), parts),
+    )?;
     add_pairs(alloc, &mut detection, line, 3, [("sel", "x")].as_slice())?;
     let mut entries = Vec::new(alloc);
     add_pairs(alloc, &mut entries, 1, 1, [("title", "t")].as_slice())?;
-    add_map(alloc, &mut entries, 2, "logsource", [("category", "c")].as_slice())?;
-    add(alloc, &mut entries, "detection", at(4, 1), Node::map(at(4, 3), detection))?;
+    add_map(
+        alloc,
+        &mut entries,
+        2,
+        "logsource",
+        [("category", "c")].as_slice(),
+    )?;
+    add(
+        alloc,
+        &mut entries,
+        "detection",
+        at(4, 1),
+        Node::map(at(4, 3), detection),
+    )?;
     let node = Node::map(TOP, entries);
     match Rule::read(alloc, &Limits::standard(), &node) {
         Ok(rule) => Ok(format!(in alloc; "{}", rule.conditions.len())?),

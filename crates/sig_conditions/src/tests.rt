@@ -2,8 +2,8 @@
 
 use crate::condition::Condition;
 use crate::formula::Formula;
-use crate::reading::read_condition;
 use crate::names::Names;
+use crate::reading::read_condition;
 use crate::resolving::resolve_condition;
 use crate::scan::is_identifier;
 use sig_base::{Detail, Fault, Limits, Place, Refusal, Text, Texts};
