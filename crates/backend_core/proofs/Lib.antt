@@ -1,1 +1,1 @@
-mod Copies
+pub mod Copies

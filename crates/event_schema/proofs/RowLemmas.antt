@@ -1,6 +1,6 @@
 -- The value of a field, by the place of its element in the row.
-use Rattle.std.proofs.Common.{◌≡◌, ℕ, zero, suc, ◌+◌, ◌<◌, ◌≤◌, List, [], ◌∷◌, length, get_or, refl, sym, ◌∙◌, arith}
-use Rattle.std.specs.Prelude.{Option, Some, None}
+use Rattle.std.proofs.Common.{◌≡◌, ℕ, zero, suc, ◌<◌, ◌≤◌, List, [], ◌∷◌, length, get_or, refl, sym, arith}
+use Rattle.std.specs.Prelude.{Option, None}
 use Rattle.event_schema.specs.Rows.{field_value}
 use Rattle.event_schema.specs.declared.value.Value.{Value}
 

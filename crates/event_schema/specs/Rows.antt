@@ -1,5 +1,5 @@
 -- The values of an event: a row has one value or none for each field of the schema, in their order.
-use Rattle.std.specs.Prelude.{ℕ, zero, suc, Bool, List, [], ◌∷◌, Option, Some, None, is_some, position}
+use Rattle.std.specs.Prelude.{ℕ, zero, suc, List, [], ◌∷◌, Option, Some, None, position}
 use Rattle.std.specs.Fmt.{signed_decimal}
 use Rattle.std.specs.Str.{bytes_eq}
 use Rattle.event_schema.specs.Occurrence.{Occurrence}
@@ -22,9 +22,6 @@ value_text (values.Whole n) = signed_decimal n
 -- the number of the first field that has exactly this name
 abbrev pub field_number : List Field → List ℕ → Option ℕ
 field_number fields name = position (λ field. bytes_eq field.name name) fields
-
-abbrev pub has_field : Schema → List ℕ → Bool
-has_field schema name = is_some (field_number schema.fields name)
 
 abbrev pub value_if_any : List (Option Value) → Option ℕ → Option Value
 value_if_any row None = None

@@ -6,14 +6,14 @@ use Rattle.std.specs.declared.vec.Vec.{Vec}
 use Rattle.sig_base.specs.declared.refusal.Place.{Place}
 use Rattle.sig_modifiers.specs.TestsOf.{place_of}
 use Rattle.yaml_tree.specs.Tree.{Scalar, null, truth, whole, text, Tree, scalar, list, map, Elements, Members, Member}
-use Rattle.yaml_tree.specs.View.{node_view, kind_view, place_view, nodes_view, entries_view, elements_of, members_of}
+use Rattle.yaml_tree.specs.View.{node_view, kind_view, place_view, entry_view, nodes_view, entries_view, elements_of, members_of}
 use Rattle.yaml_tree.specs.declared.tree.Node.{Node}
 use Rattle.yaml_tree.specs.declared.tree.Entry.{Entry}
 use Rattle.yaml_tree.specs.declared.tree.Kind as kinds
 use Rattle.yaml_tree.specs.View.{kind_step, entry_step, node_step}
 use Rattle.yaml_tree.specs.Tree.{At}
 use Rattle.yaml_tree.specs.declared.tree.Kind.TheOpen.{Kind-F}
-use Rattle.yaml_tree.specs.declared.tree.Kind.TheFolds.{fold_out-Kind, fold_out-Node}
+use Rattle.yaml_tree.specs.declared.tree.Kind.TheFolds.{fold_out-Kind, fold_out-Entry, fold_out-Node}
 use Rattle.rule_model.specs.Nodes.{is_map, entries_in, parts_in, listed, entered}
 
 pub listed_again : (ts : List Tree) → listed (elements_of ts) ≡ ts
@@ -55,3 +55,9 @@ node_place n =
     let outer : node_view n ≡ kind_view n.kind (place_view n.place) = fold_out-Node (At → Tree) Member Tree kind_step entry_step node_step n in
     let inner = ap (λ (g : At → Tree). g (place_view n.place)) (fold_out-Kind (At → Tree) Member Tree kind_step entry_step node_step n.kind) in
     sym (ap place_of (outer ∙ inner) ∙ step_place _ n.place)
+
+abbrev pub member_of : Entry → Member
+member_of e = record { key = e.key; place = place_view e.place; value = node_view e.value }
+
+pub view-Entry : (e : Entry) → entry_view e ≡ member_of e
+view-Entry e = fold_out-Entry (At → Tree) Member Tree kind_step entry_step node_step e

@@ -1,5 +1,5 @@
 -- The conditions of a rule (Sigma specification 2.0, condition).
-use Rattle.std.specs.Prelude.{ℕ, ◌≡◌, Bool, not, nat_le, List, [], ◌∷◌, map as list_map, codes, is_some, Some, None}
+use Rattle.std.specs.Prelude.{ℕ, ◌≡◌, not, nat_le, List, [], ◌∷◌, map as list_map, codes, is_some, Some, None}
 use Rattle.std.specs.List.{AllZip}
 use Rattle.std.specs.declared.option.Option.{Option}
 use Rattle.sig_base.specs.declared.limits.Limits.{Limits}
@@ -13,7 +13,7 @@ use Rattle.sig_conditions.specs.Refusals.{refusal_of}
 use Rattle.sig_conditions.specs.Words.{has_bar, nesting, words}
 use Rattle.sig_modifiers.specs.Judged.{must, first}
 use Rattle.sig_modifiers.specs.TestsOf.{place_of}
-use Rattle.yaml_tree.specs.Tree.{Tree, Member}
+use Rattle.yaml_tree.specs.Tree.{Tree}
 use Rattle.rule_model.specs.Detections.{detection_entries}
 use Rattle.rule_model.specs.Keys.{is_empty}
 use Rattle.rule_model.specs.Nodes.{is_text, text_in, parts_in, required, refused_at, value_in, entries_in}

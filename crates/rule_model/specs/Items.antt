@@ -3,6 +3,7 @@ use Rattle.std.specs.Prelude.{ℕ, ◌≡◌, Bool, true, false, not, nat_le, if
 use Rattle.std.specs.List.{AllZip}
 use Rattle.std.specs.declared.option.Option.{Option}
 use Rattle.sig_base.specs.declared.limits.Limits.{Limits}
+use Rattle.sig_base.specs.declared.refusal.Place.{Place}
 use Rattle.sig_base.specs.declared.refusal.Refusal.{Refusal}
 use Rattle.sig_modifiers.specs.Chains.{chain_of, chain_refusal, joined_of}
 use Rattle.sig_modifiers.specs.Judged.{must, first}
@@ -27,17 +28,23 @@ fields_of key = if is_keyword_key key then Keyword else Names (name_in key ∷ [
 abbrev pub shape_refusal : Tree → Option Refusal
 shape_refusal t = must 71 (place_of t) (is_scalar t)
 
--- Why an entry is no item: its name, its modifiers, a value that is no scalar, no values, too many of them, and then the
--- values in their order.
+-- Why a node gives no values to a chain whose item stands at this place: an element that is no scalar, no values, too many
+-- of them, and then the values in their order.
+abbrev pub values_refusal : Limits → Written → Place → Tree → Option Refusal
+values_refusal limits chain place t = first (
+    first (list_map shape_refusal (parts_in t))
+    ∷ must 78 (place_of t) (not (is_empty (parts_in t)))
+    ∷ must 79 place (nat_le (length (parts_in t)) limits.list_values)
+    ∷ first (list_map (value_refusal limits.value_chars chain) (parts_in t))
+    ∷ [])
+
+-- why an entry is no item: its name, its modifiers, and then its values
 abbrev pub item_refusal : Limits → Member → Option Refusal
 item_refusal limits e = first (
     must 71 (key_place e) (is_item_key e.key)
-  ∷ chain_refusal (is_keyword_key e.key) (key_place e) (words_in e.key)
-  ∷ first (list_map shape_refusal (parts_in e.value))
-  ∷ must 78 (place_of e.value) (not (is_empty (parts_in e.value)))
-  ∷ must 79 (key_place e) (nat_le (length (parts_in e.value)) limits.list_values)
-  ∷ first (list_map (value_refusal limits.value_chars (key_chain e)) (parts_in e.value))
-  ∷ [])
+    ∷ chain_refusal (is_keyword_key e.key) (key_place e) (words_in e.key)
+    ∷ values_refusal limits (key_chain e) (key_place e) e.value
+    ∷ [])
 
 -- the item that an entry is
 pub record IsItem (e : Member) (i : Item) : Type 0 where

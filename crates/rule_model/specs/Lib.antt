@@ -3,8 +3,10 @@ pub mod Nodes
 pub mod Found
 pub mod Plain
 pub mod Heads
+pub mod Forms
 pub mod Sources
 pub mod Keys
+pub mod Pieces
 pub mod Items
 pub mod Detections
 pub mod Conditions
@@ -12,3 +14,5 @@ pub mod Rules
 pub mod Matching
 pub mod Whole
 pub mod Inferred
+pub mod Gathered
+pub mod Fitting

@@ -1,9 +1,6 @@
 -- What holds of each element of a list, and of some.
-use Rattle.std.specs.Prelude.{List, [], ◌∷◌, ◌⊎◌, ⊤}
-
-abbrev pub EachOf : {A : Type 0} → (A → Type 0) → List A → Type 0
-EachOf P [] = ⊤
-EachOf P (x ∷ xs) = P x × EachOf P xs
+use Rattle.std.specs.Prelude.{List, [], ◌∷◌, ◌⊎◌}
+pub use Rattle.sig_modifiers.specs.Lists.{EachOf}
 
 abbrev pub SomeOf : {A : Type 0} → (A → Type 0) → List A → Type 0
 SomeOf P [] = ⊥

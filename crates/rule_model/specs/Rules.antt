@@ -1,5 +1,5 @@
 -- Which rule a document's node is, or the first cause for which it is none (Sigma specification 2.0, rules).
-use Rattle.std.specs.Prelude.{◌≡◌, List, [], ◌∷◌, codes, Some}
+use Rattle.std.specs.Prelude.{◌≡◌, [], ◌∷◌, codes, Some}
 use Rattle.std.specs.declared.option.Option.{Option}
 use Rattle.sig_base.specs.declared.limits.Limits.{Limits}
 use Rattle.sig_base.specs.declared.refusal.Refusal.{Refusal}

@@ -1,5 +1,5 @@
 -- The log source of a rule (Sigma specification 2.0, log source).
-use Rattle.std.specs.Prelude.{◌||◌, List, [], ◌∷◌, codes}
+use Rattle.std.specs.Prelude.{◌||◌, [], ◌∷◌, codes}
 use Rattle.std.specs.declared.option.Option.{Option}
 use Rattle.sig_base.specs.declared.refusal.Refusal.{Refusal}
 use Rattle.sig_modifiers.specs.Judged.{must, first}

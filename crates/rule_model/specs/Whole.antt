@@ -2,12 +2,10 @@
 -- patterns can be written.
 use Rattle.std.specs.Prelude.{ℕ, ◌≡◌, ◌<◌, true, List, [], ◌∷◌, length, ⊤}
 use Rattle.std.specs.Str.{all_scalars}
-use Rattle.event_schema.specs.Events.{IsPlainText}
 use Rattle.sig_conditions.specs.Formulas.{Form, FDetection, FNot, FAnd, FOr, Forms, no_forms, form}
+use Rattle.sig_modifiers.specs.PlainTests.{ArePlainTests}
 use Rattle.sig_modifiers.specs.declared.test.Test.{Test}
 use Rattle.sig_modifiers.specs.declared.test.Test.TheVariants.{Absent, Exists, Fits, Equals}
-use Rattle.sig_strings.specs.Edits.{all_written, plain_text}
-use Rattle.sig_strings.specs.declared.part.Part.{Part}
 use Rattle.rule_model.specs.Keys.{is_legal}
 use Rattle.rule_model.specs.Lists.{EachOf}
 use Rattle.rule_model.specs.Plain.{PlainRule}
@@ -21,17 +19,6 @@ abbrev pub IsSome : {A : Type 0} → List A → Type 0
 IsSome [] = ⊥
 IsSome (x ∷ xs) = ⊤
 
--- a pattern of characters other than U+0000, of single characters and of runs
-pub record IsPlainPattern (parts : List Part) : Type 0 where
-  pub written : all_written parts ≡ true
-  pub plain : IsPlainText (plain_text parts)
-
-abbrev pub IsWholeTest : Test → Type 0
-IsWholeTest Absent = ⊤
-IsWholeTest (Exists there) = ⊤
-IsWholeTest (Fits pattern cased) = IsPlainPattern pattern
-IsWholeTest (Equals n) = ⊤
-
 abbrev pub IsPatternTest : Test → Type 0
 IsPatternTest Absent = ⊥
 IsPatternTest (Exists there) = ⊥
@@ -40,7 +27,7 @@ IsPatternTest (Equals n) = ⊥
 
 pub record IsWholeValue (tests : List Test) : Type 0 where
   pub some : IsSome tests
-  pub each : EachOf IsWholeTest tests
+  pub each : ArePlainTests tests
 
 pub record IsWholeName (name : List ℕ) : Type 0 where
   pub legal : is_legal name ≡ true

@@ -6,9 +6,11 @@ ghost use Rattle.sig_modifiers.specs.Judged.{must};
 ghost use Rattle.sig_modifiers.specs.TestsOf.{place_of};
 ghost use Rattle.yaml_tree.specs.View.{node_view, nodes_view, entry_view, entries_view};
 ghost use Rattle.rule_model.specs.Found.{IsFound};
+ghost use Rattle.rule_model.specs.Keys.{is_empty};
 ghost use Rattle.rule_model.specs.Nodes as spec;
 
 use sig_base::{Code, Detail, Place, Refusal, Text};
+use std::slice;
 use yaml_tree::{Entry, Kind, Node};
 
 /// The place of a node.
@@ -31,6 +33,24 @@ pub fn entries_of(node: &Node) -> Option<&[Entry]>
     }
 }
 
+/// Whether the node is a map.
+pub fn is_map(node: &Node) -> bool
+    ensures { result ≡ spec.is_map (node_view node.now) }
+{
+    entries_of(node).is_some()
+}
+
+/// The entries of a map, in their order; none of another node.
+#[tactic(auto, using(crate::proofs::Found::no_entries))]
+pub fn all_entries(node: &Node) -> &[Entry]
+    ensures { spec.entries_in (node_view node.now) ≡ entries_view result.now }
+{
+    match entries_of(node) {
+        Some(entries) => entries,
+        None => &[],
+    }
+}
+
 /// The elements of a list, in their order.
 pub fn elements_of(node: &Node) -> Option<&[Node]>
     ensures some { IfSome result (λ ns. spec.parts_in (node_view node.now) ≡ nodes_view ns.now) }
@@ -40,6 +60,23 @@ pub fn elements_of(node: &Node) -> Option<&[Node]>
         Kind::List(elements) => Some(elements.as_slice()),
         Kind::Null | Kind::Truth(_) | Kind::Whole(_) | Kind::Text(_) | Kind::Map(_) => None,
     }
+}
+
+/// The elements of a list, or else the node alone.
+pub fn parts_of(node: &Node) -> &[Node]
+    ensures { nodes_view result.now ≡ spec.parts_in (node_view node.now) }
+{
+    match elements_of(node) {
+        Some(elements) => elements,
+        None => slice::from_ref(node),
+    }
+}
+
+/// Whether there is no node.
+pub fn is_empty(nodes: &[Node]) -> bool
+    ensures { result ≡ is_empty (nodes_view nodes.now) }
+{
+    nodes.is_empty()
 }
 
 /// The characters of a text.

@@ -1,3 +1,2 @@
-pub mod Awaited
 pub mod Queries
 pub mod Verdicts

@@ -8,7 +8,8 @@ use Rattle.event_schema.specs.declared.value.Value.{Value}
 use Rattle.rule_model.specs.Inferred.{inferred_schema, schema_refusal, fit_refusal}
 use Rattle.rule_model.specs.Matching.{Matches}
 use Rattle.rule_model.specs.Plain.{PlainRule}
-use Rattle.rule_queries.specs.Awaited.{tree_of, leaves}
+use Rattle.rule_lowering.specs.Leaves.{leaves}
+use Rattle.rule_lowering.specs.TreeOf.{tree_of}
 use Rattle.sig_base.specs.declared.limits.Limits.{Limits}
 use Rattle.sig_base.specs.declared.refusal.Detail.TheVariants.{Numbers}
 use Rattle.sig_base.specs.declared.refusal.Place.{Place}

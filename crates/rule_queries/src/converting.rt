@@ -1,26 +1,45 @@
 //! Nodes of documents as rules, and rules as queries.
 
+ghost use Rattle.std.specs.Prelude.{◌≡◌};
+ghost use Rattle.rule_model.specs.Plain.{rule_view};
+ghost use Rattle.rule_model.specs.Whole.{IsWhole};
+ghost use Rattle.rule_queries.specs.Queries.{query_of, query_refusal};
 ghost use Rattle.rule_queries.specs.Verdicts.{ConvertAnswers, CheckAnswers};
+ghost use Rattle.sig_modifiers.specs.Judged.{Judged};
 ghost use Rattle.yaml_tree.specs.View.{node_view};
 
+use rule_lowering::lower;
+use rule_model::Rule;
 use sig_base::{Bytes, Fault, Limits, Place};
+use sqlite_writer::Sqlite;
 use std::alloc::Global;
 use yaml_tree::Node;
 
-/// The query of the rule that a node is.
-pub fn convert_node(_alloc: Global, limits: &Limits, node: &Node) -> Result<Bytes, Fault>
-    ensures { ConvertAnswers limits.now (node_view node.now) result }
+/// The query of a rule under the schema that is made of it. In this order it is refused 80, 83, 110, 112 and 114.
+fn convert_rule(alloc: Global, limits: &Limits, rule: &Rule) -> Result<Bytes, Fault>
+    requires { IsWhole (rule_view rule.now) }
+    ensures { Judged (λ bytes. bytes ≡ query_of (rule_view rule.now)) (query_refusal limits.now (rule_view rule.now)) result }
 {
-    let _node = node;
-    let _limits = limits;
-    Err(Fault::Memory)
+    let schema = rule.infer_schema(alloc)?;
+    if let Some(refusal) = rule.first_keyword() {
+        return Err(Fault::Refused(refusal));
+    }
+    let tree = lower(alloc, limits, rule, &schema)?;
+    Sqlite.write(alloc, limits, &schema, &tree, rule.head.place)
 }
 
-/// The place of the rule that a node is.
-pub fn check_node(_alloc: Global, limits: &Limits, node: &Node) -> Result<Place, Fault>
+/// The query of the rule that a node is. What is refused is refused as `Rule::read` says, and then 80, 83, 110, 112 and 114.
+pub fn convert_node(alloc: Global, limits: &Limits, node: &Node) -> Result<Bytes, Fault>
+    ensures { ConvertAnswers limits.now (node_view node.now) result }
+{
+    let rule = Rule::read(alloc, limits, node)?;
+    convert_rule(alloc, limits, &rule)
+}
+
+/// The place of the rule that a node is, refused as `Rule::read` says.
+pub fn check_node(alloc: Global, limits: &Limits, node: &Node) -> Result<Place, Fault>
     ensures { CheckAnswers limits.now (node_view node.now) result }
 {
-    let _node = node;
-    let _limits = limits;
-    Err(Fault::Memory)
+    let rule = Rule::read(alloc, limits, node)?;
+    Ok(rule.head.place)
 }

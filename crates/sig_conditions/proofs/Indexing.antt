@@ -10,7 +10,7 @@ use Rattle.std.proofs.lemmas.Str.{chars-encodes}
 use Rattle.sig_conditions.specs.Taken.{number_from}
 
 -- two texts have the same bytes where they have the same characters
-same_bytes : (xs ys : List ℕ) → all_scalars xs ≡ true → all_scalars ys ≡ true → bytes_eq (encode_utf8_all xs) (encode_utf8_all ys) ≡ bytes_eq xs ys
+pub same_bytes : (xs ys : List ℕ) → all_scalars xs ≡ true → all_scalars ys ≡ true → bytes_eq (encode_utf8_all xs) (encode_utf8_all ys) ≡ bytes_eq xs ys
 same_bytes xs ys a b =
     same_from_decides _ _
     (Decides-like _ (λ same. sym (chars-encodes xs a) ∙ (ap chars same ∙ chars-encodes ys b)) (λ same. ap encode_utf8_all same)

@@ -1,2 +1,4 @@
+pub mod KindLemmas
+pub mod PlainLemmas
 pub mod TestsLemmas
 pub mod ViewLemmas

@@ -1,13 +1,13 @@
 -- A value that isn't refused has tests, and one list of them.
-use Rattle.std.proofs.Common.{◌≡◌, ℕ, Bool, true, false, List, [], ◌∷◌, refl, sym, ◌∙◌, ap}
-use Rattle.std.specs.Prelude.{Option, None}
+use Rattle.std.proofs.Common.{◌≡◌, ℕ, Bool, false, List, [], ◌∷◌, refl, sym, ◌∙◌, ap}
+use Rattle.std.specs.Prelude.{None}
 use Rattle.std.specs.List.{list_any}
 use Rattle.sig_base.specs.declared.refusal.Place.{Place}
 use Rattle.sig_strings.specs.declared.part.Part.{Part}
 use Rattle.sig_strings.specs.Spells.{Spells}
 use Rattle.yaml_tree.specs.Tree.{Tree}
 use Rattle.sig_modifiers.specs.Chains.{is_cased}
-use Rattle.sig_modifiers.specs.TestsOf.{Use, unused, absent, existing, pattern, number, IsFits, UseTests, TestsOf, use_of, use_refusal, value_refusal, pattern_of, place_of}
+use Rattle.sig_modifiers.specs.TestsOf.{Use, unused, absent, existing, pattern, number, UseTests, TestsOf, use_of, use_refusal, value_refusal, pattern_of, place_of}
 use Rattle.sig_modifiers.specs.Written.{Written}
 use Rattle.sig_modifiers.specs.declared.test.Test.{Test}
 use Rattle.sig_modifiers.specs.declared.test.Test.TheVariants as tests

@@ -1,6 +1,9 @@
 pub mod Chains
 pub mod Holds
 pub mod Judged
+pub mod Kinds
+pub mod Lists
+pub mod PlainTests
 pub mod Resolved
 pub mod TestsOf
 pub mod Words

@@ -9,7 +9,7 @@ use Rattle.sig_modifiers.specs.Written.{Written}
 use Rattle.sig_modifiers.specs.declared.test.Test.{Test}
 
 abbrev pub UseJudged : Written → ℕ → Place → Use → Result (List Test) Fault → Type 0
-UseJudged chain most place use_ result = Judged (UseTests chain use_) (use_refusal most place use_) result
+UseJudged chain most place u result = Judged (UseTests chain u) (use_refusal most place u) result
 
 abbrev pub ScalarJudged : Written → ℕ → Place → Scalar → Result (List Test) Fault → Type 0
 ScalarJudged chain most place s result = UseJudged chain most place (scalar_use (form_of chain) s) result

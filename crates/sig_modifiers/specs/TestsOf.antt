@@ -105,7 +105,7 @@ text_refusal most place t = first (text_checks most place t)
 
 -- why a use gives no tests: it's none, or its text is no pattern
 abbrev pub use_refusal : ℕ → Place → Use → Option Refusal
-use_refusal most place use_ = first (must 42 place (is_used use_) ∷ text_checks most place (text_of use_))
+use_refusal most place u = first (must 42 place (is_used u) ∷ text_checks most place (text_of u))
 
 -- why a value gives no tests
 abbrev pub value_refusal : ℕ → Written → Tree → Option Refusal

@@ -80,7 +80,7 @@ impl Chain {
         ensures { result ≡ uses.form_of self.now }
     {
         if self.is_keyword() {
-            return Form::Texts(false);
+            return Form::Texts { nulls: false };
         }
         if is_empty(self.modifiers()) {
             return Form::Bare;
@@ -88,6 +88,8 @@ impl Chain {
         if is_presence(self.modifiers()) {
             return Form::Presence;
         }
-        Form::Texts(!has_position(self.modifiers()))
+        Form::Texts {
+            nulls: !has_position(self.modifiers()),
+        }
     }
 }

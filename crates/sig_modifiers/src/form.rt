@@ -8,5 +8,5 @@ pub enum Form {
     /// `exists`
     Presence,
     /// a text chain, and whether it takes null too
-    Texts(bool),
+    Texts { nulls: bool },
 }

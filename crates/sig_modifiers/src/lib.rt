@@ -2,7 +2,7 @@
 #![tactic(auto)]
 
 pub use chain::Chain;
-pub use law::{one_tests, tests_or_refusal};
+pub use law::{keyword_tests, one_tests, plain_tests, tests_or_refusal};
 pub use modifier::{Joined, Modifier};
 pub use resolving::resolve;
 pub use test::Test;

@@ -3,6 +3,7 @@
 ghost use Rattle.std.specs.Prelude.{◌≡◌, ◌∷◌, [], false, IfOk, IfErr};
 ghost use Rattle.std.specs.Str.{chars};
 ghost use Rattle.sig_modifiers.specs.Judged.{Judged};
+ghost use Rattle.sig_modifiers.specs.PlainTests.{IsPlainPattern, ArePlainTests};
 ghost use Rattle.sig_modifiers.specs.Resolved.{UseJudged, ScalarJudged};
 ghost use Rattle.sig_modifiers.specs.TestsOf as uses;
 ghost use Rattle.sig_strings.specs.Spells.{Spells};
@@ -45,7 +46,8 @@ fn truth_text(value: bool) -> &'static str
 
 /// The pattern of a text, as it is written.
 fn read_pattern(alloc: Global, limits: &Limits, text: &str, place: Place) -> Result<Pattern, Fault>
-    ensures { Judged (λ p. Spells false (chars text.now) p) (uses.text_refusal limits.now.value_chars place (chars text.now)) result }
+    ensures judged { Judged (λ p. Spells false (chars text.now) p) (uses.text_refusal limits.now.value_chars place (chars text.now)) result }
+    ensures plain { IfOk result IsPlainPattern }
 {
     let pattern = Pattern::read(alloc, limits, text, false, place)?;
     if has_nul(text) {
@@ -62,7 +64,8 @@ fn resolve_text(
     text: &str,
     place: Place,
 ) -> Result<Tests, Fault>
-    ensures { UseJudged chain.now limits.now.value_chars place (uses.pattern (chars text.now)) result }
+    ensures judged { UseJudged chain.now limits.now.value_chars place (uses.pattern (chars text.now)) result }
+    ensures plain { IfOk result ArePlainTests }
 {
     let pattern = read_pattern(alloc, limits, text, place)?;
     let pattern = chain.pattern_of(pattern)?;
@@ -76,11 +79,15 @@ fn resolve_text(
 }
 
 fn resolve_null(alloc: Global, limits: &Limits, chain: &Chain, place: Place) -> Result<Tests, Fault>
-    ensures { ScalarJudged chain.now limits.now.value_chars place null result }
+    ensures judged { ScalarJudged chain.now limits.now.value_chars place null result }
+    ensures plain { IfOk result ArePlainTests }
 {
     match chain.form() {
-        Form::Bare | Form::Texts(true) => one_test(alloc, Test::Absent),
-        Form::Presence | Form::Texts(false) => Err(refused(Code::VALUE_NOT_ALLOWED, place)),
+        Form::Bare | Form::Texts { nulls: true } => one_test(alloc, Test::Absent),
+        Form::Presence | Form::Texts { nulls: false } => Err(refused(
+            Code::VALUE_NOT_ALLOWED,
+            place,
+        )),
     }
 }
 
@@ -91,11 +98,12 @@ fn resolve_truth(
     value: bool,
     place: Place,
 ) -> Result<Tests, Fault>
-    ensures { ScalarJudged chain.now limits.now.value_chars place (truth value) result }
+    ensures judged { ScalarJudged chain.now limits.now.value_chars place (truth value) result }
+    ensures plain { IfOk result ArePlainTests }
 {
     match chain.form() {
         Form::Presence => one_test(alloc, Test::Exists(value)),
-        Form::Bare | Form::Texts(_) => {
+        Form::Bare | Form::Texts { .. } => {
             resolve_text(alloc, limits, chain, truth_text(value), place)
         }
     }
@@ -108,12 +116,13 @@ fn resolve_whole(
     value: &i64,
     place: Place,
 ) -> Result<Tests, Fault>
-    ensures { ScalarJudged chain.now limits.now.value_chars place (whole value.now) result }
+    ensures judged { ScalarJudged chain.now limits.now.value_chars place (whole value.now) result }
+    ensures plain { IfOk result ArePlainTests }
 {
     match chain.form() {
         Form::Bare => one_test(alloc, Test::Equals(*value)),
         Form::Presence => Err(refused(Code::VALUE_NOT_ALLOWED, place)),
-        Form::Texts(_) => {
+        Form::Texts { .. } => {
             let mut buffer = Buffer::new();
             let text = decimal_in(&mut buffer, *value);
             resolve_text(alloc, limits, chain, text, place)
@@ -128,19 +137,23 @@ fn resolve_string(
     value: &Text,
     place: Place,
 ) -> Result<Tests, Fault>
-    ensures { ScalarJudged chain.now limits.now.value_chars place (text value.now) result }
+    ensures judged { ScalarJudged chain.now limits.now.value_chars place (text value.now) result }
+    ensures plain { IfOk result ArePlainTests }
 {
     match chain.form() {
         Form::Presence => Err(refused(Code::VALUE_NOT_ALLOWED, place)),
-        Form::Bare | Form::Texts(_) => { resolve_text(alloc, limits, chain, value.as_str(), place) }
+        Form::Bare | Form::Texts { .. } => {
+            resolve_text(alloc, limits, chain, value.as_str(), place)
+        }
     }
 }
 
 /// The tests that a chain makes of a value, which are its alternatives. At the value's place, a value that the chain
 /// doesn't take is refused 42, a text of more characters than `value_chars` 49, and one with U+0000 50.
 pub fn resolve(alloc: Global, limits: &Limits, chain: &Chain, value: &Node) -> Result<Tests, Fault>
-    ensures { Judged (λ tests. uses.TestsOf chain.now (node_view value.now) tests)
+    ensures judged { Judged (λ tests. uses.TestsOf chain.now (node_view value.now) tests)
         (uses.value_refusal limits.now.value_chars chain.now (node_view value.now)) result }
+    ensures plain { IfOk result ArePlainTests }
 {
     match &value.kind {
         Kind::Null => resolve_null(alloc, limits, chain, value.place),

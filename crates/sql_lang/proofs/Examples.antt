@@ -14,7 +14,6 @@ use Rattle.sql_lang.specs.Faults.{Fault, fault, is_bad_escape, is_bad_bracket}
 use Rattle.sql_lang.specs.Reading.{opens_too_far, nots_too_many}
 use Rattle.sql_lang.specs.Meaning.{Truth, Yes, No, Unknown, sql_value, like_from, glob_from, fits_parts}
 use Rattle.sql_lang.specs.Leaves.{column_side, value_test, no_value_test, text_test, number_test, column_test, like_test, glob_test}
-use Rattle.sql_lang.specs.SameText.{same_text}
 use Rattle.sql_lang.proofs.Machine.{step, go_on}
 use Rattle.sql_lang.proofs.Judged.{verdict, verdict_is, IsVerdict}
 
@@ -114,7 +113,7 @@ side c x = record { operand = x; collate = c }
 abbrev query_cases : Cases
 query_cases =
     (codes "0", Ok (Test (Constant false)))
-    ∷ (codes "\"Image\" = 'O''Brien' COLLATE NOCASE", Ok (same_text 0 (codes "O'Brien")))
+    ∷ (codes "\"Image\" = 'O''Brien' COLLATE NOCASE", Ok (text_test 0 (codes "O'Brien") NoCase))
     ∷ (codes "\"n\" >= -9223372036854775807", Ok (number_test 1 Gte (negsuc 9223372036854775806)))
     ∷ (codes "\"n\"<>007", Ok (number_test 1 Ne (pos 7)))
     ∷ (codes "\"ip\" == \"image\" COLLATE NOCASE", Ok (column_test 2 0 NoCase))
@@ -211,7 +210,7 @@ glob_value pattern text = sql_value (glob_test 0 pattern) (Some (values.Text tex
 
 abbrev value_cases : List (Truth × Truth)
 value_cases =
-    (sql_value (same_text 0 (codes "cmd.EXE")) row, Yes)
+    (sql_value (text_test 0 (codes "cmd.EXE") NoCase) row, Yes)
     ∷ (sql_value (text_test 0 (codes "cmd.EXE") Unsaid) row, No)
     ∷ (sql_value (text_test 0 (codes "CMD.exe") Binary) row, Yes)
     ∷ (sql_value (Test (Compare (side Binary (ColumnAt 0)) Eq (side NoCase (Text (codes "cmd.exe"))))) row, No)

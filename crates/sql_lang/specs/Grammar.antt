@@ -127,6 +127,10 @@ spell_head table = Word SELECT ∷ Star ∷ Word FROM ∷ Name table ∷ Word WH
 abbrev pub spell_query : Query → List Sort
 spell_query q = spell_head q.table ++ (spell_or q.condition ++ spell_end q.ends)
 
+-- Tokens spell one query at most: they fix where each or and each and is divided, and which pairs of parentheses it has.
+abbrev pub OneSpelling : Type 0
+OneSpelling = (a b : Query) → spell_query a ≡ spell_query b → a ≡ b
+
 -- ---- what begins a query
 
 -- some query begins with these tokens

@@ -9,5 +9,4 @@ pub mod Layout
 pub mod Trees
 pub mod Leaves
 pub mod Escaped
-pub mod SameText
 pub mod View

@@ -1,29 +1,29 @@
 //! Laws of the language, each the contract of a function that does nothing: a proof that needs one
 //! calls it.
 
-ghost use Rattle.std.specs.Prelude.{◌≡◌, ◌↔◌, ℕ, true, false, List, [], Option, Some, encode_utf8_all};
+ghost use Rattle.std.specs.Prelude.{◌≡◌, ℕ, true, List, [], Option, encode_utf8_all};
 ghost use Rattle.std.specs.Str.{all_scalars};
 ghost use Rattle.event_schema.specs.declared.schema.Field.{Field};
 ghost use Rattle.event_schema.specs.declared.schema.Schema.{Schema};
 ghost use Rattle.event_schema.specs.declared.value.Value.{Value};
-ghost use Rattle.event_schema.specs.declared.value.Value.TheVariants.{Text};
-ghost use Rattle.event_schema.specs.Inferred.{text_schema};
-ghost use Rattle.event_schema.specs.Events.{IsPlainText};
 ghost use Rattle.sql_lang.specs.Tokens.{At, Sort, tokens, sorts};
-ghost use Rattle.sig_base.specs.Folding.{folded};
-ghost use Rattle.sql_lang.specs.Grammar.{Query, spell_query, StopsAt};
+ghost use Rattle.sql_lang.specs.Grammar.{Query, spell_query, OneSpelling, StopsAt};
 ghost use Rattle.sql_lang.specs.Expression.{Expr, or_expr};
 ghost use Rattle.sql_lang.specs.Faults.{query_faults};
 ghost use Rattle.sql_lang.specs.Reading.{Reads};
-ghost use Rattle.sql_lang.specs.Meaning.{value_at, sql_value, SqlSelects};
+ghost use Rattle.sql_lang.specs.Meaning.{sql_value};
 ghost use Rattle.sql_lang.specs.Layout.{text_query, is_writable};
 ghost use Rattle.sql_lang.specs.Trees.{Tree, layout, layout_text, fine_or, tree_value, EachLeaf, IsSound};
-ghost use Rattle.sql_lang.specs.SameText.{query_text, same_text};
 
 /// Bytes are read as one expression at most.
 pub fn one_reading()
     ensures { (schema : Schema) (bytes : List ℕ) (e f : Expr) → Reads schema bytes e
         → Reads schema bytes f → e ≡ f }
+{}
+
+/// Tokens spell one query at most.
+pub fn one_spelling()
+    ensures { OneSpelling }
 {}
 
 /// There is one place at most where tokens stop being a query's.
@@ -65,17 +65,4 @@ pub fn layout_means_tree()
 /// The layout of a tree has no needless parentheses.
 pub fn layout_is_fine()
     ensures { (t : Tree) → fine_or (layout t) ≡ true }
-{}
-
-/// The query that a field's text is this one is read as exactly this test.
-pub fn same_text_is_read()
-    ensures { (field value : List ℕ) → all_scalars field ≡ true → IsPlainText value
-        → Reads (text_schema field) (encode_utf8_all (query_text field value)) (same_text 0 value) }
-{}
-
-/// It selects a row exactly where the column has a text that is the same after folding.
-pub fn same_text_selects()
-    ensures { (k : ℕ) (value : List ℕ) (row : List (Option Value))
-        → (SqlSelects (same_text k value) row
-        ↔ ((t : List ℕ) × (value_at row k ≡ Some (Text t)) × (folded t ≡ folded value))) }
 {}

@@ -15,8 +15,8 @@ mod query;
 mod verdict;
 
 pub use laws::{
-    layout_is_fine, layout_is_read, layout_means_tree, no_stop_in_query, one_reading, one_stop,
-    same_text_is_read, same_text_selects, spelling_is_scanned, written_is_read,
+    layout_is_fine, layout_is_read, layout_means_tree, no_stop_in_query, one_reading, one_spelling,
+    one_stop, spelling_is_scanned, written_is_read,
 };
 pub use leaves::{leaves_are_read, leaves_are_sound, leaves_select};
 pub use patterns::{glob_text_is_read, like_text_is_read, runs_and_characters};

@@ -4,6 +4,7 @@ mod Texts
 mod DepthLemmas
 mod Sounds
 mod Nested
+mod Apart
 mod Calm
 pub mod Signed
 mod Rows

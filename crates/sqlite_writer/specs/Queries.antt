@@ -27,8 +27,8 @@ query_bytes schema t = encode_utf8_all (query_text schema t)
 abbrev pub query_expr : Schema → Plain → Expr
 query_expr schema t = or_expr schema.fields (layout (query_tree schema t))
 
--- The bytes are read as one query, within this limit of depth and without a needless pair of parentheses, and it selects an
--- event exactly where the tree holds.
+-- The bytes are read as one query within this limit of depth, and it selects an event exactly where the tree holds. Their
+-- characters spell a query, and no query that they spell has a needless pair of parentheses.
 pub record IsQueryOf (limit : ℕ) (schema : Schema) (t : Plain) (bytes : List ℕ) : Type 0 where
   pub characters : List ℕ
   pub scalars : all_scalars characters ≡ true
@@ -36,5 +36,7 @@ pub record IsQueryOf (limit : ℕ) (schema : Schema) (t : Plain) (bytes : List �
   pub expr : Expr
   pub reads : ReadsWithin limit schema characters expr
   pub only : (other : Expr) → Reads schema bytes other → other ≡ expr
-  pub fine : (q : Query) × (spell_query q ≡ sorts (tokens characters)) × (fine_or q.condition ≡ true)
+  pub query : Query
+  pub spelled : spell_query query ≡ sorts (tokens characters)
+  pub fine : (q : Query) → spell_query q ≡ sorts (tokens characters) → fine_or q.condition ≡ true
   pub selects : (row : List (Option Value)) → IsEvent schema.fields row → (SqlSelects expr row ↔ TreeHolds row t)

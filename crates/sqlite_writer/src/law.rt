@@ -1,10 +1,11 @@
 //! Laws of written trees, each the contract of a function that does nothing.
 
-ghost use Rattle.std.specs.Prelude.{◌≡◌, ◌≤◌, ◌↔◌, ℕ, true, false, List, Option};
+ghost use Rattle.std.specs.Prelude.{◌≡◌, ◌≤◌, ◌↔◌, ℕ, true, false, List, map, codes, Option, None};
 ghost use Rattle.std.specs.Str.{all_scalars};
 ghost use Rattle.event_schema.specs.declared.schema.Schema.{Schema};
 ghost use Rattle.event_schema.specs.declared.value.Value.{Value};
 ghost use Rattle.event_schema.specs.Events.{IsEvent};
+ghost use Rattle.event_schema.specs.Inferred.{text_field};
 ghost use Rattle.backend_core.specs.Trees.{Plain};
 ghost use Rattle.backend_core.specs.Holds.{TreeHolds};
 ghost use Rattle.backend_core.specs.Sound.{IsSound};
@@ -13,11 +14,11 @@ ghost use Rattle.sql_lang.specs.Meaning.{Yes, No};
 ghost use Rattle.sql_lang.specs.Trees.{tree_value};
 ghost use Rattle.sqlite_writer.specs.Guarded.{sql_tree};
 ghost use Rattle.sqlite_writer.specs.Queries.{query_text, query_bytes, query_expr, IsQueryOf};
-ghost use Rattle.sqlite_writer.specs.Schemas.{IsTextSchema};
+ghost use Rattle.sqlite_writer.specs.Schemas.{IsTextSchema, AreScalars, AreApart};
 
 use sig_strings::plain_fits;
 use sql_lang::{
-    layout_is_fine, layout_is_read, layout_means_tree, leaves_are_sound, one_reading,
+    layout_is_fine, layout_is_read, layout_means_tree, leaves_are_sound, one_reading, one_spelling,
     spelling_is_scanned,
 };
 use sql_patterns::{glob_means, like_means};
@@ -50,4 +51,12 @@ pub fn tree_is_query()
     layout_means_tree();
     layout_is_fine();
     one_reading();
+    one_spelling();
 }
+
+/// The table `events` with a field of texts for each name is a schema of texts, where the names are
+/// of characters and, folded, no two of them are equal.
+pub fn text_schemas()
+    ensures { (names : List (List ℕ)) → AreScalars names → AreApart names
+        → IsTextSchema (record { table = codes "events"; fields = map text_field names; time = None }) }
+{}

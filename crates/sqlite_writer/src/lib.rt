@@ -13,5 +13,5 @@ mod tests_of;
 mod walk;
 mod writer;
 
-pub use law::{polarity, tree_is_query};
+pub use law::{polarity, text_schemas, tree_is_query};
 pub use writer::Sqlite;

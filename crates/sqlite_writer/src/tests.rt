@@ -10,10 +10,10 @@ use std::test::Fail;
 
 const PLACE: Place = Place { line: 6, column: 5 };
 
-/// The table `events` with two fields of texts.
-fn schema(alloc: Global, first: &str, second: &str) -> Result<Schema, Fail> {
+/// The table `events` with three fields of texts.
+fn schema(alloc: Global) -> Result<Schema, Fail> {
     let mut fields = Fields::new(alloc);
-    for name in [first, second] {
+    for name in ["Image", "User", "Name"] {
         fields.push(Field {
             name: Text::copy(alloc, name)?,
             kind: FieldKind::Text,
@@ -57,9 +57,9 @@ fn two(alloc: Global, first: Tree, second: Tree) -> Result<Vec<Tree>, Fail> {
     Ok(parts)
 }
 
-/// The query on `Image` and `User`.
+/// The query under this schema.
 fn query(alloc: Global, tree: &Tree) -> Result<Bytes, Fail> {
-    let schema = schema(alloc, "Image", "User")?;
+    let schema = schema(alloc)?;
     Ok(Sqlite.write(alloc, &Limits::standard(), &schema, tree, PLACE)?)
 }
 
@@ -100,13 +100,13 @@ fn lists_and_negations(rt: HostRuntime) -> Result<(), Fail> {
     let both = Tree::All(two(
         alloc,
         fits(alloc, 1, "O'Brien", false)?,
-        fits(alloc, 0, "100%_x*", false)?,
+        fits(alloc, 2, "100%_x*", false)?,
     )?);
     assert!(rt;
         is_written(
             alloc,
             &both,
-            "\"User\" = 'O''Brien' COLLATE NOCASE AND \"Image\" LIKE '100\\%\\_x%' ESCAPE '\\'"
+            "\"User\" = 'O''Brien' COLLATE NOCASE AND \"Name\" LIKE '100\\%\\_x%' ESCAPE '\\'"
         )?
     );
     let none = not(alloc, fits(alloc, 0, "cmd.exe", false)?)?;
@@ -169,7 +169,7 @@ fn is_refused(answer: Result<Bytes, Fault>, code: Code, count: i128, limit: i128
 #[test]
 fn too_deep_and_too_long(rt: HostRuntime) -> Result<(), Fail> {
     let alloc = rt.alloc();
-    let schema = schema(alloc, "Image", "User")?;
+    let schema = schema(alloc)?;
     let mut parts = Vec::new(alloc);
     for _ in 0..2000 {
         parts.push(fits(alloc, 0, "a", false)?)?;

@@ -4,3 +4,8 @@ pub mod Flows
 pub mod Blocks
 pub mod Nodes
 pub mod Files
+pub mod Scalars
+pub mod FlowTexts
+pub mod BlockTexts
+pub mod NodeTexts
+pub mod FileTexts

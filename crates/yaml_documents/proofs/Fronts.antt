@@ -1,14 +1,14 @@
 -- The lines at the front of a document, by tests that they pass.
-use Rattle.std.proofs.Common.{◌≡◌, ℕ, suc, ◌+◌, ◌<◌, ◌≤◌, Bool, true, false, not, cond, ◌&&◌, ◌||◌, ◌⊎◌, inl, inr, List, [], ◌∷◌, ◌++◌, length, take, refl, sym, ap, ◌∙◌, arith}
-use Rattle.std.specs.List.{prefix_len, list_any, list_all}
+use Rattle.std.proofs.Common.{◌≡◌, ℕ, suc, ◌+◌, ◌<◌, ◌≤◌, Bool, true, false, cond, ◌⊎◌, inl, inr, List, [], ◌∷◌, ◌++◌, length, refl, ap, arith}
+use Rattle.std.specs.List.{prefix_len, list_all}
 use Rattle.yaml_lines.specs.declared.line.Line as code
-use Rattle.yaml_lines.specs.File.{Line, carries_nothing, carries}
+use Rattle.yaml_lines.specs.File.{Line, carries_nothing}
 use Rattle.yaml_lines.specs.Line.{is_void}
 use Rattle.yaml_lines.specs.View.{line_view}
 use Rattle.yaml_blocks.specs.Blocks.{skip_void}
 use Rattle.yaml_blocks.specs.Documents.{has_content}
 use Rattle.yaml_blocks.specs.Views.{lines_view}
-use Rattle.yaml_blocks.proofs.Tools.{both, neither, choose}
+use Rattle.yaml_blocks.proofs.Tools.{both}
 
 -- a count over the code's lines
 pub prefix_view : (p : Line → Bool) (xs : List code.Line) → prefix_len (λ l. p (line_view l)) xs ≡ prefix_len p (lines_view xs)

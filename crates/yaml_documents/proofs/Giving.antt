@@ -2,19 +2,17 @@
 use Rattle.std.proofs.Common.{◌≡◌, ℕ, ◌+◌, ◌-◌, ◌<◌, ◌≤◌, ◌≢◌, max, true, false, List, [], ◌∷◌, ◌++◌, length, get_or, take, drop, Option, Some, None, option_map, IfSome, IsSomeAnd, Ok, Err, refl, sym, ap, ◌∙◌, subst, arith, append_assoc, zero, suc}
 use Rattle.std.specs.List.{prefix_len, list_all}
 use Rattle.std.proofs.lemmas.List.{take-append-drop, length-map, take_all, take-map, map-append, length-take}
-use Rattle.std.proofs.Math.Seq.{take-append_seam}
 use Rattle.yaml_tree.specs.Tree.{At, Tree, tree, refusal}
-use Rattle.yaml_tree.specs.View.{place_view, document_view}
+use Rattle.yaml_tree.specs.View.{document_view}
 use Rattle.yaml_tree.specs.declared.tree.Document.{Document}
 use Rattle.yaml_tree.specs.declared.tree.Document.TheVariants.{Tree as ATree, Refused}
 use Rattle.yaml_lines.specs.declared.line.Line as code
 use Rattle.yaml_lines.specs.declared.halt.Halt.{Halt}
 use Rattle.yaml_lines.specs.File.{Line, is_marker}
-use Rattle.yaml_lines.specs.Line.{at, Stop, refused, unclosed, Read, is_void}
+use Rattle.yaml_lines.specs.Line.{at, Stop, refused, unclosed, is_void}
 use Rattle.yaml_lines.specs.View.{line_view, halt_view, Fails}
 use Rattle.yaml_blocks.specs.Reading.{block_in}
-use Rattle.yaml_blocks.specs.Laws.{StopsFirst}
-use Rattle.yaml_blocks.specs.Documents.{home, is_regular, has_content, stop_code, read_code, code_at, IsAnswer}
+use Rattle.yaml_blocks.specs.Documents.{home, is_regular, has_content, stop_code, code_at, IsAnswer}
 use Rattle.yaml_blocks.specs.Views.{lines_view}
 use Rattle.yaml_blocks.proofs.First.{stops_there}
 use Rattle.yaml_documents.specs.Places.{StandsOn}

@@ -1,19 +1,17 @@
 -- Each file has exactly one verdict.
-use Rattle.std.proofs.Common.{◌≡◌, ℕ, zero, suc, ◌<◌, ◌≤◌, Bool, true, false, cond, List, [], ◌∷◌, ◌++◌, ◌⊎◌, inl, inr, length, take, Some, refl, sym, ap, ◌∙◌, subst, arith, rules}
-use Rattle.std.specs.List.{list_any}
-use Rattle.std.specs.Str.{IsUtf8, is_utf8, IsValidUpTo, chars}
-use Rattle.std.specs.Str.Lossy.{utf8_valid_len}
+use Rattle.std.proofs.Common.{◌≡◌, ℕ, zero, suc, ◌<◌, ◌≤◌, Bool, true, false, List, [], ◌∷◌, ◌++◌, ◌⊎◌, inl, inr, length, take, refl, sym, ap, ◌∙◌, subst, arith, rules}
+use Rattle.std.specs.Str.{IsUtf8, is_utf8, chars}
 use Rattle.std.proofs.Math.Seq.{take-length}
 use Rattle.std.proofs.lemmas.List.{length-append, take_all}
 use Rattle.std.proofs.lemmas.Str.{IsUtf8-from_is_utf8, is_utf8-from_IsUtf8, utf8_valid_len-IsValidUpTo, IsUtf8-nil, encodes_same, encodes-chars, scalars-chars}
 use Rattle.yaml_tree.specs.Tree.{At, Answer}
-use Rattle.yaml_lines.specs.File.{Line, documents_of, carries}
-use Rattle.yaml_lines.specs.Line.{at, is_void}
+use Rattle.yaml_lines.specs.File.{Line, documents_of}
+use Rattle.yaml_lines.specs.Line.{at}
 use Rattle.yaml_blocks.specs.Blocks.{skip_void}
-use Rattle.yaml_blocks.specs.Documents.{home, has_content, IsAnswer, AreAnswers}
+use Rattle.yaml_blocks.specs.Documents.{home, AreAnswers}
 use Rattle.yaml_blocks.proofs.Answered.{each_answered, one_answer}
-use Rattle.yaml_files.specs.Call.{IsText, IsBadAt, IsUnreadable, IsPastAt, IsTooMany, IsCallRefusal, IsTaken, place_behind}
-use Rattle.yaml_documents.specs.Rows.{AreInARow, AreDocuments}
+use Rattle.yaml_files.specs.Call.{IsText, IsBadAt, IsPastAt, IsCallRefusal, IsTaken, place_behind}
+use Rattle.yaml_documents.specs.Rows.{AreDocuments}
 use Rattle.yaml_documents.specs.Verdicts.{EachVerdict, NeverBoth, OneList, OneRefusal}
 use Rattle.yaml_documents.proofs.Fronts.{content_begins}
 use Rattle.yaml_documents.proofs.Ready.{documents_ready}

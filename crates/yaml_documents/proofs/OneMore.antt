@@ -1,15 +1,15 @@
 -- Where one more line makes a reading stop, it stops on that line.
-use Rattle.std.proofs.Common.{◌≡◌, ℕ, zero, suc, Bool, true, false, not, cond, ◌&&◌, ◌||◌, ◌==◌, nat_lt, List, [], ◌∷◌, ◌++◌, length, drop, Some, None, is_some, Ok, Err, refl, sym, ap, ◌∙◌, subst, append-nil, ◌⊎◌, inl, inr}
+use Rattle.std.proofs.Common.{◌≡◌, ℕ, zero, suc, Bool, true, false, not, cond, ◌&&◌, ◌||◌, ◌==◌, nat_lt, List, [], ◌∷◌, ◌++◌, drop, Some, is_some, Ok, Err, refl, sym, ap, ◌∙◌, subst, append-nil, inl, inr}
 use Rattle.std.specs.Prelude.{map as list_map}
-use Rattle.yaml_tree.specs.Tree.{At, Tree, list, map, Elements, Members}
-use Rattle.yaml_lines.specs.File.{Line, is_empty, begins, skip_blanks, carries_nothing, ends_line}
-use Rattle.yaml_lines.specs.Line.{spot, Stop, Read, ◌>>=◌, indent, body, barred, stray, is_void, is_bare, is_dash, is_left_out, starts_plain, plain_rest, plain_front}
+use Rattle.yaml_tree.specs.Tree.{At, Tree}
+use Rattle.yaml_lines.specs.File.{Line, is_empty, begins, carries_nothing, ends_line}
+use Rattle.yaml_lines.specs.Line.{Stop, Read, ◌>>=◌, indent, body, barred, stray, is_void, is_bare, is_dash, is_left_out, starts_plain, plain_rest}
 use Rattle.yaml_lines.specs.Scalar.{Ending, clip, strip, keep}
 use Rattle.yaml_lines.specs.Flow.{quoted, is_quote, is_bracket, flow_node, is_seen}
 use Rattle.yaml_lines.specs.Key.{Keyed, keyed, unkeyed, key_stop, key_at}
-use Rattle.yaml_blocks.specs.Blocks.{rest_while, front_while, skip_void, nothing_from, nothing_in, Part, Parts, put_line, inside, divide, alone, Further, empty_line, comment_line, text_line, last_line, further, add_line, more_plain, plain_text, digit_first, head_end, head_of, first_indent, is_content, lines_at, scalar_lines, block_scalar}
-use Rattle.yaml_blocks.specs.Reading.{Item, item_of, items_of, offset, is_level, after_spaces, element_in, elements_in, value_in, new_key, head_in, entries_in, sequence_in, map_in, lone_in, keyed_then, node_with, node_in, block_from, block_with, block_in, too_deep}
-use Rattle.yaml_blocks.specs.Laws.{HasTree, StopsFirst}
+use Rattle.yaml_blocks.specs.Blocks.{rest_while, front_while, skip_void, nothing_from, nothing_in, Parts, put_line, inside, divide, alone, Further, empty_line, comment_line, text_line, last_line, further, add_line, more_plain, plain_text, digit_first, head_end, head_of, first_indent, is_content, lines_at, scalar_lines, block_scalar}
+use Rattle.yaml_blocks.specs.Reading.{Item, item_of, items_of, offset, is_level, element_in, elements_in, value_in, new_key, head_in, entries_in, sequence_in, map_in, lone_in, keyed_then, node_with, node_in, block_from, block_with, block_in, too_deep}
+use Rattle.yaml_blocks.specs.Laws.{HasTree}
 use Rattle.yaml_blocks.proofs.Tools.{choose}
 use Rattle.yaml_blocks.proofs.Complete.{reads_all}
 use Rattle.yaml_blocks.proofs.Persist.{rest_more}

@@ -1,10 +1,10 @@
 -- The first line at which a document is refused, and its code.
-use Rattle.std.proofs.Common.{◌≡◌, ℕ, suc, ◌+◌, ◌<◌, ◌≤◌, max, Bool, true, false, not, ◌&&◌, List, [], ◌∷◌, ◌++◌, ◌⊎◌, inl, inr, length, take, Ok, Err, refl, sym, ap, ◌∙◌, subst, append_assoc, arith, rules}
-use Rattle.std.specs.List.{prefix_len, list_any, list_all}
+use Rattle.std.proofs.Common.{◌≡◌, ℕ, ◌<◌, ◌≤◌, max, Bool, true, false, not, List, [], ◌∷◌, ◌++◌, ◌⊎◌, inl, inr, length, take, Ok, Err, refl, sym, ap, ◌∙◌, subst, append_assoc, arith, rules}
+use Rattle.std.specs.List.{prefix_len, list_all}
 use Rattle.std.proofs.lemmas.List.{length-append}
 use Rattle.std.proofs.Math.Seq.{take-append_seam}
-use Rattle.yaml_tree.specs.Tree.{At, Tree, tree, refusal}
-use Rattle.yaml_lines.specs.File.{Line, is_forbidden, is_marker}
+use Rattle.yaml_tree.specs.Tree.{Tree, tree, refusal}
+use Rattle.yaml_lines.specs.File.{Line, is_marker}
 use Rattle.yaml_lines.specs.Line.{Stop, is_void}
 use Rattle.yaml_blocks.specs.Reading.{block_in}
 use Rattle.yaml_blocks.specs.Laws.{HasTree, StopsFirst}
@@ -13,7 +13,7 @@ use Rattle.yaml_blocks.proofs.Tools.{both, not_true}
 use Rattle.yaml_blocks.proofs.Sound.{reads_trees}
 use Rattle.yaml_blocks.proofs.Complete.{reads_all}
 use Rattle.yaml_blocks.proofs.Stopped.{stops_by_cases}
-use Rattle.yaml_blocks.proofs.First.{tree_or_stop, stops_there}
+use Rattle.yaml_blocks.proofs.First.{tree_or_stop}
 use Rattle.yaml_blocks.proofs.Answered.{alive_before}
 use Rattle.yaml_documents.proofs.Fronts.{all_before, all_behind, all_counted, not_all, void_all, void_not_all, skip_all}
 

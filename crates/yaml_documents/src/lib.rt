@@ -1,9 +1,10 @@
 //! Whole files of YAML: the answer to each document, its tree or its refusal.
 #![tactic(auto)]
 
-pub use document::read_document;
 pub use file::read_documents;
 
 mod document;
 mod file;
 pub mod laws;
+#[cfg(test)]
+mod tests;

@@ -1,5 +1,5 @@
 -- What carries something.
-use Rattle.std.proofs.Common.{◌≡◌, ℕ, suc, ◌+◌, ◌≤◌, Bool, true, false, ◌&&◌, ◌||◌, ◌==◌, List, [], ◌∷◌, length, drop, cond, Option, Some, None, is_some, refl, sym, ap, ◌∙◌, arith}
+use Rattle.std.proofs.Common.{◌≡◌, ℕ, suc, ◌+◌, ◌≤◌, Bool, true, false, ◌&&◌, ◌||◌, ◌==◌, List, [], ◌∷◌, length, drop, cond, Some, None, is_some, refl, sym, ap, ◌∙◌, arith}
 use Rattle.std.specs.List.{prefix_len}
 use Rattle.yaml_lines.specs.File.{Line, is_blank, is_space, is_empty, begins, blank_or_end, skip_blanks, carries_nothing, ends_line, is_marker}
 use Rattle.yaml_lines.specs.Line.{Stop, indentation, body, is_void, barred}

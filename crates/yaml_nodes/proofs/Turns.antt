@@ -1,9 +1,9 @@
 -- The items of a block, a turn at a time.
-use Rattle.std.proofs.Common.{◌≡◌, ℕ, zero, suc, ◌+◌, ◌<◌, ◌≤◌, ◌==◌, Bool, true, false, not, ◌&&◌, cond, if◌then◌else◌, Option, Some, None, is_some, IfSome, List, [], ◌∷◌, ◌++◌, length, get_or, drop, Ok, Err, refl, sym, ap, ◌∙◌, subst, arith}
+use Rattle.std.proofs.Common.{◌≡◌, ℕ, zero, suc, ◌+◌, ◌<◌, ◌≤◌, Bool, true, false, not, ◌&&◌, cond, if◌then◌else◌, Option, Some, None, is_some, IfSome, List, [], ◌∷◌, ◌++◌, length, get_or, drop, Ok, Err, refl, sym, ap, ◌∙◌, subst, arith}
 use Rattle.std.specs.Prelude.{map as list_map}
 use Rattle.std.proofs.lemmas.List.{drop-drop, at_drop_all}
 use Rattle.std.proofs.lemmas.Bool.Decides.{nat_tests}
-use Rattle.yaml_tree.specs.Tree.{At, Tree, Elements, no_elements, element, Members, no_members, member, Member}
+use Rattle.yaml_tree.specs.Tree.{At, Tree, Elements, element, Members, member, Member}
 use Rattle.yaml_tree.specs.View.{elements_of, members_of}
 use Rattle.yaml_lines.specs.declared.line.Line as code
 use Rattle.yaml_lines.specs.File.{Line, carries_nothing, skip_blanks}

@@ -55,7 +55,7 @@ fn block(
     node(alloc, depth, true, least, line, body(line), more)
 }
 
-/// The node that begins here, which may be a block collection or not.
+/// The node that begins here; a block collection only if one may stand here.
 #[cycle(node)]
 fn node(
     alloc: Global,

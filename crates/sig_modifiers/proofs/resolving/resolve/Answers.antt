@@ -1,4 +1,4 @@
-use Rattle.std.proofs.Common.{◌≡◌, ℕ, List, sym, subst}
+use Rattle.std.proofs.Common.{ℕ, List, sym, subst}
 use Rattle.std.specs.Prelude.{Result}
 use Rattle.sig_base.specs.declared.refusal.Fault.{Fault}
 use Rattle.yaml_tree.specs.Tree.{Tree}
@@ -12,22 +12,22 @@ use Rattle.sig_modifiers.proofs.resolving.resolve.Goals as goal
 abbrev Answered : Written → ℕ → Result (List Test) Fault → Tree → Type 0
 Answered chain most r v = Judged (TestsOf chain v) (value_refusal most chain v) r
 
-pub returns-in-Null : goal.returns-in-Null
-returns-in-Null c =
+pub returns-in-Null-clause-judged : goal.returns-in-Null-clause-judged
+returns-in-Null-clause-judged c =
     subst (Answered c.args.chain.now c.args.limits.now.value_chars c.resolve_null.result)
-    (sym (view-Null c.args.value.now c.in-Null.is)) c.resolve_null.ensures
+    (sym (view-Null c.args.value.now c.in-Null.is)) c.resolve_null.ensures.judged
 
-pub returns-in-Truth : goal.returns-in-Truth
-returns-in-Truth c =
+pub returns-in-Truth-clause-judged : goal.returns-in-Truth-clause-judged
+returns-in-Truth-clause-judged c =
     subst (Answered c.args.chain.now c.args.limits.now.value_chars c.resolve_truth.result)
-    (sym (view-Truth c.args.value.now c.in-Truth.truth c.in-Truth.is)) c.resolve_truth.ensures
+    (sym (view-Truth c.args.value.now c.in-Truth.truth c.in-Truth.is)) c.resolve_truth.ensures.judged
 
-pub returns-in-Whole : goal.returns-in-Whole
-returns-in-Whole c =
+pub returns-in-Whole-clause-judged : goal.returns-in-Whole-clause-judged
+returns-in-Whole-clause-judged c =
     subst (Answered c.args.chain.now c.args.limits.now.value_chars c.resolve_whole.result)
-    (sym (view-Whole c.args.value.now c.in-Whole.number c.in-Whole.is)) c.resolve_whole.ensures
+    (sym (view-Whole c.args.value.now c.in-Whole.number c.in-Whole.is)) c.resolve_whole.ensures.judged
 
-pub returns-in-Text : goal.returns-in-Text
-returns-in-Text c =
+pub returns-in-Text-clause-judged : goal.returns-in-Text-clause-judged
+returns-in-Text-clause-judged c =
     subst (Answered c.args.chain.now c.args.limits.now.value_chars c.resolve_string.result)
-    (sym (view-Text c.args.value.now c.in-Text.text c.in-Text.is)) c.resolve_string.ensures
+    (sym (view-Text c.args.value.now c.in-Text.text c.in-Text.is)) c.resolve_string.ensures.judged

@@ -1,4 +1,4 @@
-use Rattle.std.proofs.Common.{◌≡◌, refl}
+use Rattle.std.proofs.Common.{refl}
 use Rattle.std.specs.Prelude.{codes}
 use Rattle.sig_base.proofs.TextLemmas.{ascii_chars}
 use Rattle.sig_modifiers.proofs.resolving.truth_text.Goals as goal

@@ -1,5 +1,6 @@
-use Rattle.std.proofs.Common.{refl, sym, ◌∙◌, false}
-use Rattle.sql_lang.specs.Trees.{layout_query, IsSound as IsSoundLeaf}
+use Rattle.std.proofs.Common.{◌≡◌, refl, sym, ◌∙◌, true, false, subst}
+use Rattle.sql_lang.specs.Grammar.{Query}
+use Rattle.sql_lang.specs.Trees.{layout_query, fine_or, IsSound as IsSoundLeaf}
 use Rattle.sqlite_writer.specs.Guarded.{name_at}
 use Rattle.sqlite_writer.specs.Queries.{query_tree, query_text, query_bytes, query_expr}
 use Rattle.sqlite_writer.proofs.Nested.{IsCalm}
@@ -28,7 +29,11 @@ returns c = λ limit schema t texts sound some deep scalars.
       expr = query_expr schema t;
       reads = within limit schema tree each_calm deep scanned reads;
       only = λ other r. c.one_reading.ensures schema (query_bytes schema t) other (query_expr schema t) r reads;
-      fine = (layout_query schema.table tree, sym scanned, c.layout_is_fine.ensures tree);
+      query = layout_query schema.table tree;
+      spelled = sym scanned;
+      fine = λ q is.
+          let same : layout_query schema.table tree ≡ q = c.one_spelling.ensures (layout_query schema.table tree) q (sym scanned ∙ sym is) in
+          subst (λ (p : Query). fine_or p.condition ≡ true) same (c.layout_is_fine.ensures tree);
       selects = λ row event.
           let same = c.layout_means_tree.ensures fields tree row in
           let holds = c.polarity.ensures.even schema t row texts sound event in

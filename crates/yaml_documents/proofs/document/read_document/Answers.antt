@@ -1,4 +1,3 @@
-use Rattle.std.proofs.Common.{◌≡◌, length, sym, ap, ◌∙◌}
 use Rattle.std.proofs.lemmas.Result.{IfOk-weaker}
 use Rattle.yaml_tree.specs.View.{node_view}
 use Rattle.yaml_documents.proofs.Giving.{whole_given, numbered, stopped_given, dead_within, behind_given}

@@ -1,4 +1,4 @@
-use Rattle.std.proofs.Common.{sym, ap, ◌∙◌}
+use Rattle.std.proofs.Common.{sym, ◌∙◌}
 use Rattle.std.proofs.lemmas.Result.{IfOk-weaker}
 use Rattle.yaml_tree.specs.View.{node_view, place_view}
 use Rattle.yaml_documents.proofs.Giving.{marked, unread, halted}

@@ -1,10 +1,9 @@
-use Rattle.std.proofs.Common.{◌<◌, ◌-◌, length, get_or, arith, sym, ap, ◌∙◌, subst}
+use Rattle.std.proofs.Common.{◌<◌, ◌-◌, length, get_or, arith}
 use Rattle.std.proofs.lemmas.Result.{IfOk-weaker}
-use Rattle.yaml_lines.specs.declared.line.Line as code
-use Rattle.yaml_lines.specs.View.{line_view, halt_view}
+use Rattle.yaml_lines.specs.View.{halt_view}
 use Rattle.yaml_blocks.specs.Views.{lines_view}
 use Rattle.yaml_documents.specs.Given.{HasNumber}
-use Rattle.yaml_documents.proofs.Splits.{IsAt, is_at, there_is}
+use Rattle.yaml_documents.proofs.Splits.{is_at, there_is}
 use Rattle.yaml_documents.proofs.Giving.{so_stopped}
 use Rattle.yaml_documents.proofs.document.stopped.Goals as goal
 

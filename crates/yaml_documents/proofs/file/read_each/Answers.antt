@@ -1,7 +1,4 @@
-use Rattle.std.proofs.Common.{rules}
-use Rattle.std.specs.Borrow.{Bor}
-use Rattle.yaml_documents.specs.Given.{IsPlain}
-use Rattle.yaml_documents.proofs.Ready.{IsReady, ready_at, answers_more, plain_more}
+use Rattle.yaml_documents.proofs.Ready.{ready_at, answers_more, plain_more}
 use Rattle.yaml_documents.proofs.file.read_each.Goals as goal
 
 pub read_document-requires-clause-content : goal.read_document-requires-clause-content

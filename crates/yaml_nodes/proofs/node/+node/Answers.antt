@@ -1,5 +1,5 @@
-use Rattle.std.proofs.Common.{◌≡◌, ℕ, ◌+◌, List, [], ◌∷◌, ◌++◌, drop, true, false, Ok, Err, refl, sym, ap, ◌∙◌, subst, rules, arith}
-use Rattle.yaml_tree.specs.Tree.{At, Tree, Member}
+use Rattle.std.proofs.Common.{◌≡◌, ℕ, ◌+◌, List, [], ◌∷◌, ◌++◌, drop, true, false, sym, ap, ◌∙◌, subst, rules}
+use Rattle.yaml_tree.specs.Tree.{At, Tree}
 use Rattle.yaml_tree.specs.View.{place_view, node_view, entry_view, nodes_view, entries_view}
 use Rattle.yaml_lines.specs.File.{blank_or_end, carries_nothing}
 use Rattle.yaml_lines.specs.Line.{Read, spot}
@@ -9,10 +9,9 @@ use Rattle.yaml_lines.specs.View.{line_view, Gives}
 use Rattle.yaml_lines.proofs.Failing.{fails_more, gives_err}
 use Rattle.yaml_lines.proofs.Flows.{keys_of, map_push}
 use Rattle.yaml_lines.proofs.SeenLemmas.{knows_none}
-use Rattle.yaml_blocks.specs.Blocks.{inside}
-use Rattle.yaml_blocks.specs.Reading.{Item, items_of, offset, after_spaces, lone_in, node_in, block_with}
+use Rattle.yaml_blocks.specs.Reading.{Item, items_of, offset, after_spaces, node_in, block_with}
 use Rattle.yaml_blocks.specs.Views.{lines_view}
-use Rattle.yaml_nodes.specs.Items.{item, behind, dashed_in, keyed_in, elements_at, entries_at, elements_given, entries_given, list_in, mapping_in, IsContent}
+use Rattle.yaml_nodes.specs.Items.{item, dashed_in, keyed_in, elements_at, entries_at, elements_given, entries_given, IsContent}
 use Rattle.yaml_nodes.proofs.Contents.{body_solid}
 use Rattle.yaml_nodes.proofs.Turns.{first_item, next_item, outside_rest, outside_next, elements_first, elements_more, elements_stop_first, elements_stop, elements_end, entries_first, entries_more, entries_stop_first, entries_stop, entries_end, knows_grown, node_no, node_list, node_map, node_lone, node_stop, key_fails, dashed_is, behind_block, behind_node, first_solid}
 use Rattle.yaml_nodes.proofs.node.+node.Goals as goal

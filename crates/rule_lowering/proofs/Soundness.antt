@@ -1,0 +1,195 @@
+-- The tree of a whole rule that fits the schema is sound.
+use Rattle.std.proofs.Common.{ℕ, zero, suc, ◌≡◌, ◌<◌, ◌↔◌, Bool, true, false, List, [], ◌∷◌, ◌++◌, length, map, refl, sym, ap, subst, arith, ◌∙◌}
+use Rattle.std.specs.Prelude.{Option, Some, None}
+use Rattle.std.specs.Fmt.{signed_decimal}
+use Rattle.std.specs.List.{flat_map}
+use Rattle.backend_core.specs.Sound.{IsSoundPattern, IsSoundTest, AreTwo, IsSound, AreSound}
+use Rattle.backend_core.specs.Trees.{Plain, all, any, negated, leaf, Plains, no_parts, a_part}
+use Rattle.event_schema.specs.Events.{IsPlainText}
+use Rattle.event_schema.specs.declared.schema.Field.{Field}
+use Rattle.event_schema.specs.declared.schema.Schema.{Schema}
+use Rattle.rule_model.specs.Inferred.{fields_refusal, fit_refusal, items_of}
+use Rattle.rule_model.specs.Lists.{EachOf}
+use Rattle.rule_model.specs.Plain.{PlainRule}
+use Rattle.rule_model.specs.Whole.{IsSome, IsWholeTest, IsWholeValue, AreWholeFields, IsWholeItem, IsWholeAlternative, IsWholeDetection, IsWholeForm, AreSomeForms, AreWholeForms, IsWhole}
+use Rattle.rule_model.specs.declared.detection.Detection.{Detection}
+use Rattle.rule_model.specs.declared.item.Fields.{Fields}
+use Rattle.rule_model.specs.declared.item.Fields.TheVariants.{Keyword, Names}
+use Rattle.rule_model.specs.declared.item.Item.{Item}
+use Rattle.sig_base.specs.declared.refusal.Place.{Place}
+use Rattle.sig_conditions.specs.Formulas.{Form, FDetection, FNot, FAnd, FOr, Forms, no_forms, form}
+use Rattle.sig_modifiers.specs.declared.modifier.Joined.{Joined}
+use Rattle.sig_modifiers.specs.declared.modifier.Joined.TheVariants.{All, Any}
+use Rattle.sig_modifiers.specs.declared.test.Test.{Test}
+use Rattle.sig_modifiers.specs.declared.test.Test.TheVariants as tests
+use Rattle.rule_lowering.specs.Joining.{plains, listed, parts_of, tree_with, closed, join}
+use Rattle.rule_lowering.specs.TreeOf.{leaf_test, test_tree, value_tree, values_tree, number_of, searched, keyword_tree, fields_tree, item_tree, alternative_tree, detection_tree, numbered_tree, form_tree, form_trees, tree_of}
+use Rattle.rule_lowering.proofs.Decimals.{characters, own_text, characters_written, low_decimal, low_plain}
+use Rattle.rule_lowering.proofs.Found.{field_within, searched_within, some_searched, must_holds, each_name, each_passes}
+use Rattle.rule_lowering.proofs.JoiningLemmas.{each_append, over_flat, iff_same}
+
+-- ---- lists
+
+each_with : {A B : Type 0} (P : A → Type 0) (Q : B → Type 0) (f : A → B) → ((x : A) → P x → Q (f x)) → (xs : List A) → EachOf P xs → EachOf Q (map f xs)
+each_with P Q f holds [] h = tt
+each_with P Q f holds (x ∷ xs) h = (holds x h.0, each_with P Q f holds xs h.1)
+
+each_both : {A : Type 0} (P Q : A → Type 0) (xs : List A) → EachOf P xs → EachOf Q xs → EachOf (λ x. P x × Q x) xs
+each_both P Q [] p q = tt
+each_both P Q (x ∷ xs) p q = ((p.0, q.0), each_both P Q xs p.1 q.1)
+
+some_map : {A B : Type 0} (f : A → B) (xs : List A) → IsSome xs → IsSome (map f xs)
+some_map f [] h = absurd h
+some_map f (x ∷ xs) h = tt
+
+some_append : {A : Type 0} (xs ys : List A) → IsSome xs → IsSome (xs ++ ys)
+some_append [] ys h = absurd h
+some_append (x ∷ xs) ys h = tt
+
+-- ---- joining
+
+module _ (fields : List Field) where
+  some_listed : (ts : Plains) → AreTwo ts → IsSome (listed ts)
+  some_listed no_parts h = absurd h
+  some_listed (a_part t ts) h = tt
+
+  listed_sound : (ts : Plains) → AreSound fields ts → EachOf (IsSound fields) (listed ts)
+  listed_sound no_parts h = tt
+  listed_sound (a_part t ts) h = (h.0, listed_sound ts h.1)
+
+  plains_sound : (ts : List Plain) → EachOf (IsSound fields) ts → AreSound fields (plains ts)
+  plains_sound [] h = tt
+  plains_sound (t ∷ ts) h = (h.0, plains_sound ts h.1)
+
+  parts_sound : (j : Joined) (t : Plain) → IsSound fields t → IsSome (parts_of j t) × EachOf (IsSound fields) (parts_of j t)
+  parts_sound All (all ts) h = (some_listed ts h.0, listed_sound ts h.1)
+  parts_sound All (any ts) h = (tt, (h, tt))
+  parts_sound All (negated t) h = (tt, (h, tt))
+  parts_sound All (leaf l) h = (tt, (h, tt))
+  parts_sound Any (all ts) h = (tt, (h, tt))
+  parts_sound Any (any ts) h = (some_listed ts h.0, listed_sound ts h.1)
+  parts_sound Any (negated t) h = (tt, (h, tt))
+  parts_sound Any (leaf l) h = (tt, (h, tt))
+
+  flat_sound : (j : Joined) (ts : List Plain) → EachOf (IsSound fields) ts → EachOf (IsSound fields) (flat_map (parts_of j) ts)
+  flat_sound j [] h = tt
+  flat_sound j (t ∷ ts) h =
+      (each_append (IsSound fields) (parts_of j t) (flat_map (parts_of j) ts)).1 ((parts_sound j t h.0).1, flat_sound j ts h.1)
+
+  some_flat : (j : Joined) (ts : List Plain) → IsSome ts → EachOf (IsSound fields) ts → IsSome (flat_map (parts_of j) ts)
+  some_flat j [] s h = absurd s
+  some_flat j (t ∷ ts) s h = some_append (parts_of j t) (flat_map (parts_of j) ts) (parts_sound j t h.0).0
+
+  with_sound : (j : Joined) (ts : Plains) → AreTwo ts → AreSound fields ts → IsSound fields (tree_with j ts)
+  with_sound All ts two h = (two, h)
+  with_sound Any ts two h = (two, h)
+
+  closed_sound : (j : Joined) (ts : List Plain) → IsSome ts → EachOf (IsSound fields) ts → IsSound fields (closed j ts)
+  closed_sound j [] s h = absurd s
+  closed_sound j (t ∷ []) s h = h.0
+  closed_sound j (t ∷ u ∷ ts) s h = with_sound j (plains (t ∷ u ∷ ts)) tt (plains_sound (t ∷ u ∷ ts) h)
+
+  join_sound : (j : Joined) (ts : List Plain) → IsSome ts → EachOf (IsSound fields) ts → IsSound fields (join j ts)
+  unfolding join
+  join_sound j ts s h = closed_sound j (flat_map (parts_of j) ts) (some_flat j ts s h) (flat_sound j ts h)
+
+  join_map_sound : {A : Type 0} (P : A → Type 0) (j : Joined) (f : A → Plain) → ((x : A) → P x → IsSound fields (f x))
+      → (xs : List A) → IsSome xs → EachOf P xs → IsSound fields (join j (map f xs))
+  join_map_sound P j f holds xs s h = join_sound j (map f xs) (some_map f xs s) (each_with P (IsSound fields) f holds xs h)
+
+  -- ---- values
+
+  decimal_sound : (low : List ℕ) → IsPlainText low → IsSoundPattern (characters low)
+  decimal_sound low h = record { written = characters_written low; plain = subst IsPlainText (sym (own_text low)) h }
+
+  test_sound : (test : Test) → IsWholeTest test → IsSoundTest (leaf_test test)
+  test_sound tests.Absent h = tt
+  test_sound (tests.Exists true) h = tt
+  test_sound (tests.Exists false) h = tt
+  test_sound (tests.Fits parts cased) h = record { written = h.written; plain = h.plain }
+  test_sound (tests.Equals n) h = decimal_sound (signed_decimal n) (low_plain (signed_decimal n) (low_decimal n))
+
+  value_sound : (place : Place) (n : ℕ) → n < length fields → (ts : List Test) → IsWholeValue ts → IsSound fields (value_tree place n ts)
+  value_sound place n within ts h =
+      join_map_sound IsWholeTest Any (test_tree place n) (λ t whole. (within, test_sound t whole)) ts h.some h.each
+
+  values_sound : (place : Place) (j : Joined) (values : List (List Test)) → IsSome values → EachOf IsWholeValue values
+      → (n : ℕ) → n < length fields → IsSound fields (values_tree place j values n)
+  values_sound place j values s h n within = join_map_sound IsWholeValue j (value_tree place n) (value_sound place n within) values s h
+
+  keyword_sound : (place : Place) → IsSome (searched fields) → (ts : List Test) → IsWholeValue ts → IsSound fields (keyword_tree fields place ts)
+  keyword_sound place s ts h =
+      join_map_sound (λ n. n < length fields) Any (λ n. value_tree place n ts) (λ n within. value_sound place n within ts h)
+      (searched fields) s (searched_within fields)
+
+  -- ---- items
+
+  fields_sound : (place : Place) (j : Joined) (values : List (List Test)) (fs : Fields) → AreWholeFields fs values → IsSome values → EachOf IsWholeValue values
+      → fields_refusal fields place fs ≡ None → IsSound fields (fields_tree fields place j values fs)
+  fields_sound place j values Keyword w s h fits =
+      join_map_sound IsWholeValue j (keyword_tree fields place) (keyword_sound place (some_searched fields (must_holds 83 place _ fits))) values s h
+  fields_sound place j values (Names names) w s h fits =
+      join_map_sound (λ name. number_of fields name < length fields) Any (λ name. values_tree place j values (number_of fields name))
+      (λ name within. values_sound place j values s h (number_of fields name) within)
+      names w.0 (each_name _ (field_within fields) names (must_holds 81 place _ fits))
+
+  abbrev Passes : Item → Type 0
+  Passes i = fields_refusal fields i.place i.fields ≡ None
+
+  item_sound : (i : Item) → IsWholeItem i × Passes i → IsSound fields (item_tree fields i)
+  item_sound i h = fields_sound i.place i.joined i.tests i.fields h.0.fields h.0.some h.0.each h.1
+
+  alternative_sound : (items : List Item) → IsWholeAlternative items × EachOf Passes items → IsSound fields (alternative_tree fields items)
+  alternative_sound items h =
+      join_map_sound (λ i. IsWholeItem i × Passes i) All (item_tree fields) item_sound items h.0.some (each_both IsWholeItem Passes items h.0.each h.1)
+
+  abbrev DetectionPasses : Detection → Type 0
+  DetectionPasses d = EachOf (λ items. EachOf Passes items) d.alternatives
+
+  detection_sound : (d : Detection) → IsWholeDetection d × DetectionPasses d → IsSound fields (detection_tree fields d)
+  detection_sound d h =
+      join_map_sound (λ items. IsWholeAlternative items × EachOf Passes items) Any (alternative_tree fields) alternative_sound d.alternatives h.0.some
+      (each_both IsWholeAlternative (λ items. EachOf Passes items) d.alternatives h.0.each h.1)
+
+  items_pass : (ds : List Detection) → EachOf Passes (items_of ds) → EachOf DetectionPasses ds
+  items_pass ds h =
+      (over_flat All (λ d. flat_map (λ items. items) d.alternatives) Passes DetectionPasses
+      (λ d. over_flat All (λ items. items) Passes (λ items. EachOf Passes items) (λ items. iff_same) d.alternatives) ds).0 h
+
+  -- ---- conditions
+
+  abbrev Fine : List Detection → Type 0
+  Fine ds = EachOf (λ d. IsWholeDetection d × DetectionPasses d) ds
+
+  numbered_sound : (ds : List Detection) → Fine ds → (n : ℕ) → n < length ds → IsSound fields (numbered_tree fields ds n)
+  numbered_sound [] h n within = absurd (omega arith)
+  numbered_sound (d ∷ ds) h zero within = detection_sound d h.0
+  numbered_sound (d ∷ ds) h (suc n) within = numbered_sound ds h.1 n (omega arith)
+
+  mutual
+    form_sound : (ds : List Detection) → Fine ds → (f : Form) → IsWholeForm (length ds) f → IsSound fields (form_tree fields ds f)
+    form_sound ds h (FDetection n) w = numbered_sound ds h n w
+    form_sound ds h (FNot f) w = form_sound ds h f w
+    form_sound ds h (FAnd fs) w = join_sound All (form_trees fields ds fs) (some_forms ds fs w) (some_forms_sound ds h fs w)
+    form_sound ds h (FOr fs) w = join_sound Any (form_trees fields ds fs) (some_forms ds fs w) (some_forms_sound ds h fs w)
+
+    some_forms_sound : (ds : List Detection) → Fine ds → (fs : Forms) → AreSomeForms (length ds) fs → EachOf (IsSound fields) (form_trees fields ds fs)
+    some_forms_sound ds h no_forms w = tt
+    some_forms_sound ds h (form f fs) w = (form_sound ds h f w.0, forms_sound ds h fs w.1)
+
+    forms_sound : (ds : List Detection) → Fine ds → (fs : Forms) → AreWholeForms (length ds) fs → EachOf (IsSound fields) (form_trees fields ds fs)
+    forms_sound ds h no_forms w = tt
+    forms_sound ds h (form f fs) w = (form_sound ds h f w.0, forms_sound ds h fs w.1)
+
+    some_forms : (ds : List Detection) (fs : Forms) → AreSomeForms (length ds) fs → IsSome (form_trees fields ds fs)
+    some_forms ds no_forms w = absurd w
+    some_forms ds (form f fs) w = tt
+
+pub tree_sound : (schema : Schema) (rule : PlainRule) → IsWhole rule → fit_refusal schema rule ≡ None → IsSound schema.fields (tree_of schema rule)
+tree_sound schema rule w fits =
+    let fields = schema.fields in
+    let ds = rule.detections in
+    let pass : EachOf (DetectionPasses fields) ds =
+    items_pass fields ds (each_passes (λ (i : Item). fields_refusal fields i.place i.fields) (items_of ds) fits) in
+    let fine : Fine fields ds = each_both IsWholeDetection (DetectionPasses fields) ds w.detections pass in
+    join_map_sound fields (IsWholeForm (length ds)) Any (form_tree fields ds) (form_sound fields ds fine) rule.conditions w.some w.conditions

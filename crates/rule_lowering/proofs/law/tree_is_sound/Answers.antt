@@ -1,0 +1,5 @@
+use Rattle.rule_lowering.proofs.Soundness.{tree_sound}
+use Rattle.rule_lowering.proofs.law.tree_is_sound.Goals as goal
+
+pub returns : goal.returns
+returns c = tree_sound

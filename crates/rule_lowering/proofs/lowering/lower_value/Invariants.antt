@@ -1,0 +1,12 @@
+use Rattle.std.proofs.Common.{◌≡◌, ◌++◌, map, drop}
+use Rattle.std.specs.List.{flat_map}
+use Rattle.backend_core.specs.View.{tree_view}
+use Rattle.sig_modifiers.specs.declared.modifier.Joined.TheVariants.{Any}
+use Rattle.rule_lowering.specs.Joining.{parts_of}
+use Rattle.rule_lowering.specs.TreeOf.{test_tree}
+use Rattle.rule_lowering.proofs.lowering.lower_value.Given as goal
+
+abbrev pub invariant-loop-test : goal.invariant-loop-test
+invariant-loop-test l =
+    map tree_view l.parts.items ++ flat_map (parts_of Any) (map (test_tree l.place l.field) (drop l.test-index l.tests))
+    ≡ flat_map (parts_of Any) (map (test_tree l.place l.field) l.tests)

@@ -1,0 +1,89 @@
+-- The tree of tests that a rule is under a schema (Sigma specification 2.0, detection and condition), each field of which is
+-- tested as a text.
+use Rattle.std.specs.Prelude.{ℕ, zero, suc, true, false, List, [], ◌∷◌, length, map, filter, unwrap_or}
+use Rattle.std.specs.Fmt.{signed_decimal}
+use Rattle.backend_core.specs.Trees.{Plain, any, negated, leaf, no_parts}
+use Rattle.backend_core.specs.declared.tree.LeafTest.{LeafTest}
+use Rattle.backend_core.specs.declared.tree.LeafTest.TheVariants as leaf_tests
+use Rattle.event_schema.specs.Rows.{field_number}
+use Rattle.event_schema.specs.declared.schema.Field.{Field}
+use Rattle.event_schema.specs.declared.schema.Schema.{Schema}
+use Rattle.rule_model.specs.Plain.{PlainRule}
+use Rattle.rule_model.specs.declared.detection.Detection.{Detection}
+use Rattle.rule_model.specs.declared.item.Fields.{Fields}
+use Rattle.rule_model.specs.declared.item.Fields.TheVariants.{Keyword, Names}
+use Rattle.rule_model.specs.declared.item.Item.{Item}
+use Rattle.sig_base.specs.declared.refusal.Place.{Place}
+use Rattle.sig_conditions.specs.Formulas.{Form, FDetection, FNot, FAnd, FOr, Forms, no_forms, form}
+use Rattle.sig_modifiers.specs.declared.modifier.Joined.{Joined}
+use Rattle.sig_modifiers.specs.declared.modifier.Joined.TheVariants.{All, Any}
+use Rattle.sig_modifiers.specs.declared.test.Test.{Test}
+use Rattle.sig_modifiers.specs.declared.test.Test.TheVariants as tests
+use Rattle.sig_strings.specs.declared.part.Part.TheVariants.{Char}
+use Rattle.rule_lowering.specs.Joining.{join}
+
+-- what a leaf asks for a test: a value, none, or a text; a number's text is its decimal
+abbrev pub leaf_test : Test → LeafTest
+leaf_test tests.Absent = leaf_tests.Absent
+leaf_test (tests.Exists true) = leaf_tests.Has
+leaf_test (tests.Exists false) = leaf_tests.Absent
+leaf_test (tests.Fits pattern cased) = leaf_tests.Fits pattern cased
+leaf_test (tests.Equals n) = leaf_tests.Fits (map Char (signed_decimal n)) false
+
+abbrev pub test_tree : Place → ℕ → Test → Plain
+test_tree place field test = leaf (record { field = field; test = leaf_test test; place = place })
+
+-- a value is any of its tests
+abbrev pub value_tree : Place → ℕ → List Test → Plain
+value_tree place field tests = join Any (map (test_tree place field) tests)
+
+abbrev pub values_tree : Place → Joined → List (List Test) → ℕ → Plain
+values_tree place joined values field = join joined (map (value_tree place field) values)
+
+module _ (fields : List Field) where
+  -- the number of the field of this name; where there is none, the number behind the last field's
+  abbrev pub number_of : List ℕ → ℕ
+  number_of name = unwrap_or (field_number fields name) (length fields)
+
+  -- the fields that keywords search, in their order
+  abbrev pub searched : List ℕ
+  searched = map (λ field. number_of field.name) (filter (λ field. field.search) fields)
+
+  -- a keyword is any of those fields
+  abbrev pub keyword_tree : Place → List Test → Plain
+  keyword_tree place tests = join Any (map (λ field. value_tree place field tests) searched)
+
+  -- an item over names is any of the names
+  abbrev pub fields_tree : Place → Joined → List (List Test) → Fields → Plain
+  fields_tree place joined values Keyword = join joined (map (keyword_tree place) values)
+  fields_tree place joined values (Names names) = join Any (map (λ name. values_tree place joined values (number_of name)) names)
+
+  abbrev pub item_tree : Item → Plain
+  item_tree i = fields_tree i.place i.joined i.tests i.fields
+
+  abbrev pub alternative_tree : List Item → Plain
+  alternative_tree items = join All (map item_tree items)
+
+  abbrev pub detection_tree : Detection → Plain
+  detection_tree d = join Any (map alternative_tree d.alternatives)
+
+  -- the detection of this number; where there is none, a tree that never holds
+  abbrev pub numbered_tree : List Detection → ℕ → Plain
+  numbered_tree [] n = any no_parts
+  numbered_tree (d ∷ ds) zero = detection_tree d
+  numbered_tree (d ∷ ds) (suc n) = numbered_tree ds n
+
+  abbrev mutual
+    pub form_tree : List Detection → Form → Plain
+    form_tree ds (FDetection n) = numbered_tree ds n
+    form_tree ds (FNot f) = negated (form_tree ds f)
+    form_tree ds (FAnd fs) = join All (form_trees ds fs)
+    form_tree ds (FOr fs) = join Any (form_trees ds fs)
+
+    pub form_trees : List Detection → Forms → List Plain
+    form_trees ds no_forms = []
+    form_trees ds (form f fs) = form_tree ds f ∷ form_trees ds fs
+
+-- a rule is any of its conditions
+abbrev pub tree_of : Schema → PlainRule → Plain
+tree_of schema rule = join Any (map (form_tree schema.fields rule.detections) rule.conditions)

@@ -1,0 +1,68 @@
+//! The trees of formulas.
+
+ghost use Rattle.std.specs.Prelude.{◌≡◌, IfOk, IfErr};
+ghost use Rattle.backend_core.specs.View.{tree_view};
+ghost use Rattle.rule_lowering.specs.Joining.{join};
+ghost use Rattle.rule_lowering.specs.Numbered.{Numbered};
+ghost use Rattle.rule_lowering.specs.TreeOf as spec;
+ghost use Rattle.sig_conditions.specs.Formulas.{form_view, forms_view, forms_of};
+
+use crate::joining::{add_part, close_parts};
+use crate::lowering::lower_numbered;
+use crate::numbers::Numbers;
+use backend_core::Tree;
+use event_schema::Field;
+use rule_model::Detection;
+use sig_base::Fault;
+use sig_conditions::Formula;
+use sig_modifiers::Joined;
+use std::alloc::Global;
+
+#[cycle(formulas)]
+fn lower_formula(
+    alloc: Global,
+    fields: &[Field],
+    numbers: &Numbers,
+    detections: &[Detection],
+    formula: &Formula,
+) -> Result<Tree, Fault>
+    requires { Numbered fields.now numbers.now }
+    ensures ok { IfOk result (λ t. tree_view t ≡ spec.form_tree fields.now detections.now (form_view formula.now)) }
+    ensures err { IfErr result (λ e. e ≡ Fault.Memory) }
+{
+    match formula {
+        Formula::Detection(number) => lower_numbered(alloc, fields, numbers, detections, *number),
+        Formula::Not(part) => {
+            let tree = lower_formula(alloc, fields, numbers, detections, part)?;
+            Ok(Tree::Not(Box::new(alloc, tree)?))
+        }
+        Formula::And(parts) => {
+            lower_formulas(alloc, fields, numbers, detections, Joined::All, parts)
+        }
+        Formula::Or(parts) => {
+            lower_formulas(alloc, fields, numbers, detections, Joined::Any, parts)
+        }
+    }
+}
+
+/// All of some formulas, or any of them.
+#[cycle(formulas)]
+pub fn lower_formulas(
+    alloc: Global,
+    fields: &[Field],
+    numbers: &Numbers,
+    detections: &[Detection],
+    joined: Joined,
+    formulas: &[Formula],
+) -> Result<Tree, Fault>
+    requires { Numbered fields.now numbers.now }
+    ensures ok { IfOk result (λ t. tree_view t ≡ join joined (spec.form_trees fields.now detections.now (forms_of (forms_view formulas.now)))) }
+    ensures err { IfErr result (λ e. e ≡ Fault.Memory) }
+{
+    let mut parts = Vec::new(alloc);
+    for formula in formulas {
+        let part = lower_formula(alloc, fields, numbers, detections, formula)?;
+        add_part(joined, &mut parts, part)?;
+    }
+    Ok(close_parts(joined, parts))
+}

@@ -1,0 +1,15 @@
+//! Lowering: the tree of tests that a rule is.
+#![tactic(auto)]
+
+pub use law::{tree_is_sound, tree_means_rule};
+pub use rule::lower;
+
+mod counting;
+mod formula;
+mod joining;
+mod law;
+mod lowering;
+mod numbers;
+mod rule;
+#[cfg(test)]
+mod tests;

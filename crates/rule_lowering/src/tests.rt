@@ -1,0 +1,349 @@
+//! Trees of small rules, and the refusal of a large one, all reckoned by hand.
+
+use crate::lower;
+use backend_core::{Leaf, LeafTest, Tree};
+use event_schema::{Field, FieldKind, Schema};
+use rule_model::{
+    Alternative, Alternatives, Detection, Detections, Fields, Head, Item, LogSource, Rule, Values,
+};
+use sig_base::{Code, Detail, Fault, Limits, Place, Text, Texts};
+use sig_conditions::Formula;
+use sig_modifiers::{Joined, Test, Tests};
+use sig_strings::Pattern;
+use std::alloc::Global;
+use std::test::Fail;
+
+const RULE: Place = Place { line: 1, column: 1 };
+
+const KEY: Place = Place { line: 9, column: 5 };
+
+/// Texts of these fields, of which keywords search those with a `*` behind their names.
+fn schema(alloc: Global, names: &[(&str, bool)]) -> Result<Schema, Fail> {
+    let mut fields = event_schema::Fields::new(alloc);
+    for (name, search) in names {
+        let mut at = Texts::new(alloc);
+        at.push(Text::copy(alloc, name)?)?;
+        fields.push(Field {
+            name: Text::copy(alloc, name)?,
+            kind: FieldKind::Text,
+            at,
+            search: *search,
+            cased: false,
+        })?;
+    }
+    Ok(Schema {
+        table: Text::copy(alloc, "events")?,
+        fields,
+        time: None,
+    })
+}
+
+fn fits(alloc: Global, text: &str) -> Result<Tests, Fail> {
+    let pattern = Pattern::read(alloc, &Limits::standard(), text, false, KEY)?;
+    let mut tests = Tests::new(alloc);
+    tests.push(Test::Fits {
+        pattern,
+        cased: false,
+    })?;
+    Ok(tests)
+}
+
+fn item(alloc: Global, names: &[&str], joined: Joined, texts: &[&str]) -> Result<Item, Fail> {
+    let mut fields = Fields::Keyword;
+    if !names.is_empty() {
+        let mut all = Texts::new(alloc);
+        for name in names {
+            all.push(Text::copy(alloc, name)?)?;
+        }
+        fields = Fields::Names(all);
+    }
+    let mut tests = Values::new(alloc);
+    for text in texts {
+        tests.push(fits(alloc, text)?)?;
+    }
+    Ok(Item {
+        fields,
+        tests,
+        joined,
+        place: KEY,
+    })
+}
+
+/// A detection of one item.
+fn detection(alloc: Global, item: Item) -> Result<Detection, Fail> {
+    let mut items = Alternative::new(alloc);
+    items.push(item)?;
+    let mut alternatives = Alternatives::new(alloc);
+    alternatives.push(items)?;
+    Ok(Detection {
+        name: Text::copy(alloc, "d")?,
+        alternatives,
+        place: KEY,
+    })
+}
+
+fn rule(alloc: Global, detections: Detections, conditions: Vec<Formula>) -> Result<Rule, Fail> {
+    Ok(Rule {
+        head: Head {
+            title: Text::copy(alloc, "T")?,
+            id: None,
+            name: None,
+            place: RULE,
+            rest: Vec::new(alloc),
+        },
+        source: LogSource {
+            category: Some(Text::copy(alloc, "c")?),
+            product: None,
+            service: None,
+        },
+        detections,
+        conditions,
+    })
+}
+
+fn show_leaf(alloc: Global, shown: &mut String, leaf: &Leaf) -> Result<(), Fail> {
+    let field = leaf.field;
+    shown.push_str(&format!(in alloc; "{field}")?)?;
+    match &leaf.test {
+        LeafTest::Has => shown.push_str("+")?,
+        LeafTest::Absent => shown.push_str("-")?,
+        LeafTest::Fits { pattern, cased } => {
+            shown.push_str(if *cased { "=" } else { "~" })?;
+            if pattern.is_written() {
+                shown.push_str(pattern.write_sigma(alloc)?.as_str())?;
+            }
+        }
+    }
+    Ok(())
+}
+
+/// `(a & b)`, `(a | b)`, `!a`, and a leaf as its field, `+`, `-`, `~` or `=`, and its pattern.
+fn show(alloc: Global, shown: &mut String, tree: &Tree) -> Result<(), Fail> {
+    match tree {
+        Tree::All(parts) => {
+            shown.push_str("(")?;
+            for part in parts {
+                show(alloc, shown, part)?;
+                shown.push_str("&")?;
+            }
+            shown.push_str(")")?;
+        }
+        Tree::Any(parts) => {
+            shown.push_str("(")?;
+            for part in parts {
+                show(alloc, shown, part)?;
+                shown.push_str("|")?;
+            }
+            shown.push_str(")")?;
+        }
+        Tree::Not(part) => {
+            shown.push_str("!")?;
+            show(alloc, shown, part)?;
+        }
+        Tree::Leaf(leaf) => show_leaf(alloc, shown, leaf)?,
+    }
+    Ok(())
+}
+
+fn shown(alloc: Global, schema: &Schema, rule: &Rule) -> Result<String, Fail> {
+    let tree = lower(alloc, &Limits::standard(), rule, schema)?;
+    let mut shown = String::new(alloc);
+    show(alloc, &mut shown, &tree)?;
+    Ok(shown)
+}
+
+/// The tree of a rule that has one item, with field A as number 0, B as 1 and C as 2; keywords search A and C.
+fn shown_item(alloc: Global, item: Item) -> Result<String, Fail> {
+    let mut detections = Detections::new(alloc);
+    detections.push(detection(alloc, item)?)?;
+    let mut conditions = Vec::new(alloc);
+    conditions.push(Formula::Detection(0))?;
+    let rule = rule(alloc, detections, conditions)?;
+    shown(
+        alloc,
+        &schema(alloc, &[("A", true), ("B", false), ("C", true)])?,
+        &rule,
+    )
+}
+
+#[test]
+fn items(rt: HostRuntime) -> Result<(), Fail> {
+    let alloc = rt.alloc();
+    for (names, joined, texts, want) in [
+        (["B"].as_slice(), Joined::Any, ["a*"].as_slice(), "1~a*"),
+        (
+            ["B"].as_slice(),
+            Joined::Any,
+            ["a*", "b"].as_slice(),
+            "(1~a*|1~b|)",
+        ),
+        (
+            ["B"].as_slice(),
+            Joined::All,
+            ["a*", "b"].as_slice(),
+            "(1~a*&1~b&)",
+        ),
+        (
+            ["C", "A"].as_slice(),
+            Joined::Any,
+            ["a", "b"].as_slice(),
+            "(2~a|2~b|0~a|0~b|)",
+        ),
+        (
+            ["C", "A"].as_slice(),
+            Joined::All,
+            ["a", "b"].as_slice(),
+            "((2~a&2~b&)|(0~a&0~b&)|)",
+        ),
+        (
+            [].as_slice(),
+            Joined::Any,
+            ["a", "b"].as_slice(),
+            "(0~a|2~a|0~b|2~b|)",
+        ),
+        (
+            [].as_slice(),
+            Joined::All,
+            ["a", "b"].as_slice(),
+            "((0~a|2~a|)&(0~b|2~b|)&)",
+        ),
+    ] {
+        assert_eq!(rt;
+            shown_item(alloc, item(alloc, names, joined, texts)?)?.as_str(),
+            want
+        );
+    }
+    Ok(())
+}
+
+#[test]
+fn tests_of_one_value(rt: HostRuntime) -> Result<(), Fail> {
+    let alloc = rt.alloc();
+    let mut tests = Tests::new(alloc);
+    tests.push(Test::Exists(true))?;
+    tests.push(Test::Exists(false))?;
+    tests.push(Test::Absent)?;
+    tests.push(Test::Equals(-70))?;
+    let mut all = item(alloc, ["B"].as_slice(), Joined::Any, [].as_slice())?;
+    all.tests.push(tests)?;
+    assert_eq!(rt; shown_item(alloc, all)?.as_str(), "(1+|1-|1-|1~-70|)");
+    Ok(())
+}
+
+#[test]
+fn lists_of_maps(rt: HostRuntime) -> Result<(), Fail> {
+    let alloc = rt.alloc();
+    let mut both = Alternative::new(alloc);
+    both.push(item(alloc, ["B"].as_slice(), Joined::Any, ["a"].as_slice())?)?;
+    both.push(item(alloc, ["C"].as_slice(), Joined::All, ["x", "y"].as_slice())?)?;
+    let mut one = Alternative::new(alloc);
+    one.push(item(alloc, ["A"].as_slice(), Joined::Any, ["c", "d"].as_slice())?)?;
+    let mut alternatives = Alternatives::new(alloc);
+    alternatives.push(both)?;
+    alternatives.push(one)?;
+    let mut detections = Detections::new(alloc);
+    detections.push(Detection {
+        name: Text::copy(alloc, "d")?,
+        alternatives,
+        place: KEY,
+    })?;
+    let mut conditions = Vec::new(alloc);
+    conditions.push(Formula::Detection(0))?;
+    let rule = rule(alloc, detections, conditions)?;
+    let schema = schema(alloc, &[("A", true), ("B", false), ("C", true)])?;
+    assert_eq!(rt;
+        shown(alloc, &schema, &rule)?.as_str(),
+        "((1~a&2~x&2~y&)|0~c|0~d|)"
+    );
+    Ok(())
+}
+
+/// `1~a|1~b`, `0~c` and `2~x&2~y`.
+fn three(alloc: Global) -> Result<Detections, Fail> {
+    let mut detections = Detections::new(alloc);
+    for (name, joined, texts) in [
+        ("B", Joined::Any, ["a", "b"].as_slice()),
+        ("A", Joined::Any, ["c"].as_slice()),
+        ("C", Joined::All, ["x", "y"].as_slice()),
+    ] {
+        let one = item(alloc, [name].as_slice(), joined, texts)?;
+        detections.push(detection(alloc, one)?)?;
+    }
+    Ok(detections)
+}
+
+fn numbered(alloc: Global, numbers: &[u32]) -> Result<Vec<Formula>, Fail> {
+    let mut formulas = Vec::new(alloc);
+    for number in numbers {
+        formulas.push(Formula::Detection(*number))?;
+    }
+    Ok(formulas)
+}
+
+fn shown_conditions(alloc: Global, conditions: Vec<Formula>) -> Result<String, Fail> {
+    let rule = rule(alloc, three(alloc)?, conditions)?;
+    shown(
+        alloc,
+        &schema(alloc, &[("A", true), ("B", false), ("C", true)])?,
+        &rule,
+    )
+}
+
+fn shown_condition(alloc: Global, condition: Formula) -> Result<String, Fail> {
+    let mut conditions = Vec::new(alloc);
+    conditions.push(condition)?;
+    shown_conditions(alloc, conditions)
+}
+
+#[test]
+fn conditions(rt: HostRuntime) -> Result<(), Fail> {
+    let alloc = rt.alloc();
+    let one_of = Formula::Or(numbered(alloc, [0, 1, 2].as_slice())?);
+    assert_eq!(rt;
+        shown_condition(alloc, one_of)?.as_str(),
+        "(1~a|1~b|0~c|(2~x&2~y&)|)"
+    );
+    let all_of = Formula::And(numbered(alloc, [0, 1, 2].as_slice())?);
+    assert_eq!(rt;
+        shown_condition(alloc, all_of)?.as_str(),
+        "((1~a|1~b|)&0~c&2~x&2~y&)"
+    );
+    let alone = Formula::And(numbered(alloc, [1].as_slice())?);
+    assert_eq!(rt; shown_condition(alloc, alone)?.as_str(), "0~c");
+    let not = Formula::Not(Box::new(alloc, Formula::Detection(0))?);
+    let not_not = Formula::Not(Box::new(alloc, not)?);
+    assert_eq!(rt; shown_condition(alloc, not_not)?.as_str(), "!!(1~a|1~b|)");
+    let two = numbered(alloc, [1, 0].as_slice())?;
+    assert_eq!(rt; shown_conditions(alloc, two)?.as_str(), "(0~c|1~a|1~b|)");
+    Ok(())
+}
+
+/// Whether a rule of this many values is refused at its place, with these numbers.
+fn is_refused(alloc: Global, values: u32, limit: usize) -> Result<bool, Fail> {
+    let mut all = item(alloc, ["A"].as_slice(), Joined::Any, [].as_slice())?;
+    for _ in 0..values {
+        all.tests.push(fits(alloc, "a")?)?;
+    }
+    let mut detections = Detections::new(alloc);
+    detections.push(detection(alloc, all)?)?;
+    let rule = rule(alloc, detections, numbered(alloc, [0].as_slice())?)?;
+    let mut limits = Limits::standard();
+    limits.leaves = limit;
+    let schema = schema(alloc, &[("A", false)])?;
+    let Err(Fault::Refused(refusal)) = lower(alloc, &limits, &rule, &schema) else {
+        return Ok(false);
+    };
+    let numbers = match &refusal.detail {
+        Detail::Numbers(count, most) => *count == 2000 && *most == 1999,
+        _ => false,
+    };
+    Ok(numbers && refusal.code == Code::TOO_MANY_LEAVES && refusal.place == RULE)
+}
+
+#[test]
+fn too_many_tests(rt: HostRuntime) -> Result<(), Fail> {
+    let alloc = rt.alloc();
+    assert!(rt; is_refused(alloc, 2000, 1999)?);
+    assert!(rt; !is_refused(alloc, 2000, 2000)?);
+    Ok(())
+}

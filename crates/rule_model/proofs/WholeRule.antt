@@ -1,0 +1,266 @@
+-- A rule of a node that isn't refused, and whose texts are of scalar values, is whole.
+use Rattle.std.proofs.Common.{ℕ, zero, suc, ◌≡◌, ◌/◌, ◌%◌, ◌<◌, ℤ, pos, negsuc, Bool, true, false, not, ◌||◌, ◌==◌, nat_lt, nat_le, if◌then◌else◌, List, [], ◌∷◌, length, map, refl, sym, ap, ◌∙◌, subst, arith}
+use Rattle.std.specs.Prelude.{Option, Some, None, codes, filter, is_some}
+use Rattle.std.specs.Fmt.{digit_glyph, digits_onto, digits, signed_decimal}
+use Rattle.std.specs.List.{AllZip, list_all, list_any}
+use Rattle.std.specs.Str.{all_scalars, bytes_eq}
+use Rattle.std.proofs.lemmas.Bool.{and_parts, and_from}
+use Rattle.std.proofs.lemmas.Bool.Decides.{nat_tests}
+use Rattle.std.proofs.Math.Utf8.{scalar}
+use Rattle.sig_base.specs.Texts.{is_ascii}
+use Rattle.sig_base.specs.declared.limits.Limits.{Limits}
+use Rattle.sig_base.specs.declared.refusal.Place.{Place}
+use Rattle.sig_base.specs.declared.refusal.Refusal.{Refusal}
+use Rattle.sig_base.proofs.TextLemmas.{ascii_scalars}
+use Rattle.sig_modifiers.specs.Chains.{chain_of, chain_refusal}
+use Rattle.sig_modifiers.specs.Judged.{must, first}
+use Rattle.sig_modifiers.specs.Kinds.{is_plain}
+use Rattle.sig_modifiers.specs.PlainTests.{ArePlainTests}
+use Rattle.sig_modifiers.specs.TestsOf.{Use, unused, absent, existing, pattern, number, UseTests, TestsOf, use_of, form_of, form_use, scalar_use, truth_text, place_of, has_nul, use_refusal, value_refusal}
+use Rattle.sig_modifiers.specs.Written.{Written}
+use Rattle.sig_modifiers.specs.declared.form.Form as forms
+use Rattle.sig_modifiers.specs.declared.form.Form.TheVariants.{Bare, Presence, Texts}
+use Rattle.sig_modifiers.specs.declared.test.Test.{Test}
+use Rattle.sig_modifiers.specs.declared.test.Test.TheVariants as tests
+use Rattle.sig_modifiers.proofs.PlainLemmas.{spells_plain, plain_pattern_of}
+use Rattle.sig_strings.specs.Edits.{all_written, plain_text}
+use Rattle.sig_strings.specs.Spells.{Spells}
+use Rattle.sig_strings.specs.declared.part.Part.{Part}
+use Rattle.yaml_tree.specs.Texts.{IsScalarText, HasScalarTexts, HaveScalarTexts, MembersHave}
+use Rattle.yaml_tree.specs.Tree.{Scalar, null, truth, whole, text, Tree, scalar as scalar_node, list, map as tree_map, Elements, no_elements, element, Members, no_members, member, Member}
+use Rattle.rule_model.specs.Conditions.{conditions_refusal}
+use Rattle.rule_model.specs.Detections.{alternative_refusal, IsAlternative, content_refusal, is_detection_key, is_no_condition, detection_refusal, IsDetection, detection_entries, is_identified, begins_with_timeframe, detections_refusal, AreDetections}
+use Rattle.rule_model.specs.Heads.{head_checks}
+use Rattle.rule_model.specs.Items.{key_chain, shape_refusal, values_refusal, item_refusal, IsItem, bare_chain, keyword_refusal, IsKeyword}
+use Rattle.rule_model.specs.Keys.{pieces, name_in, words_in, is_empty, is_keyword_key, is_item_key}
+use Rattle.rule_model.specs.Lists.{EachOf}
+use Rattle.rule_model.specs.Nodes.{is_map, is_null, listed, entered, entries_in, parts_in, key_place, value_in, refused_by}
+use Rattle.rule_model.specs.Plain.{PlainRule}
+use Rattle.rule_model.specs.Rules.{rule_refusal, IsRule}
+use Rattle.rule_model.specs.Sources.{source_refusal}
+use Rattle.rule_model.specs.Whole.{IsWholeItem, IsWholeAlternative, IsWholeDetection, IsWholeForm, IsWhole}
+use Rattle.rule_model.specs.declared.detection.Detection.{Detection}
+use Rattle.rule_model.specs.declared.item.Item.{Item}
+use Rattle.rule_model.proofs.ConditionLists.{some_conditions, whole_conditions}
+use Rattle.rule_model.proofs.Lines.{first_one, first_holds, must_holds, not_holds}
+use Rattle.rule_model.proofs.RuleLemmas.{as_many}
+use Rattle.rule_model.proofs.SomeRule.{two_hold, three_hold, four_hold, six_hold}
+use Rattle.rule_model.proofs.WholeItems.{whole_item, whole_keyword}
+use Rattle.rule_model.proofs.Zips.{zip_some}
+
+-- what holds of the elements, none of which is refused, holds of what they are read as
+each_read : {A B : Type 0} (R : A → B → Type 0) (P : A → Type 0) (Q : B → Type 0) (refusal : A → Option Refusal)
+    → ((x : A) (y : B) → refusal x ≡ None → P x → R x y → Q y)
+    → (xs : List A) (ys : List B) → first (map refusal xs) ≡ None → EachOf P xs → AllZip R xs ys → EachOf Q ys
+each_read R P Q refusal f [] [] none each all = tt
+each_read R P Q refusal f [] (y ∷ ys) none each all = absurd all
+each_read R P Q refusal f (x ∷ xs) [] none each all = absurd all
+each_read R P Q refusal f (x ∷ xs) (y ∷ ys) none each all =
+    let parts = first_holds (refusal x) (map refusal xs) none in
+    (f x y parts.0 each.0 all.0, each_read R P Q refusal f xs ys parts.1 each.1 all.1)
+
+-- a list that isn't refused as an empty one has an element
+filled : {A : Type 0} (code : ℕ) (place : Place) (xs : List A) → must code place (not (is_empty xs)) ≡ None → is_empty xs ≡ false
+filled code place xs none = not_holds (is_empty xs) (must_holds code place (not (is_empty xs)) none)
+
+-- ---- texts of scalar values
+
+abbrev put_before : Bool → ℕ → List ℕ × List (List ℕ) → List ℕ × List (List ℕ)
+put_before bar c p = if bar then ([], p.0 ∷ p.1) else (c ∷ p.0, p.1)
+
+name_scalars : (key : List ℕ) → all_scalars key ≡ true → all_scalars (name_in key) ≡ true
+name_scalars [] h = refl
+name_scalars (c ∷ cs) h =
+    let both = and_parts (scalar c) (all_scalars cs) h in
+    elim (c == 124) as (λ (b : Bool). all_scalars (put_before b c (pieces cs)).0 ≡ true) [
+      | true ↦ refl
+      | false ↦ and_from (scalar c) (all_scalars (name_in cs)) both.0 (name_scalars cs both.1)
+    ]
+
+digit_ascii : (d : ℕ) → d < 10 → nat_lt (digit_glyph false d) 128 ≡ true
+digit_ascii d h = grind (arith, nat_tests)
+
+digits_ascii : (k n : ℕ) (acc : List ℕ) → is_ascii acc ≡ true → is_ascii (digits_onto k 10 false n acc) ≡ true
+digits_ascii zero n acc h = h
+digits_ascii (suc k) n acc h =
+    let small : n % 10 < 10 = omega arith in
+    let now : is_ascii (digit_glyph false (n % 10) ∷ acc) ≡ true = and_from _ _ (digit_ascii (n % 10) small) h in
+    elim (n / 10 == 0) as (λ (b : Bool). is_ascii (if b then digit_glyph false (n % 10) ∷ acc else digits_onto k 10 false (n / 10) (digit_glyph false (n % 10) ∷ acc)) ≡ true)
+    [ true ↦ now | false ↦ digits_ascii k (n / 10) (digit_glyph false (n % 10) ∷ acc) now ]
+
+all_digits_ascii : (n : ℕ) → is_ascii (digits 10 false n) ≡ true
+unfolding digits
+all_digits_ascii n = digits_ascii 64 n [] refl
+
+decimal_ascii : (n : ℤ) → is_ascii (signed_decimal n) ≡ true
+decimal_ascii (pos n) = all_digits_ascii n
+decimal_ascii (negsuc n) = all_digits_ascii (suc n)
+
+abbrev IsScalarMember : Member → Type 0
+IsScalarMember e = (all_scalars e.key ≡ true) × HasScalarTexts e.value
+
+each_entered : (ms : Members) → MembersHave ms → EachOf IsScalarMember (entered ms)
+each_entered no_members h = tt
+each_entered (member k a t ms) h = ((h.0, h.1), each_entered ms h.2)
+
+each_listed : (es : Elements) → HaveScalarTexts es → EachOf HasScalarTexts (listed es)
+each_listed no_elements h = tt
+each_listed (element t ts) h = (h.0, each_listed ts h.1)
+
+each_entry : (t : Tree) → HasScalarTexts t → EachOf IsScalarMember (entries_in t)
+each_entry (scalar_node a s) h = tt
+each_entry (list a es) h = tt
+each_entry (tree_map a ms) h = each_entered ms h
+
+each_part : (t : Tree) → HasScalarTexts t → EachOf HasScalarTexts (parts_in t)
+each_part (scalar_node a s) h = (h, tt)
+each_part (list a es) h = each_listed es h
+each_part (tree_map a ms) h = (h, tt)
+
+found_value : (key : List ℕ) (es : List Member) (t : Tree) → EachOf IsScalarMember es → value_in key es ≡ Some t → HasScalarTexts t
+found_value key [] t each h = absurd cc
+found_value key (e ∷ es) t each h =
+    elim (bytes_eq e.key key) as (λ (b : Bool). (if b then Some e.value else value_in key es) ≡ Some t → HasScalarTexts t) [
+      | true ↦ λ is. let same : e.value ≡ t = cc in subst HasScalarTexts same each.0.1
+      | false ↦ λ is. found_value key es t each.1 is
+    ] h
+
+each_kept : {A : Type 0} (P : A → Type 0) (p : A → Bool) (xs : List A) → EachOf P xs → EachOf P (filter p xs)
+each_kept P p [] each = tt
+each_kept P p (x ∷ xs) each =
+    elim (p x) as (λ (b : Bool). EachOf P (if b then x ∷ filter p xs else filter p xs)) [
+      | true ↦ (each.0, each_kept P p xs each.1)
+      | false ↦ each_kept P p xs each.1
+    ]
+
+-- ---- patterns
+
+abbrev IsScalarUse : Use → Type 0
+IsScalarUse unused = Unit {0}
+IsScalarUse absent = Unit {0}
+IsScalarUse (existing b) = Unit {0}
+IsScalarUse (pattern t) = all_scalars t ≡ true
+IsScalarUse (number n) = Unit {0}
+
+truth_scalars : (b : Bool) → all_scalars (truth_text b) ≡ true
+truth_scalars true = refl
+truth_scalars false = refl
+
+null_scalars : (nulls : Bool) → IsScalarUse (if nulls then absent else unused)
+null_scalars true = tt
+null_scalars false = tt
+
+scalar_uses : (form : forms.Form) (s : Scalar) → IsScalarText s → IsScalarUse (scalar_use form s)
+scalar_uses Bare null h = tt
+scalar_uses Bare (truth b) h = truth_scalars b
+scalar_uses Bare (whole n) h = tt
+scalar_uses Bare (text t) h = h
+scalar_uses Presence null h = tt
+scalar_uses Presence (truth b) h = tt
+scalar_uses Presence (whole n) h = tt
+scalar_uses Presence (text t) h = tt
+scalar_uses (Texts nulls) null h = null_scalars nulls
+scalar_uses (Texts nulls) (truth b) h = truth_scalars b
+scalar_uses (Texts nulls) (whole n) h = ascii_scalars (signed_decimal n) (decimal_ascii n)
+scalar_uses (Texts nulls) (text t) h = h
+
+node_uses : (form : forms.Form) (t : Tree) → HasScalarTexts t → IsScalarUse (form_use form t)
+node_uses form (scalar_node a s) h = scalar_uses form s h
+node_uses form (list a es) h = tt
+node_uses form (tree_map a ms) h = tt
+
+module _ (plain_tests : (most : ℕ) (chain : Written) (value : Tree) (ts : List Test) → value_refusal most chain value ≡ None → TestsOf chain value ts → list_all is_plain ts ≡ true) where
+  -- as the test that a field without modifiers makes of a text
+  text_written : (most : ℕ) (place : Place) (t : List ℕ) (parts : List Part) → use_refusal most place (pattern t) ≡ None → Spells false t parts → all_written parts ≡ true
+  text_written most place t parts none spelled =
+      let plain = plain_tests most (chain_of [] false place) (scalar_node (record { line = place.line; column = place.column }) (text t)) (tests.Fits parts false ∷ [])
+      none (record { parts = parts; spelled = spelled; tests_are = refl }) in
+      (and_parts (all_written parts) (list_all (λ c. nat_lt 0 c) (plain_text parts)) (and_parts (is_plain (tests.Fits parts false)) true plain).0).0
+
+  no_nul : (most : ℕ) (place : Place) (t : List ℕ) → use_refusal most place (pattern t) ≡ None → has_nul t ≡ false
+  no_nul most place t none =
+      let lines = three_hold (must 42 place true) (must 49 place (nat_le (length t) most)) (must 50 place (not (has_nul t))) none in
+      not_holds (has_nul t) (must_holds 50 place (not (has_nul t)) lines.2)
+
+  use_plain : (most : ℕ) (place : Place) (chain : Written) (u : Use) (ts : List Test) → use_refusal most place u ≡ None → IsScalarUse u → UseTests chain u ts → ArePlainTests ts
+  use_plain most place chain unused ts none scalars h = absurd h
+  use_plain most place chain absent ts none scalars h = subst ArePlainTests (sym h) (tt, tt)
+  use_plain most place chain (existing b) ts none scalars h = subst ArePlainTests (sym h) (tt, tt)
+  use_plain most place chain (pattern t) ts none scalars h =
+      subst ArePlainTests (sym h.tests_are)
+      (plain_pattern_of chain h.parts (spells_plain t h.parts h.spelled (text_written most place t h.parts none h.spelled) scalars (no_nul most place t none)), tt)
+  use_plain most place chain (number n) ts none scalars h = subst ArePlainTests (sym h) (tt, tt)
+
+  value_plain : (most : ℕ) (chain : Written) (t : Tree) (ts : List Test) → value_refusal most chain t ≡ None → HasScalarTexts t → TestsOf chain t ts → ArePlainTests ts
+  value_plain most chain t ts none scalars h = use_plain most (place_of t) chain (use_of chain t) ts none (node_uses (form_of chain) t scalars) h
+
+  values_plain : (most : ℕ) (chain : Written) (parts : List Tree) (all : List (List Test)) → first (map (value_refusal most chain) parts) ≡ None
+      → EachOf HasScalarTexts parts → AllZip (TestsOf chain) parts all → EachOf ArePlainTests all
+  values_plain most chain parts all none scalars h =
+      each_read (TestsOf chain) HasScalarTexts ArePlainTests (value_refusal most chain) (value_plain most chain) parts all none scalars h
+
+  -- ---- items, alternatives, detections
+
+  item_values : (limits : Limits) (e : Member) → item_refusal limits e ≡ None → first (map (value_refusal limits.value_chars (key_chain e)) (parts_in e.value)) ≡ None
+  item_values limits e none =
+      let lines = three_hold (must 71 (key_place e) (is_item_key e.key)) (chain_refusal (is_keyword_key e.key) (key_place e) (words_in e.key))
+      (values_refusal limits (key_chain e) (key_place e) e.value) none in
+      let values = four_hold (first (map shape_refusal (parts_in e.value))) (must 78 (place_of e.value) (not (is_empty (parts_in e.value))))
+      (must 79 (key_place e) (nat_le (length (parts_in e.value)) limits.list_values)) (first (map (value_refusal limits.value_chars (key_chain e)) (parts_in e.value))) lines.2 in
+      values.3
+
+  item_whole : (limits : Limits) (e : Member) (i : Item) → item_refusal limits e ≡ None → IsScalarMember e → IsItem e i → IsWholeItem i
+  item_whole limits e i none scalars read =
+      whole_item limits e i none read (name_scalars e.key scalars.0)
+      (values_plain limits.value_chars (key_chain e) (parts_in e.value) i.tests (item_values limits e none) (each_part e.value scalars.1) read.tests)
+
+  keyword_whole : (limits : Limits) (t : Tree) (i : Item) → keyword_refusal limits t ≡ None → HasScalarTexts t → IsKeyword t i → IsWholeItem i
+  keyword_whole limits t i none scalars read =
+      whole_keyword t i read
+      (values_plain limits.value_chars (bare_chain t) (t ∷ []) i.tests (first_one (keyword_refusal limits t) ∙ none) (scalars, tt) read.tests)
+
+  alternative_whole : (limits : Limits) (t : Tree) (items : List Item) → alternative_refusal limits t ≡ None → HasScalarTexts t → IsAlternative t items → IsWholeAlternative items
+  alternative_whole limits (scalar_node a s) items none scalars read =
+      subst IsWholeAlternative (sym read.1) (record { some = tt; each = (keyword_whole limits (scalar_node a s) read.0 none scalars read.2, tt) })
+  alternative_whole limits (list a es) items none scalars read = absurd read
+  alternative_whole limits (tree_map a ms) items none scalars read =
+      let place = place_of (tree_map a ms) in
+      let lines = first_holds (must 77 place (not (is_empty (entered ms)))) (map (item_refusal limits) (entered ms)) none in
+      record {
+        some = zip_some IsItem (entered ms) items read (filled 77 place (entered ms) lines.0);
+        each = each_read IsItem IsScalarMember IsWholeItem (item_refusal limits) (item_whole limits) (entered ms) items lines.1 (each_entered ms scalars) read;
+      }
+
+  detection_whole : (limits : Limits) (e : Member) (d : Detection) → detection_refusal limits e ≡ None → IsScalarMember e → IsDetection e d → IsWholeDetection d
+  detection_whole limits e d none scalars read =
+      let lines = two_hold (must 71 (key_place e) (is_detection_key e)) (content_refusal limits (key_place e) e.value) none in
+      let content = four_hold (must 77 (place_of e.value) (not (is_null e.value))) (must 78 (place_of e.value) (not (is_empty (parts_in e.value))))
+      (must 79 (key_place e) (nat_le (length (parts_in e.value)) limits.list_values)) (first (map (alternative_refusal limits) (parts_in e.value))) lines.1 in
+      record {
+        some = zip_some IsAlternative (parts_in e.value) d.alternatives read.alternatives (filled 78 (place_of e.value) (parts_in e.value) content.1);
+        each = each_read IsAlternative HasScalarTexts IsWholeAlternative (alternative_refusal limits) (alternative_whole limits)
+            (parts_in e.value) d.alternatives content.3 (each_part e.value scalars.1) read.alternatives;
+      }
+
+  detections_whole : (limits : Limits) (t : Tree) (ds : List Detection) → detections_refusal limits t ≡ None → HasScalarTexts t → AreDetections t ds → EachOf IsWholeDetection ds
+  detections_whole limits t ds none scalars read =
+      let lines = three_hold (must 71 (place_of t) (is_map t)) (must 77 (place_of t) (list_any is_identified (entries_in t) || begins_with_timeframe (entries_in t)))
+      (first (map (detection_refusal limits) (detection_entries t))) none in
+      each_read IsDetection IsScalarMember IsWholeDetection (detection_refusal limits) (detection_whole limits) (detection_entries t) ds lines.2
+      (each_kept IsScalarMember is_no_condition (entries_in t) (each_entry t scalars)) read
+
+  pub rule_whole : (limits : Limits) (t : Tree) (rule : PlainRule) → rule_refusal limits t ≡ None → IsRule t rule → HasScalarTexts t → IsWhole rule
+  rule_whole limits t rule none read scalars =
+      let source = value_in (codes "logsource") (entries_in t) in
+      let detection = value_in (codes "detection") (entries_in t) in
+      let lines = six_hold (first (head_checks t)) (must 70 (place_of t) (is_some source)) (refused_by source_refusal source)
+      (must 70 (place_of t) (is_some detection)) (refused_by (detections_refusal limits) detection) (refused_by (conditions_refusal limits) detection) none in
+      let own = found_value (codes "detection") (entries_in t) read.detection (each_entry t scalars) read.detection_there in
+      let detected : detections_refusal limits read.detection ≡ None = sym (ap (refused_by (detections_refusal limits)) read.detection_there) ∙ lines.4 in
+      let conditioned : conditions_refusal limits read.detection ≡ None = sym (ap (refused_by (conditions_refusal limits)) read.detection_there) ∙ lines.5 in
+      record {
+        detections = detections_whole limits read.detection rule.detections detected own read.detections;
+        some = some_conditions limits read.detection rule.conditions conditioned read.conditions;
+        conditions = subst (λ (count : ℕ). EachOf (IsWholeForm count) rule.conditions) (as_many read.detection rule.detections read.detections)
+            (whole_conditions read.detection rule.conditions read.conditions);
+      }

@@ -1,0 +1,9 @@
+use Rattle.std.proofs.Common.{◌≡◌, ◌∙◌, sym, ap}
+use Rattle.rule_model.specs.Heads.{is_day_text}
+use Rattle.rule_model.proofs.Days.{same_day}
+use Rattle.rule_model.proofs.dates.is_day.Goals as goal
+
+pub returns : goal.returns
+returns c =
+    same_day c.as_bytes.result.now c.args.text.now c.are_day.result
+    (c.as_bytes.ensures.value ∙ c.as_str.ensures.bytes) c.as_str.ensures.scalars c.are_day.ensures

@@ -1,0 +1,5 @@
+use Rattle.rule_model.proofs.WholeRule.{rule_whole}
+use Rattle.rule_model.proofs.law.rules_are_whole.Goals as goal
+
+pub returns : goal.returns
+returns c = rule_whole c.plain_tests.ensures

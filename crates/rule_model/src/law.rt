@@ -1,0 +1,36 @@
+//! What follows from the definitions, for the proofs of callers: each function does nothing else than name laws that it
+//! stands on, and its clauses are laws.
+
+ghost use Rattle.std.specs.Prelude.{◌≡◌, None};
+ghost use Rattle.sig_base.specs.declared.limits.Limits.{Limits};
+ghost use Rattle.yaml_tree.specs.Texts.{HasScalarTexts};
+ghost use Rattle.yaml_tree.specs.Tree.{Tree};
+ghost use Rattle.rule_model.specs.Plain.{PlainRule};
+ghost use Rattle.rule_model.specs.Rules.{rule_refusal, IsRule};
+ghost use Rattle.rule_model.specs.Whole.{IsWhole};
+
+use sig_conditions::one_condition;
+use sig_modifiers::{one_tests, plain_tests, tests_or_refusal};
+
+/// A document is one rule, if any.
+pub fn one_rule()
+    ensures { (t : Tree) (r s : PlainRule) → IsRule t r → IsRule t s → r ≡ s }
+{
+    one_tests();
+    one_condition();
+}
+
+/// A document that no line of the table refuses is a rule.
+pub fn rule_or_refusal()
+    ensures { (limits : Limits) (t : Tree) → rule_refusal limits t ≡ None → (rule : PlainRule) × IsRule t rule }
+{
+    tests_or_refusal();
+}
+
+/// A rule of a document that no line of the table refuses, and whose texts are of Unicode scalar values, is whole.
+pub fn rules_are_whole()
+    ensures { (limits : Limits) (t : Tree) (rule : PlainRule)
+        → rule_refusal limits t ≡ None → IsRule t rule → HasScalarTexts t → IsWhole rule }
+{
+    plain_tests();
+}
