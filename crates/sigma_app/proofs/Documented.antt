@@ -78,9 +78,9 @@ document_cut command limits name t text oo on eo (rule, accepted, is) out = reco
   verdicts = Accepted rule ∷ [];
   are = one command limits (tree t) (Accepted rule) accepted;
   left = (
-      subst (λ (l : List ℕ). AppendsFront oo on l) (ap ended is ∙ sym (append-nil (ended (told_of command name rule)))) out,
-      no_lines [] [] eo eo (Appends-nothing eo),
-    );
+    subst (λ (l : List ℕ). AppendsFront oo on l) (ap ended is ∙ sym (append-nil (ended (told_of command name rule)))) out,
+    no_lines [] [] eo eo (Appends-nothing eo),
+  );
 }
 
 -- nothing was written, whatever the verdicts

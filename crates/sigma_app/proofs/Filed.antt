@@ -130,9 +130,9 @@ told_ends each command limits files name Unwritten oo eo en told =
       answers = one_answer name v.0 ∷ [];
       are = one_are command limits files name v.0 v.1;
       left = (
-          front_nothing oo oo _ (Appends-nothing oo),
-          record { whole = []; later = file_lines (one_answer name v.0) ++ []; part = told.front; parts = refl; is_part = of_unread name told.rest (zero, omega arith, refl) told.parts; grown = told.grown },
-        );
+        front_nothing oo oo _ (Appends-nothing oo),
+        record { whole = []; later = file_lines (one_answer name v.0) ++ []; part = told.front; parts = refl; is_part = of_unread name told.rest (zero, omega arith, refl) told.parts; grown = told.grown },
+      );
     }
 
 -- the file couldn't be read, and that was told, or not

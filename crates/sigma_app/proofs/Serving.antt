@@ -53,7 +53,7 @@ answer_of limits words files command names answers taken are = record {
   usage = λ other. absurd (other command names taken);
   taken = λ d others too.
       any_way (λ c ns. (given : List Answered) × AreAnswered c limits files ns given
-          × (status_of (any_refusal answers) ≡ status_of (any_refusal given)) × (all_output command answers ≡ all_output c given) × (all_lines answers ≡ all_lines given))
+      × (status_of (any_refusal answers) ≡ status_of (any_refusal given)) × (all_output command answers ≡ all_output c given) × (all_lines answers ≡ all_lines given))
       words command d names others taken too (answers, are, refl, refl, refl);
 }
 

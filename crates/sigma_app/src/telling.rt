@@ -28,12 +28,7 @@ pub(super) fn told(
 }
 
 /// What `check` tells.
-fn told_place(
-    alloc: Global,
-    limits: &Limits,
-    name: &Text,
-    node: &Node,
-) -> Result<Bytes, Fault>
+fn told_place(alloc: Global, limits: &Limits, name: &Text, node: &Node) -> Result<Bytes, Fault>
     ensures { IsTold Command.Check limits.now name.now (node_view node.now) result }
 {
     match check_node(alloc, limits, node) {

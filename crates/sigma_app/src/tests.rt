@@ -1,1 +1,122 @@
-//! Tests.
+//! The program over shelves and sinks in memory.
+
+mod faults;
+mod running;
+mod words;
+// `mod rules;` waits until `rule_queries` answers: until then its calls end in want of memory.
+
+use crate::serve::serve;
+use crate::status::Status;
+use sig_base::{Bytes, Limits, MemoryShelf, MemorySink, MemorySource, Text};
+use std::alloc::Global;
+use std::process::Abort;
+use std::test::Fail;
+
+/// Four documents, each of which is refused: a quote that isn't closed, a tab in the indentation, a key that
+/// stands twice, and an anchor.
+pub(super) const FOUR: &str = "title: \"cut\n---\na:\n\tb: 1\n---\na: 1\na: 2\n---\na: &x 1\n";
+
+pub(super) const FOUR_LINES: &str =
+    "b.yml:1:1: 4 Syntax\nb.yml:4:1: 8 Tab\nb.yml:7:1: 5 DuplicateKey\nb.yml:9:4: 3 Unsupported\n";
+
+/// The files, which call of the shelf, of the output and of the error output fails (0: none), and how many bytes one
+/// write takes.
+#[derive(Clone, Copy)]
+pub(super) struct World<'a> {
+    pub(super) files: &'a [(&'a str, &'a [u8])],
+    pub(super) shelf: u64,
+    pub(super) out: u64,
+    pub(super) err: u64,
+    pub(super) piece: usize,
+}
+
+#[derive(Drop)]
+pub(super) struct Ran {
+    pub(super) status: Status,
+    pub(super) out: Vec<u8>,
+    pub(super) err: Vec<u8>,
+}
+
+fn words_of(alloc: Global, words: &[&str]) -> Result<Vec<Text>, Fail> {
+    let mut all = Vec::new(alloc);
+    for word in words {
+        all.push(Text::copy(alloc, word)?)?;
+    }
+    Ok(all)
+}
+
+fn files_of(alloc: Global, files: &[(&str, &[u8])]) -> Result<Vec<(Text, Bytes)>, Fail> {
+    let mut all = Vec::new(alloc);
+    for (name, bytes) in files {
+        all.push((Text::copy(alloc, name)?, Bytes::copy(alloc, bytes)?))?;
+    }
+    Ok(all)
+}
+
+fn ordinals(alloc: Global, call: u64) -> Result<Vec<u64>, Fail> {
+    let mut all = Vec::new(alloc);
+    if call > 0 {
+        all.push(call)?;
+    }
+    Ok(all)
+}
+
+fn sink_of(alloc: Global, piece: usize, call: u64) -> Result<MemorySink, Fail> {
+    Ok(MemorySink::new(alloc, 4096, piece.max(1), ordinals(alloc, call)?)?)
+}
+
+/// Runs the words over the files of a world.
+pub(super) fn run_over(
+    alloc: Global,
+    words: &[&str],
+    limits: &Limits,
+    world: World<'_>,
+) -> Result<Ran, Fail> {
+    let words = words_of(alloc, words)?;
+    let mut shelf = MemoryShelf::new(
+        alloc,
+        files_of(alloc, world.files)?,
+        ordinals(alloc, world.shelf)?,
+    );
+    let mut events = MemorySource::new(Bytes::copy(alloc, b"")?, 1, Vec::new(alloc));
+    let mut out = sink_of(alloc, world.piece, world.out)?;
+    let mut err = sink_of(alloc, world.piece, world.err)?;
+    let status = serve(
+        alloc,
+        words.as_slice(),
+        limits,
+        &mut shelf,
+        &mut events,
+        &mut out,
+        &mut err,
+    );
+    Ok(Ran {
+        status,
+        out: Vec::from_slice(alloc, out.taken())?,
+        err: Vec::from_slice(alloc, err.taken())?,
+    })
+}
+
+/// A world in which nothing fails.
+pub(super) fn still<'a>(files: &'a [(&'a str, &'a [u8])]) -> World<'a> {
+    World {
+        files,
+        shelf: 0,
+        out: 0,
+        err: 0,
+        piece: 4096,
+    }
+}
+
+/// Asserts the exit code, the output and the error output of a run.
+pub(super) fn check(rt: &impl Abort, ran: &Ran, code: u8, out: &str, err: &str) {
+    assert_eq!(rt; ran.out.as_slice(), out.as_bytes());
+    assert_eq!(rt; ran.err.as_slice(), err.as_bytes());
+    assert_eq!(rt; ran.status.code(), code);
+}
+
+/// The first `count` bytes of a text of ASCII.
+pub(super) fn front<'a>(text: &'a str, count: usize) -> &'a [u8] {
+    let bytes = text.as_bytes();
+    bytes.split_at(count.min(bytes.len())).0
+}

@@ -78,10 +78,18 @@ pub(super) fn taken(words: &[Text]) -> Option<(Command, &[Text])>
         return None;
     }
     if let Some(names) = behind_check(words) {
-        return if are_files(names) { Some((Command::Check, names)) } else { None };
+        return if are_files(names) {
+            Some((Command::Check, names))
+        } else {
+            None
+        };
     }
     if let Some(names) = behind_convert(words) {
-        return if are_files(names) { Some((Command::Convert, names)) } else { None };
+        return if are_files(names) {
+            Some((Command::Convert, names))
+        } else {
+            None
+        };
     }
     None
 }
