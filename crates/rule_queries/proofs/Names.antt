@@ -67,10 +67,10 @@ detections_whole (d ∷ ds) each =
 -- of the names of a list, some are left out
 filter_scalars : (p : List ℕ → Bool) (ns : List (List ℕ)) → AreScalars ns → AreScalars (filter p ns)
 filter_scalars p [] s = tt
-filter_scalars p (n ∷ ns) s = by (p n) where
-  by : (b : Bool) → AreScalars (cond b (n ∷ filter p ns) (filter p ns))
-  by true = (s.0, filter_scalars p ns s.1)
-  by false = filter_scalars p ns s.1
+filter_scalars p (n ∷ ns) s = by (p n) (filter_scalars p ns s.1) where
+  by : (b : Bool) → AreScalars (filter p ns) → AreScalars (cond b (n ∷ filter p ns) (filter p ns))
+  by true rest = (s.0, rest)
+  by false rest = rest
 
 distinct_scalars : (ns : List (List ℕ)) → AreScalars ns → AreScalars (distinct ns)
 distinct_scalars [] s = tt
@@ -134,10 +134,10 @@ last_free before u (w ∷ us) each = (any_end (λ v. clashes v.0 w.0) before u e
 
 filter_free : (name : List ℕ) (p : List ℕ → Bool) (ns : List (List ℕ)) → NoneClash name ns → NoneClash name (filter p ns)
 filter_free name p [] each = tt
-filter_free name p (n ∷ ns) each = by (p n) where
-  by : (b : Bool) → NoneClash name (cond b (n ∷ filter p ns) (filter p ns))
-  by true = (each.0, filter_free name p ns each.1)
-  by false = filter_free name p ns each.1
+filter_free name p (n ∷ ns) each = by (p n) (filter_free name p ns each.1) where
+  by : (b : Bool) → NoneClash name (filter p ns) → NoneClash name (cond b (n ∷ filter p ns) (filter p ns))
+  by true rest = (each.0, rest)
+  by false rest = rest
 
 distinct_free : (name : List ℕ) (ns : List (List ℕ)) → NoneClash name ns → NoneClash name (distinct ns)
 distinct_free name [] each = tt
@@ -160,24 +160,25 @@ differs name n c d e = true_false (sym both ∙ c) where
 
 others : (name : List ℕ) (ns : List (List ℕ)) → NoneClash name ns → IsOther name (filter (λ n. not (bytes_eq n name)) ns)
 others name [] each = tt
-others name (n ∷ ns) each = by (bytes_eq n name) refl where
-  by : (b : Bool) → bytes_eq n name ≡ b → IsOther name (cond (not (bytes_eq n name)) (n ∷ filter (λ m. not (bytes_eq m name)) ns) (filter (λ m. not (bytes_eq m name)) ns))
-  by true h = rw h (others name ns each.1)
-  by false h = rw h (differs name n each.0 h, others name ns each.1)
+others name (n ∷ ns) each = by (bytes_eq n name) refl (others name ns each.1) where
+  by : (b : Bool) → bytes_eq n name ≡ b → IsOther name (filter (λ m. not (bytes_eq m name)) ns)
+      → IsOther name (cond (not b) (n ∷ filter (λ m. not (bytes_eq m name)) ns) (filter (λ m. not (bytes_eq m name)) ns))
+  by true h rest = rest
+  by false h rest = (differs name n each.0 h, rest)
 
 filter_other : (name : List ℕ) (p : List ℕ → Bool) (ns : List (List ℕ)) → IsOther name ns → IsOther name (filter p ns)
 filter_other name p [] o = tt
-filter_other name p (n ∷ ns) o = by (p n) where
-  by : (b : Bool) → IsOther name (cond b (n ∷ filter p ns) (filter p ns))
-  by true = (o.0, filter_other name p ns o.1)
-  by false = filter_other name p ns o.1
+filter_other name p (n ∷ ns) o = by (p n) (filter_other name p ns o.1) where
+  by : (b : Bool) → IsOther name (filter p ns) → IsOther name (cond b (n ∷ filter p ns) (filter p ns))
+  by true rest = (o.0, rest)
+  by false rest = rest
 
 filter_apart : (p : List ℕ → Bool) (ns : List (List ℕ)) → AreApart ns → AreApart (filter p ns)
 filter_apart p [] a = tt
-filter_apart p (n ∷ ns) a = by (p n) where
-  by : (b : Bool) → AreApart (cond b (n ∷ filter p ns) (filter p ns))
-  by true = (filter_other n p ns a.0, filter_apart p ns a.1)
-  by false = filter_apart p ns a.1
+filter_apart p (n ∷ ns) a = by (p n) (filter_apart p ns a.1) where
+  by : (b : Bool) → AreApart (filter p ns) → AreApart (cond b (n ∷ filter p ns) (filter p ns))
+  by true rest = (filter_other n p ns a.0, rest)
+  by false rest = rest
 
 distinct_apart : (before us : List Use) → clash_behind before us ≡ None → AreApart (distinct (use_names us))
 distinct_apart before [] e = tt

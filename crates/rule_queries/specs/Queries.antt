@@ -38,16 +38,18 @@ at_most code place told count limit =
     if nat_le count limit then None
     else Some (record { code = code; place = place; detail = Numbers (pos told) (pos limit) })
 
--- Why a rule has no query: its names clash, a keyword has no field to search, its tree has too many leaves (told up to
--- 2^127 - 1), or its query is too deep (told up to 2^64 - 1) or else too long.
-abbrev pub query_refusal : Limits → PlainRule → Option Refusal
-query_refusal limits rule = first (
-    schema_refusal rule
-  ∷ fit_refusal (inferred_schema rule) rule
-  ∷ at_most 110 rule.head.place (min (leaves (rule_tree rule)) (2 ^ 127 - 1)) (leaves (rule_tree rule)) limits.leaves
+-- why a rule that fits its schema has no query: its tree has too many leaves (told up to 2^127 - 1), or its query is too
+-- deep (told up to 2^64 - 1) or else too long
+abbrev pub size_checks : Limits → PlainRule → List (Option Refusal)
+size_checks limits rule =
+    at_most 110 rule.head.place (min (leaves (rule_tree rule)) (2 ^ 127 - 1)) (leaves (rule_tree rule)) limits.leaves
   ∷ at_most 112 rule.head.place (min (query_depth rule) (2 ^ 64 - 1)) (query_depth rule) limits.sql_depth
   ∷ at_most 114 rule.head.place (length (query_of rule)) (length (query_of rule)) limits.query_bytes
-  ∷ [])
+  ∷ []
+
+-- why a rule has no query: its names clash, a keyword has no field to search, or the query is too large
+abbrev pub query_refusal : Limits → PlainRule → Option Refusal
+query_refusal limits rule = first (schema_refusal rule ∷ fit_refusal (inferred_schema rule) rule ∷ size_checks limits rule)
 
 -- The bytes are read as exactly one query of the rule's schema, within the limit of depth, and for every event of this schema
 -- the query selects the event exactly where the rule matches it.

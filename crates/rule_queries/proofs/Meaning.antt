@@ -1,0 +1,63 @@
+-- The query of each rule that has one means the rule.
+use Rattle.std.proofs.Common.{ℕ, ◌≡◌, ◌≤◌, ◌<◌, Bool, true, List, [], ◌∷◌, Option, Some, None, refl, sym, ap, ◌∙◌, map}
+use Rattle.std.specs.Prelude.{◌↔◌, codes, nat_le, length}
+use Rattle.backend_core.specs.Holds.{TreeHolds}
+use Rattle.backend_core.specs.Sound.{IsSound}
+use Rattle.backend_core.specs.Trees.{Plain}
+use Rattle.event_schema.specs.Events.{IsEvent}
+use Rattle.event_schema.specs.Inferred.{text_field}
+use Rattle.event_schema.specs.declared.schema.Schema.{Schema}
+use Rattle.event_schema.specs.declared.value.Value.{Value}
+use Rattle.rule_lowering.specs.TreeOf.{tree_of}
+use Rattle.rule_model.specs.Inferred.{inferred_schema, fit_refusal, schema_refusal, rule_names}
+use Rattle.rule_model.specs.Matching.{Matches}
+use Rattle.rule_model.specs.Plain.{PlainRule}
+use Rattle.rule_model.specs.Rules.{rule_refusal, IsRule}
+use Rattle.rule_model.specs.Whole.{IsWhole}
+use Rattle.sig_base.specs.declared.limits.Limits.{Limits}
+use Rattle.sql_lang.specs.Expression.{depth}
+use Rattle.sqlite_writer.specs.Queries.{query_expr, query_bytes, IsQueryOf}
+use Rattle.sqlite_writer.specs.Schemas.{AreScalars, AreApart, IsTextSchema}
+use Rattle.yaml_tree.specs.Texts.{HasScalarTexts}
+use Rattle.yaml_tree.specs.Tree.{Tree}
+use Rattle.rule_queries.specs.Queries.{rule_tree, query_of, query_depth, query_refusal, at_most, Converts}
+use Rattle.rule_queries.specs.Verdicts.{IsChecked, IsConverted}
+use Rattle.rule_queries.proofs.Judging.{no_line}
+use Rattle.rule_queries.proofs.Names.{rule_scalars, rule_apart}
+
+abbrev WholeRules : Type 0
+WholeRules = (limits : Limits) (t : Tree) (rule : PlainRule) → rule_refusal limits t ≡ None → IsRule t rule → HasScalarTexts t → IsWhole rule
+
+abbrev TreesMean : Type 0
+TreesMean = (schema : Schema) (rule : PlainRule) (row : List (Option Value)) → IsEvent schema.fields row → TreeHolds row (tree_of schema rule) ↔ Matches schema.fields row rule
+
+abbrev TreesSound : Type 0
+TreesSound = (schema : Schema) (rule : PlainRule) → IsWhole rule → fit_refusal schema rule ≡ None → IsSound schema.fields (tree_of schema rule)
+
+abbrev TextSchemas : Type 0
+TextSchemas = (names : List (List ℕ)) → AreScalars names → AreApart names → IsTextSchema (record { table = codes "events"; fields = map text_field names; time = None })
+
+abbrev TreesAreQueries : Type 0
+TreesAreQueries = (limit : ℕ) (schema : Schema) (t : Plain) → IsTextSchema schema → IsSound schema.fields t → 1 ≤ limit → depth (query_expr schema t) ≤ limit → IsQueryOf limit schema t (query_bytes schema t)
+
+both_ways : {A B C : Type 0} → A ↔ B → B ↔ C → A ↔ C
+both_ways f g = ((λ a. g.0 (f.0 a)), (λ c. f.1 (g.1 c)))
+
+pub query_means : WholeRules → TreesMean → TreesSound → TextSchemas → TreesAreQueries
+    → (limits : Limits) (t : Tree) (rule : PlainRule) → HasScalarTexts t → IsConverted limits t rule → Converts limits rule (query_of rule)
+unfolding query_of query_depth rule_tree
+query_means wholes means sounds schemas queries limits t rule texts converted =
+    let lines = no_line limits rule converted.written in
+    let whole = wholes limits t rule converted.checked.taken converted.checked.is texts in
+    let schema = inferred_schema rule in
+    let sound = sounds schema rule whole lines.fits in
+    let text_schema : IsTextSchema schema = schemas (rule_names rule) (rule_scalars rule whole) (rule_apart rule lines.schema) in
+    let query = queries limits.sql_depth schema (tree_of schema rule) text_schema sound limits.sql_depth_in.0 lines.deep in
+    record {
+      characters = query.characters;
+      encoded = query.encoded;
+      expression = query.expr;
+      reads = query.reads;
+      only = query.only;
+      selects = λ row event. both_ways (query.selects row event) (means schema rule row event);
+    }

@@ -1,0 +1,7 @@
+use Rattle.rule_model.specs.Plain.{rule_view}
+use Rattle.yaml_tree.specs.View.{node_view}
+use Rattle.rule_queries.proofs.Judging.{node_answers}
+use Rattle.rule_queries.proofs.converting.convert_node.Goals as goal
+
+pub returns : goal.returns
+returns c = node_answers c.args.limits.now (node_view c.args.node.now) (rule_view c.in_ok-rule.rule) c.convert_rule.result c.in_ok-rule.ensures.judged c.convert_rule.ensures

@@ -1,0 +1,27 @@
+use Rattle.std.proofs.Common.{◌≡◌, sym, subst, List, ℕ, None}
+use Rattle.backend_core.specs.View.{tree_view}
+use Rattle.event_schema.specs.declared.schema.Schema.{Schema}
+use Rattle.rule_lowering.specs.Refused.{leaves_refusal}
+use Rattle.rule_lowering.specs.TreeOf.{tree_of}
+use Rattle.rule_model.specs.Inferred.{fit_refusal}
+use Rattle.rule_model.specs.Plain.{rule_view}
+use Rattle.rule_model.proofs.Firsts.{hands_on}
+use Rattle.rule_queries.specs.Queries.{query_of, size_checks}
+use Rattle.rule_queries.proofs.Judging.{written, too_many}
+use Rattle.sig_modifiers.specs.Judged.{first}
+use Rattle.rule_queries.proofs.converting.write_rule.Goals as goal
+
+pub returns : goal.returns
+returns c =
+    let rule = rule_view c.args.rule.now in
+    let fits = subst (λ (s : Schema). fit_refusal s rule ≡ None) (sym c.requires.made) c.requires.fits in
+    let sound = c.in_ok-tree.ensures.sound c.requires.whole fits in
+    written c.args.limits.now rule c.args.schema.now (tree_view c.in_ok-tree.tree) c.write.result c.requires.made c.in_ok-tree.ensures.tree.1 c.in_ok-tree.ensures.tree.0
+    (c.write.ensures.bytes sound, c.write.ensures.deep sound, c.write.ensures.long, c.write.ensures.refused sound)
+
+pub returns-in_err-tree : goal.returns-in_err-tree
+returns-in_err-tree c =
+    let rule = rule_view c.args.rule.now in
+    hands_on (λ (bytes : List ℕ). bytes ≡ query_of rule) (λ t. tree_view t ≡ tree_of c.args.schema.now rule) c.from_residual.result c.in_err-tree.field-0.0 _
+    (first (size_checks c.args.limits.now rule)) (leaves_refusal c.args.limits.now c.args.schema.now rule) c.from_residual.ensures.1 (λ y p. p) c.in_err-tree.ensures.tree
+    (λ r e. too_many c.args.limits.now rule c.args.schema.now r c.requires.made e)
