@@ -9,15 +9,18 @@ ghost use Rattle.rule_model.specs.Plain.{rule_view};
 
 use crate::detection::{Alternative, Detection};
 use crate::item::{Fields, Item};
-use crate::nodes::check;
 use crate::rule::Rule;
-use sig_base::{Code, Refusal};
+use sig_base::{Code, Detail, Refusal};
 
 fn item_keyword(item: &Item) -> Option<Refusal>
     ensures { result ≡ keyword_line item.now }
 {
     match &item.fields {
-        Fields::Keyword => check(Code::NO_SEARCH_FIELD, item.place, false),
+        Fields::Keyword => Some(Refusal {
+            code: Code::NO_SEARCH_FIELD,
+            place: item.place,
+            detail: Detail::None,
+        }),
         Fields::Names(_) => None,
     }
 }

@@ -5,7 +5,7 @@ ghost use Rattle.std.specs.List.{flat_map};
 ghost use Rattle.event_schema.specs.Inferred as event;
 ghost use Rattle.sig_base.specs.Folding.{folded};
 ghost use Rattle.sig_base.specs.Folding.{folded as text_folded};
-ghost use Rattle.sig_modifiers.specs.Judged.{Judged, refusal};
+ghost use Rattle.sig_modifiers.specs.Judged.{Judged};
 ghost use Rattle.rule_model.specs.Gathered.{IsGathered, IsNamed, Gathers, folds_to, item_uses, alternative_uses, detection_uses};
 ghost use Rattle.rule_model.specs.Inferred as spec;
 ghost use Rattle.rule_model.specs.Plain.{rule_view};
@@ -13,8 +13,9 @@ ghost use Rattle.rule_model.specs.Plain.{rule_view};
 use crate::detection::{Alternative, Detection};
 use crate::item::{Fields as ItemFields, Item};
 use crate::rule::Rule;
+use crate::tables::refused;
 use event_schema::{Field, FieldKind, Fields, Schema};
-use sig_base::{Code, Detail, Fault, Place, Refusal, Text, Texts, fold};
+use sig_base::{Code, Fault, Place, Text, Texts, fold};
 use std::alloc::{AllocError, Global};
 use std::collections::BTreeMap;
 
@@ -48,16 +49,6 @@ fn folded_text(alloc: Global, text: &Text) -> Result<Text, AllocError>
     let mut folded = Text::new(alloc);
     push_folded(&mut folded, &characters)?;
     Ok(folded)
-}
-
-fn conflict(place: Place) -> Fault
-    ensures { result ≡ Fault.Refused (refusal 80 place) }
-{
-    Fault::Refused(Refusal {
-        code: Code::KIND_CONFLICT,
-        place,
-        detail: Detail::None,
-    })
 }
 
 impl Gathered {
@@ -110,7 +101,7 @@ impl Gathered {
                 if other.equals(name) {
                     return Ok(());
                 }
-                Err(conflict(place))
+                Err(refused(Code::KIND_CONFLICT, place))
             }
         }
     }

@@ -5,3 +5,4 @@ pub mod Judging
 pub mod ReportLines
 pub mod Serving
 pub mod Shares
+mod Converting

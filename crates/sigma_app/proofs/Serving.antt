@@ -70,24 +70,12 @@ written_whole limits words (Some files) command names found oo on eo en taken a 
 
 -- ---- the headline
 
-each_converts : QueriesMean → (limits : Limits) (documents : List Document) (verdicts : List Verdict) → EachVerdict Convert limits documents verdicts → EachConverts limits verdicts
-each_converts means limits [] [] each = tt
-each_converts means limits [] (v ∷ vs) each = absurd each
-each_converts means limits (d ∷ ds) [] each = absurd each
-each_converts means limits (tree t ∷ ds) (Accepted rule ∷ vs) each = (means limits t rule each.0, each_converts means limits ds vs each.1)
-each_converts means limits (refusal p ∷ ds) (Accepted rule ∷ vs) each = absurd each.0
-each_converts means limits (d ∷ ds) (Refused r ∷ vs) each = each_converts means limits ds vs each.1
-
-verdicts_convert : QueriesMean → (limits : Limits) (bytes : List ℕ) (verdicts : List Verdict) → AreVerdicts Convert limits bytes verdicts → EachConverts limits verdicts
-verdicts_convert means limits bytes verdicts (as_one p refused is) = subst (λ (vs : List Verdict). EachConverts limits vs) (sym is) tt
-verdicts_convert means limits bytes verdicts (by_document ds taken each) = each_converts means limits ds verdicts each
-
 all_convert : QueriesMean → (limits : Limits) (files : List (List ℕ × List ℕ)) (names : List (List ℕ)) (answers : List Answered) → AreAnswered Convert limits files names answers → AllConvert limits answers
 all_convert means limits files [] [] are = tt
 all_convert means limits files [] (a ∷ answers) are = absurd are
 all_convert means limits files (name ∷ names) [] are = absurd are
 all_convert means limits files (name ∷ names) (a ∷ answers) are =
-    (verdicts_convert means limits (contents files name) a.verdicts are.1, all_convert means limits files names answers are.2)
+    (means limits (contents files name) a.verdicts are.1, all_convert means limits files names answers are.2)
 
 -- what the headline says where the command is `convert`
 abbrev pub HeadlineOf : Limits → List (List ℕ × List ℕ) → Option (List ℕ) → Option (List ℕ) → Option (List ℕ) → Option (List ℕ) → Ways

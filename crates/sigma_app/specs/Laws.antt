@@ -2,11 +2,12 @@
 use Rattle.std.specs.Prelude.{◌≡◌, ℕ, List, None}
 use Rattle.rule_model.specs.Plain.{PlainRule}
 use Rattle.rule_model.specs.Rules.{rule_refusal}
-use Rattle.rule_queries.specs.Queries.{query_of, Converts}
-use Rattle.rule_queries.specs.Verdicts.{IsChecked, IsConverted}
+use Rattle.rule_queries.specs.Verdicts.{IsChecked}
 use Rattle.sig_base.specs.declared.limits.Limits.{Limits}
+use Rattle.sigma_app.specs.Served.{EachConverts}
 use Rattle.sigma_app.specs.Verdicts.{Verdict, IsVerdict, AreVerdicts}
 use Rattle.sigma_app.specs.declared.command.Command.{Command}
+use Rattle.sigma_app.specs.declared.command.Command.TheVariants.{Convert}
 use Rattle.yaml_tree.specs.Tree.{Tree, Answer}
 
 -- each document has a verdict
@@ -23,9 +24,9 @@ OneDocument = (command : Command) (limits : Limits) (document : Answer) (v w : V
 abbrev pub OneFile : Type 0
 OneFile = (command : Command) (limits : Limits) (bytes : List ℕ) (v w : List Verdict) → AreVerdicts command limits bytes v → AreVerdicts command limits bytes w → v ≡ w
 
--- the query of each rule that has one means the rule
+-- the query of each rule that `convert` accepts in a file means the rule
 abbrev pub QueriesMean : Type 0
-QueriesMean = (limits : Limits) (t : Tree) (rule : PlainRule) → IsConverted limits t rule → Converts limits rule (query_of rule)
+QueriesMean = (limits : Limits) (bytes : List ℕ) (verdicts : List Verdict) → AreVerdicts Convert limits bytes verdicts → EachConverts limits verdicts
 
 -- a tree that isn't refused is a rule, and one rule only
 abbrev pub EachRule : Type 0

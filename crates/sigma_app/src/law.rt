@@ -7,6 +7,7 @@ pub fn each_verdict()
     ensures document { EachDocument }
     ensures file { EachFile }
 {
+    rule_queries::one_verdict();
     yaml_documents::laws::verdicts();
 }
 
@@ -15,6 +16,7 @@ pub fn one_verdict()
     ensures document { OneDocument }
     ensures file { OneFile }
 {
+    rule_queries::one_verdict();
     yaml_documents::laws::verdicts();
     yaml_documents::laws::one_verdict();
 }
@@ -22,4 +24,7 @@ pub fn one_verdict()
 /// The query of each rule that `convert` accepts means the rule.
 pub fn queries_mean_rules()
     ensures { QueriesMean }
-{}
+{
+    rule_queries::queries_mean_rules();
+    yaml_bounds::laws::texts_are_scalars();
+}

@@ -1,4 +1,5 @@
+use Rattle.sigma_app.proofs.Converting.{queries_mean}
 use Rattle.sigma_app.proofs.law.queries_mean_rules.Goals as goal
 
 pub returns : goal.returns
-returns c = ?
+returns c = queries_mean c.queries_mean_rules.ensures c.texts_are_scalars.ensures
