@@ -1,9 +1,9 @@
 //! The program over shelves and sinks in memory.
 
 mod faults;
+mod rules;
 mod running;
 mod words;
-// `mod rules;` waits until `rule_queries` answers: until then its calls end in want of memory.
 
 use crate::serve::serve;
 use crate::status::Status;
