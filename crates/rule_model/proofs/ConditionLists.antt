@@ -1,13 +1,11 @@
 -- The conditions of a rule: one, or a list of them.
-use Rattle.std.proofs.Common.{◌≡◌, Bool, true, false, not, List, [], ◌∷◌, ◌++◌, length, refl, ap, sym, ◌∙◌, subst, arith, ltb, Global, Vec}
-use Rattle.std.specs.Prelude.{Option, Some, None, Result, Ok, Err, IfOk, codes, is_some, ◌==◌, ℕ, map}
+use Rattle.std.proofs.Common.{◌≡◌, Bool, not, List, [], ◌∷◌, ◌++◌, length, ap, sym, ◌∙◌, subst, Global, Vec}
+use Rattle.std.specs.Prelude.{Option, Some, None, Result, Ok, Err, IfOk, codes, is_some, ℕ}
 use Rattle.std.specs.List.{AllZip}
-use Rattle.std.proofs.lemmas.Bool.Decides.{nat_tests}
 use Rattle.std.proofs.lemmas.List.{map-append}
 use Rattle.sig_base.specs.declared.limits.Limits.{Limits}
 use Rattle.sig_base.specs.declared.refusal.Fault.{Fault}
 use Rattle.sig_base.specs.declared.refusal.Place.{Place}
-use Rattle.sig_base.specs.declared.refusal.Refusal.{Refusal}
 use Rattle.sig_conditions.specs.Formulas.{Form, form_view, forms_view}
 use Rattle.sig_conditions.specs.declared.formula.Formula.{Formula}
 use Rattle.sig_modifiers.specs.Judged.{must, first, Judged}

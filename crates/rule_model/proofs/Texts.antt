@@ -1,5 +1,5 @@
 -- Conditions of texts: what a reader and a resolver answer is what the definitions say of the node.
-use Rattle.std.proofs.Common.{ℕ, ◌≡◌, ◌≤◌, ◌<◌, Bool, true, false, not, List, [], ◌∷◌, ◌++◌, refl, ap, sym, ◌∙◌, subst, arith, nat_le}
+use Rattle.std.proofs.Common.{ℕ, ◌≡◌, ◌≤◌, ◌<◌, Bool, true, false, not, List, [], ◌∷◌, refl, ap, sym, ◌∙◌, subst, arith, nat_le}
 use Rattle.std.specs.Prelude.{Option, Some, None, Result, Ok, Err, IfOk, IfErr, is_some}
 use Rattle.std.proofs.lemmas.Bool.{leb-true, le-leb}
 use Rattle.sig_base.specs.declared.limits.Limits.{Limits}
@@ -10,10 +10,9 @@ use Rattle.sig_base.specs.declared.refusal.Place.{Place}
 use Rattle.sig_base.specs.declared.refusal.Refusal.{Refusal}
 use Rattle.sig_conditions.specs.Conditions.{Cond}
 use Rattle.sig_conditions.specs.Formulas.{form_view, formula_of, faults}
-use Rattle.sig_conditions.specs.Grammar.{ConditionReads}
 use Rattle.sig_conditions.specs.Reader.{condition_in}
 use Rattle.sig_conditions.specs.Refusals.{IsRead, HasCode, old, deep, unread, IsUnread, IsUnresolved, refusal_of}
-use Rattle.sig_conditions.specs.Words.{has_bar, nesting, words}
+use Rattle.sig_conditions.specs.Words.{nesting, words}
 use Rattle.sig_conditions.specs.declared.formula.Formula.{Formula}
 use Rattle.sig_conditions.specs.declared.word.Word.{Word}
 use Rattle.sig_conditions.proofs.Sound.{is_condition, reads_condition}

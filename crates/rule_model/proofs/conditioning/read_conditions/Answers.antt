@@ -1,13 +1,7 @@
-use Rattle.std.proofs.Common.{◌≡◌, ◌∙◌, sym, ap, map, List, Vec, Global}
-use Rattle.std.specs.Prelude.{not, filter, codes, Result}
-use Rattle.sig_base.specs.declared.limits.Limits.{Limits}
-use Rattle.sig_base.specs.declared.refusal.Fault.{Fault}
-use Rattle.sig_conditions.specs.Formulas.{forms_view}
-use Rattle.sig_conditions.specs.declared.formula.Formula.{Formula}
-use Rattle.sig_modifiers.specs.Judged.{Judged}
-use Rattle.yaml_tree.specs.Tree.{Tree, Member}
+use Rattle.std.proofs.Common.{◌∙◌, sym, ap, map, List}
+use Rattle.std.specs.Prelude.{not, filter, codes}
+use Rattle.yaml_tree.specs.Tree.{Member}
 use Rattle.yaml_tree.specs.View.{node_view}
-use Rattle.rule_model.specs.Conditions.{conditions_refusal, AreConditions}
 use Rattle.rule_model.specs.Detections.{is_key}
 use Rattle.rule_model.proofs.ConditionLists.{IsJudged, listed_judged, judged_some, judged_whole}
 use Rattle.rule_model.proofs.conditioning.read_conditions.Goals as goal

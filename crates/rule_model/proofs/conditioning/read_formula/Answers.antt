@@ -1,4 +1,4 @@
-use Rattle.std.proofs.Common.{◌≡◌, ◌∙◌, sym}
+use Rattle.std.proofs.Common.{◌∙◌, sym}
 use Rattle.std.specs.Str.{chars}
 use Rattle.sig_conditions.specs.Conditions.{cond_view}
 use Rattle.sig_conditions.specs.Formulas.{form_view}

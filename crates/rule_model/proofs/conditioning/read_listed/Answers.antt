@@ -1,10 +1,10 @@
-use Rattle.std.proofs.Common.{◌≡◌, ◌∙◌, sym, ap, subst, map, List, take, ◌+◌}
+use Rattle.std.proofs.Common.{◌∙◌, sym, ap, subst, map, List, take, ◌+◌}
 use Rattle.std.specs.List.{AllZip}
 use Rattle.sig_modifiers.specs.Judged.{first}
 use Rattle.sig_conditions.specs.Formulas.{Form, form_view, forms_view}
 use Rattle.sig_conditions.specs.declared.formula.Formula.{Formula}
 use Rattle.yaml_tree.specs.Tree.{Tree}
-use Rattle.yaml_tree.specs.View.{node_view, nodes_view}
+use Rattle.yaml_tree.specs.View.{node_view}
 use Rattle.rule_model.specs.Conditions.{IsFormula, condition_refusal}
 use Rattle.rule_model.proofs.ConditionLists.{unempty, pushed_view}
 use Rattle.rule_model.proofs.Firsts.{hands_on, behind, part_first, rest_first, one_more}

@@ -1,4 +1,4 @@
-use Rattle.std.proofs.Common.{◌≡◌, ℕ, subst}
+use Rattle.std.proofs.Common.{ℕ, subst}
 use Rattle.sig_conditions.specs.Formulas.{forms_view}
 use Rattle.yaml_tree.specs.View.{node_view}
 use Rattle.rule_model.specs.Lists.{EachOf}
