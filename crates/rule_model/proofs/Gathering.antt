@@ -67,8 +67,8 @@ no_clash : (m name : List ℕ) (whole : List (List ℕ)) → find (folds_to (fol
 no_clash m name whole a b =
     elim (sure (bytes_eq (folded m) (folded name))) [
       | inl h ↦
-        let one : m ≡ name = some_same m name (sym a ∙ (ap (λ (t : List ℕ). find (folds_to t) whole) (same _ _ h) ∙ b)) in
-        rw (h, own m name one) refl
+          let one : m ≡ name = some_same m name (sym a ∙ (ap (λ (t : List ℕ). find (folds_to t) whole) (same _ _ h) ∙ b)) in
+          rw (h, own m name one) refl
       | inr h ↦ rw h refl
     ]
 
@@ -88,8 +88,8 @@ one_clashes name other [] e f = absurd (none-some other e)
 one_clashes name other (n ∷ ns) e f =
     elim (choose (folds_to (folded name) n) (Some n) (find (folds_to (folded name)) ns) (Some other) e) [
       | inl h ↦
-        let differs : bytes_eq n name ≡ false = ap (λ (x : List ℕ). bytes_eq x name) (some_same n other h.1) ∙ f in
-        or_true (clashes n name) _ (rw (h.0, differs) refl)
+          let differs : bytes_eq n name ≡ false = ap (λ (x : List ℕ). bytes_eq x name) (some_same n other h.1) ∙ f in
+          or_true (clashes n name) _ (rw (h.0, differs) refl)
       | inr h ↦ true_or (clashes n name) _ (one_clashes name other ns h.1 f)
     ]
 
@@ -162,8 +162,8 @@ pub finds_and : (names : List (List ℕ)) (name text : List ℕ) (old new : Opti
 finds_and names name text old new e o n =
     elim (sure (bytes_eq (folded name) text)) [
       | inl t ↦
-        let none : find (folds_to text) names ≡ None = ap (λ (x : List ℕ). find (folds_to x) names) (sym (same (folded name) text t)) ∙ e in
-        n ∙ (rw t refl ∙ sym (last_found (folds_to text) names name none t))
+          let none : find (folds_to text) names ≡ None = ap (λ (x : List ℕ). find (folds_to x) names) (sym (same (folded name) text t)) ∙ e in
+          n ∙ (rw t refl ∙ sym (last_found (folds_to text) names name none t))
       | inr f ↦ n ∙ (rw f refl ∙ (o ∙ sym (find-append (folds_to text) names (name ∷ []) ∙ unchanged (find (folds_to text) names) f)))
     ] where
       unchanged : (x : Option (List ℕ)) → folds_to text name ≡ false → option_or x (find (folds_to text) (name ∷ [])) ≡ x
@@ -247,4 +247,3 @@ pub hands_on : (result : Result (Unit {0}) Fault) (e : Fault) (Q : Fault → Typ
 hands_on (Ok u) e Q old now new last part whole h q g f = absurd h
 hands_on (Err y) Memory Q old now new last part whole h q g f = subst (λ (z : Fault). Gathers (Err z) old last whole) (sym (q y h)) tt
 hands_on (Err y) (Refused r) Q old now new last part whole h q g f = subst (λ (z : Fault). Gathers (Err z) old last whole) (sym (q y h)) (f r g)
-

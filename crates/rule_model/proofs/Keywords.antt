@@ -80,9 +80,9 @@ stays name other (n ∷ names) f e =
     elim (sure (bytes_eq n other)) [
       | inl t ↦ rw t (stays name other names f (behind (bytes_eq n name) _ (ap (λ (x : List ℕ). bytes_eq x name) (equal n other t) ∙ f) e))
       | inr t ↦ rw t (elim (either (bytes_eq n name) _ e) [
-          | inl h ↦ first_true (bytes_eq n name) _ h
-          | inr h ↦ or_true (bytes_eq n name) _ (stays name other names f h.1)
-        ])
+        | inl h ↦ first_true (bytes_eq n name) _ h
+        | inr h ↦ or_true (bytes_eq n name) _ (stays name other names f h.1)
+      ])
     ] where
       behind : (a b : Bool) → a ≡ false → (a || b) ≡ true → b ≡ true
       behind true b x y = cc
@@ -126,7 +126,7 @@ lines_of : (all : List (List ℕ)) (items : List Item) → Among all (names_of i
 lines_of all [] h = refl
 lines_of all (i ∷ items) h =
     let divided : names_of (i ∷ items) ≡ names_in i.fields ++ names_of items =
-        map-append (λ u. u.0) (map (λ name. (name, i.place)) (names_in i.fields)) (uses_of items) ∙ ap (λ (ns : List (List ℕ)). ns ++ names_of items) (again i.place (names_in i.fields)) in
+    map-append (λ u. u.0) (map (λ name. (name, i.place)) (names_in i.fields)) (uses_of items) ∙ ap (λ (ns : List (List ℕ)). ns ++ names_of items) (again i.place (names_in i.fields)) in
     let two = divide (names_in i.fields) (names_of items) (subst (λ (ns : List (List ℕ)). Among all ns) divided h) in
     ap (λ (r : Option Refusal). r ∷ map (λ j. fields_refusal (map text_field (distinct all)) j.place j.fields) items) (line_of all i.place i.fields two.0)
     ∙ ap (λ (rs : List (Option Refusal)). keyword_line i ∷ rs) (lines_of all items two.1) where

@@ -101,9 +101,11 @@ judged : (limits : Limits) (rule : PlainRule) (r : Result (List ℕ) Fault) → 
     → IfOk r (λ bytes. bytes ≡ query_of rule) → IfOk r (λ bytes. query_depth rule ≤ limits.sql_depth) → IfOk r (λ bytes. length bytes ≤ limits.query_bytes)
     → IfErr r (λ e. IsUnwritten limits.sql_depth limits.query_bytes rule.head.place (query_depth rule) (length (query_of rule)) e)
     → Judged (λ bytes. bytes ≡ query_of rule) (first (size_checks limits rule)) r
-judged limits rule (Ok bytes) few same deep long none =
-    (all_pass (leaves_line limits rule) (deep_line limits rule) (long_line limits rule) few (passes 112 rule.head.place _ (query_depth rule) limits.sql_depth deep)
-      (passes 114 rule.head.place _ (length (query_of rule)) limits.query_bytes (subst (λ (bs : List ℕ). length bs ≤ limits.query_bytes) same long)), same)
+judged limits rule (Ok bytes) few same deep long none = (
+  all_pass (leaves_line limits rule) (deep_line limits rule) (long_line limits rule) few (passes 112 rule.head.place _ (query_depth rule) limits.sql_depth deep)
+      (passes 114 rule.head.place _ (length (query_of rule)) limits.query_bytes (subst (λ (bs : List ℕ). length bs ≤ limits.query_bytes) same long)),
+  same,
+)
 judged limits rule (Err Memory) few same deep long none = tt
 judged limits rule (Err (Refused r)) few same deep long none = unwritten limits rule r few none
 
@@ -115,7 +117,7 @@ written limits rule schema t r s e few clauses =
     let tree : t ≡ tree_of (inferred_schema rule) rule = e ∙ ap (λ (x : Schema). tree_of x rule) s in
     let at_schema : Clauses limits rule.head.place (inferred_schema rule) t r = subst (λ (x : Schema). Clauses limits rule.head.place x t r) s clauses in
     let at_tree : Clauses limits rule.head.place (inferred_schema rule) (tree_of (inferred_schema rule) rule) r =
-        subst (λ (x : Plain). Clauses limits rule.head.place (inferred_schema rule) x r) tree at_schema in
+    subst (λ (x : Plain). Clauses limits rule.head.place (inferred_schema rule) x r) tree at_schema in
     judged limits rule r (subst (λ (x : Schema). leaves_refusal limits x rule ≡ None) s few) at_tree.0 at_tree.1 at_tree.2 at_tree.3
 
 pub too_many : (limits : Limits) (rule : PlainRule) (schema : Schema) (r : Refusal) → schema ≡ inferred_schema rule → leaves_refusal limits schema rule ≡ Some r → first (size_checks limits rule) ≡ Some r

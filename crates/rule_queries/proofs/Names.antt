@@ -186,8 +186,8 @@ distinct_apart before (u ∷ us) e =
     elim (choose (list_any (λ v. clashes v.0 u.0) before) (Some (refusal 80 u.1)) (clash_behind (before ++ u ∷ []) us) None e) [
       | inl h ↦ absurd (none_some _ h.1)
       | inr h ↦
-        let free : NoneClash u.0 (distinct (use_names us)) = distinct_free u.0 (use_names us) (last_free before u us (clash_free (before ++ u ∷ []) us h.1)) in
-        (others u.0 (distinct (use_names us)) free, filter_apart (λ other. not (bytes_eq other u.0)) (distinct (use_names us)) (distinct_apart (before ++ u ∷ []) us h.1))
+          let free : NoneClash u.0 (distinct (use_names us)) = distinct_free u.0 (use_names us) (last_free before u us (clash_free (before ++ u ∷ []) us h.1)) in
+          (others u.0 (distinct (use_names us)) free, filter_apart (λ other. not (bytes_eq other u.0)) (distinct (use_names us)) (distinct_apart (before ++ u ∷ []) us h.1))
     ]
 
 pub rule_apart : (rule : PlainRule) → schema_refusal rule ≡ None → AreApart (rule_names rule)

@@ -43,9 +43,9 @@ at_most code place told count limit =
 abbrev pub size_checks : Limits → PlainRule → List (Option Refusal)
 size_checks limits rule =
     at_most 110 rule.head.place (min (leaves (rule_tree rule)) (2 ^ 127 - 1)) (leaves (rule_tree rule)) limits.leaves
-  ∷ at_most 112 rule.head.place (min (query_depth rule) (2 ^ 64 - 1)) (query_depth rule) limits.sql_depth
-  ∷ at_most 114 rule.head.place (length (query_of rule)) (length (query_of rule)) limits.query_bytes
-  ∷ []
+    ∷ at_most 112 rule.head.place (min (query_depth rule) (2 ^ 64 - 1)) (query_depth rule) limits.sql_depth
+    ∷ at_most 114 rule.head.place (length (query_of rule)) (length (query_of rule)) limits.query_bytes
+    ∷ []
 
 -- why a rule has no query: its names clash, a keyword has no field to search, or the query is too large
 abbrev pub query_refusal : Limits → PlainRule → Option Refusal
