@@ -1,4 +1,0 @@
-pub mod Reading
-pub mod SevenLines
-pub mod View
-pub mod Words
