@@ -2,7 +2,6 @@ pub mod ByKind
 pub mod Days
 pub mod Firsts
 pub mod Found
-pub mod KeyLemmas
 pub mod Lines
 pub mod Views
 pub mod WholeItems
