@@ -1,5 +1,5 @@
 -- What makes an alternative of a map, and of a scalar.
-use Rattle.std.proofs.Common.{◌≡◌, List, true, false, sym, subst}
+use Rattle.std.proofs.Common.{◌≡◌, List, true, sym, subst}
 use Rattle.std.specs.Prelude.{Result}
 use Rattle.std.specs.List.{AllZip}
 use Rattle.sig_base.specs.declared.limits.Limits.{Limits}

@@ -1,5 +1,5 @@
 -- What the bytes of a text say of the day that it is.
-use Rattle.std.proofs.Common.{ℕ, ◌≡◌, ◌≤◌, ◌<◌, ◌+◌, ◌*◌, Bool, true, false, ◌&&◌, List, [], ◌∷◌, ◌++◌, length, get_or, refl, sym, ap, ◌∙◌, subst, arith, eq-eqb, nat_lt, nat_le}
+use Rattle.std.proofs.Common.{ℕ, ◌≡◌, ◌≤◌, ◌<◌, ◌+◌, ◌*◌, Bool, true, false, ◌&&◌, List, [], ◌∷◌, ◌++◌, length, get_or, refl, sym, ap, ◌∙◌, arith, eq-eqb, nat_lt, nat_le}
 use Rattle.std.specs.Prelude.{encode_utf8_all, ◌==◌}
 use Rattle.std.specs.List.{list_all}
 use Rattle.std.specs.Str.{chars, all_scalars}
@@ -58,12 +58,12 @@ day_ascii text day = absurd cc
 pub same_day : (bytes text : List ℕ) (r : Bool) → bytes ≡ encode_utf8_all text → all_scalars text ≡ true → r ≡ is_day_text bytes → r ≡ is_day_text text
 same_day bytes text r is scalars read =
     let there : is_day_text text ≡ true → is_day_text bytes ≡ true =
-        λ h. ap is_day_text (is ∙ ascii_encodes text (day_ascii text h)) ∙ h in
+    λ h. ap is_day_text (is ∙ ascii_encodes text (day_ascii text h)) ∙ h in
     let back : is_day_text bytes ≡ true → is_day_text text ≡ true =
-        λ h. ap is_day_text (sym (chars-encodes text scalars) ∙ (ap chars (sym is) ∙ ascii_chars bytes (day_ascii bytes h))) ∙ h in
+    λ h. ap is_day_text (sym (chars-encodes text scalars) ∙ (ap chars (sym is) ∙ ascii_chars bytes (day_ascii bytes h))) ∙ h in
     read ∙ both (is_day_text bytes) (is_day_text text) back there
   where
-  both : (x y : Bool) → (x ≡ true → y ≡ true) → (y ≡ true → x ≡ true) → x ≡ y
-  both true y f g = sym (f refl)
-  both false true f g = g refl
-  both false false f g = refl
+    both : (x y : Bool) → (x ≡ true → y ≡ true) → (y ≡ true → x ≡ true) → x ≡ y
+    both true y f g = sym (f refl)
+    both false true f g = g refl
+    both false false f g = refl

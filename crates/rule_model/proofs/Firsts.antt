@@ -8,6 +8,7 @@ use Rattle.sig_base.specs.declared.refusal.Refusal.{Refusal}
 use Rattle.sig_base.specs.declared.refusal.Fault.{Fault}
 use Rattle.sig_base.specs.declared.refusal.Fault.TheVariants.{Memory, Refused}
 use Rattle.sig_modifiers.specs.Judged.{first, Judged}
+use Rattle.rule_model.proofs.Lines.{first_one}
 
 pub first_none : (a b : List (Option Refusal)) → first a ≡ None → first (a ++ b) ≡ first b
 first_none [] b h = refl
@@ -18,6 +19,16 @@ pub first_some : (a b : List (Option Refusal)) (r : Refusal) → first a ≡ Som
 first_some [] b r h = absurd cc
 first_some (None ∷ checks) b r h = first_some checks b r h
 first_some (Some s ∷ checks) b r h = h
+
+-- the second line decides where the first one passes
+pub behind : (a b : Option Refusal) → a ≡ None → first (a ∷ b ∷ []) ≡ b
+behind a b h = rw h (first_one b)
+
+-- what is read for one cause is read for an equal one
+pub judged_as : {X : Type 0} (P Q : X → Type 0) (a b : Option Refusal) (r : Result X Fault) → b ≡ a → ((x : X) → P x → Q x) → Judged P a r → Judged Q b r
+judged_as P Q a b (Ok x) same f j = (same ∙ j.0, f x j.1)
+judged_as P Q a b (Err Memory) same f j = tt
+judged_as P Q a b (Err (Refused r)) same f j = same ∙ j
 
 -- what is left of a list from an element on
 pub list_at : {X A : Type 0} (view : X → A) (i : ℕ) (xs : List X) (x : X) → i < length xs → x ≡ get_or xs i x

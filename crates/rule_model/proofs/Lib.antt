@@ -1,8 +1,13 @@
 pub mod ByKind
+pub mod ConditionLists
 pub mod Days
+pub mod Faultless
 pub mod Firsts
 pub mod Found
 pub mod Lines
+pub mod OneRule
+pub mod RuleLemmas
+pub mod Texts
 pub mod Views
 pub mod WholeItems
 pub mod Zips

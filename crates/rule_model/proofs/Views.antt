@@ -1,11 +1,11 @@
 -- What a node stands for, by what it is.
-use Rattle.std.specs.Prelude.{ℕ, Bool, ◌≡◌, true, List, [], ◌∷◌, ℤ}
+use Rattle.std.specs.Prelude.{◌≡◌, List, [], ◌∷◌}
 use Rattle.std.proofs.Common.{refl, sym, ap, ◌∙◌, rules}
 use Rattle.std.specs.declared.alloc.Global.{Global}
 use Rattle.std.specs.declared.vec.Vec.{Vec}
 use Rattle.sig_base.specs.declared.refusal.Place.{Place}
 use Rattle.sig_modifiers.specs.TestsOf.{place_of}
-use Rattle.yaml_tree.specs.Tree.{Scalar, null, truth, whole, text, Tree, scalar, list, map, Elements, Members, Member}
+use Rattle.yaml_tree.specs.Tree.{Tree, list, map, Member}
 use Rattle.yaml_tree.specs.View.{node_view, kind_view, place_view, entry_view, nodes_view, entries_view, elements_of, members_of}
 use Rattle.yaml_tree.specs.declared.tree.Node.{Node}
 use Rattle.yaml_tree.specs.declared.tree.Entry.{Entry}
@@ -14,7 +14,7 @@ use Rattle.yaml_tree.specs.View.{kind_step, entry_step, node_step}
 use Rattle.yaml_tree.specs.Tree.{At}
 use Rattle.yaml_tree.specs.declared.tree.Kind.TheOpen.{Kind-F}
 use Rattle.yaml_tree.specs.declared.tree.Kind.TheFolds.{fold_out-Kind, fold_out-Entry, fold_out-Node}
-use Rattle.rule_model.specs.Nodes.{is_map, entries_in, parts_in, listed, entered}
+use Rattle.rule_model.specs.Nodes.{entries_in, parts_in, listed, entered}
 
 pub listed_again : (ts : List Tree) → listed (elements_of ts) ≡ ts
 listed_again [] = refl

@@ -1,7 +1,6 @@
 -- An item that is read is whole.
-use Rattle.std.proofs.Common.{ℕ, ◌≡◌, List, [], ◌∷◌, Bool, true, false, not, ◌||◌, if◌then◌else◌, refl, sym, subst, ap}
+use Rattle.std.proofs.Common.{ℕ, ◌≡◌, List, [], ◌∷◌, Bool, true, false, not, ◌||◌, if◌then◌else◌, refl, sym, subst}
 use Rattle.std.specs.Prelude.{Option, None, nat_le, length, map as list_map}
-use Rattle.std.specs.List.{AllZip}
 use Rattle.sig_base.specs.declared.limits.Limits.{Limits}
 use Rattle.sig_base.specs.declared.refusal.Place.{Place}
 use Rattle.sig_base.specs.declared.refusal.Refusal.{Refusal}
@@ -12,7 +11,6 @@ use Rattle.yaml_tree.specs.Tree.{Tree, scalar, list, map, null, truth, whole, te
 use Rattle.sig_modifiers.specs.PlainTests.{ArePlainTests}
 use Rattle.sig_modifiers.specs.TestsOf.{Use, unused, absent, existing, pattern, number, UseTests, TestsOf, use_of, form_use, field_form, place_of, value_refusal}
 use Rattle.sig_modifiers.specs.Written.{Written}
-use Rattle.sig_modifiers.specs.declared.form.Form.{Form}
 use Rattle.sig_modifiers.specs.declared.form.Form.TheVariants.{Texts}
 use Rattle.sig_modifiers.specs.declared.test.Test.{Test}
 use Rattle.rule_model.specs.Items.{IsItem, IsKeyword, bare_chain, key_chain, shape_refusal, values_refusal, item_refusal}

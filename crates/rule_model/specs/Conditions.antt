@@ -36,11 +36,11 @@ unresolved place names (Some c) = first_fault place (faults names c)
 abbrev pub condition_refusal : Limits → List (List ℕ) → Tree → Option Refusal
 condition_refusal limits names t = first (
     must 71 (place_of t) (is_text t)
-  ∷ must 61 (place_of t) (not (has_bar (text_in t)))
-  ∷ must 62 (place_of t) (nat_le (nesting (words (text_in t))) limits.condition_words)
-  ∷ must 60 (place_of t) (is_some (condition_of limits.condition_words (text_in t)))
-  ∷ unresolved (place_of t) names (condition_of limits.condition_words (text_in t))
-  ∷ [])
+    ∷ must 61 (place_of t) (not (has_bar (text_in t)))
+    ∷ must 62 (place_of t) (nat_le (nesting (words (text_in t))) limits.condition_words)
+    ∷ must 60 (place_of t) (is_some (condition_of limits.condition_words (text_in t)))
+    ∷ unresolved (place_of t) names (condition_of limits.condition_words (text_in t))
+    ∷ [])
 
 -- the formula over the detections that a condition is
 pub record IsFormula (names : List (List ℕ)) (t : Tree) (f : Form) : Type 0 where
@@ -56,14 +56,14 @@ names_of t = list_map (λ e. e.key) (detection_entries t)
 abbrev pub listed_refusal : Limits → List (List ℕ) → Tree → Option Refusal
 listed_refusal limits names t = first (
     must 78 (place_of t) (not (is_empty (parts_in t)))
-  ∷ first (list_map (condition_refusal limits names) (parts_in t))
-  ∷ [])
+    ∷ first (list_map (condition_refusal limits names) (parts_in t))
+    ∷ [])
 
 abbrev pub conditions_refusal : Limits → Tree → Option Refusal
 conditions_refusal limits t = first (
     required (codes "condition") t
-  ∷ refused_at (codes "condition") (listed_refusal limits (names_of t)) t
-  ∷ [])
+    ∷ refused_at (codes "condition") (listed_refusal limits (names_of t)) t
+    ∷ [])
 
 abbrev pub conditions_in : Option Tree → List Tree
 conditions_in None = []

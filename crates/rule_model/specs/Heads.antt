@@ -53,15 +53,15 @@ is_date t = is_text t && is_day_text (text_in t)
 abbrev pub head_checks : Tree → List (Option Refusal)
 head_checks t =
     must 71 (place_of t) (is_map t)
-  ∷ required (codes "title") t
-  ∷ at_key (codes "title") 72 is_title t
-  ∷ at_key (codes "id") 73 is_id t
-  ∷ at_key (codes "name") 71 is_text t
-  ∷ at_key (codes "status") 75 is_status t
-  ∷ at_key (codes "date") 74 is_date t
-  ∷ at_key (codes "modified") 74 is_date t
-  ∷ at_key (codes "level") 76 is_level t
-  ∷ []
+    ∷ required (codes "title") t
+    ∷ at_key (codes "title") 72 is_title t
+    ∷ at_key (codes "id") 73 is_id t
+    ∷ at_key (codes "name") 71 is_text t
+    ∷ at_key (codes "status") 75 is_status t
+    ∷ at_key (codes "date") 74 is_date t
+    ∷ at_key (codes "modified") 74 is_date t
+    ∷ at_key (codes "level") 76 is_level t
+    ∷ []
 
 abbrev pub checked_keys : List (List ℕ)
 checked_keys =

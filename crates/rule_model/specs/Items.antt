@@ -1,5 +1,5 @@
 -- The items of detections (Sigma specification 2.0, detection: maps, lists and keywords).
-use Rattle.std.specs.Prelude.{ℕ, ◌≡◌, Bool, true, false, not, nat_le, if◌then◌else◌, List, [], ◌∷◌, length, map as list_map}
+use Rattle.std.specs.Prelude.{ℕ, ◌≡◌, true, not, nat_le, if◌then◌else◌, List, [], ◌∷◌, length, map as list_map}
 use Rattle.std.specs.List.{AllZip}
 use Rattle.std.specs.declared.option.Option.{Option}
 use Rattle.sig_base.specs.declared.limits.Limits.{Limits}

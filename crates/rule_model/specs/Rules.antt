@@ -16,12 +16,12 @@ use Rattle.rule_model.specs.Sources.{source_refusal, source_of}
 abbrev pub rule_refusal : Limits → Tree → Option Refusal
 rule_refusal limits t = first (
     first (head_checks t)
-  ∷ required (codes "logsource") t
-  ∷ refused_at (codes "logsource") source_refusal t
-  ∷ required (codes "detection") t
-  ∷ refused_at (codes "detection") (detections_refusal limits) t
-  ∷ refused_at (codes "detection") (conditions_refusal limits) t
-  ∷ [])
+    ∷ required (codes "logsource") t
+    ∷ refused_at (codes "logsource") source_refusal t
+    ∷ required (codes "detection") t
+    ∷ refused_at (codes "detection") (detections_refusal limits) t
+    ∷ refused_at (codes "detection") (conditions_refusal limits) t
+    ∷ [])
 
 pub record IsRule (t : Tree) (r : PlainRule) : Type 0 where
   pub head : IsHead t r.head

@@ -12,11 +12,11 @@ use Rattle.rule_model.specs.declared.source.LogSource.{LogSource}
 abbrev pub source_refusal : Tree → Option Refusal
 source_refusal t = first (
     must 71 (place_of t) (is_map t)
-  ∷ at_key (codes "category") 71 is_text t
-  ∷ at_key (codes "product") 71 is_text t
-  ∷ at_key (codes "service") 71 is_text t
-  ∷ must 70 (place_of t) (has_key (codes "category") t || has_key (codes "product") t || has_key (codes "service") t)
-  ∷ [])
+    ∷ at_key (codes "category") 71 is_text t
+    ∷ at_key (codes "product") 71 is_text t
+    ∷ at_key (codes "service") 71 is_text t
+    ∷ must 70 (place_of t) (has_key (codes "category") t || has_key (codes "product") t || has_key (codes "service") t)
+    ∷ [])
 
 abbrev pub source_of : Tree → LogSource
 source_of t = record { category = text_at (codes "category") t; product = text_at (codes "product") t; service = text_at (codes "service") t }

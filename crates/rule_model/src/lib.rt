@@ -4,9 +4,11 @@
 pub use detection::{Alternative, Alternatives, Detection, Detections};
 pub use head::Head;
 pub use item::{Fields, Item, Values};
+pub use law::one_rule;
 pub use rule::Rule;
 pub use source::LogSource;
 
+mod conditioning;
 mod copying;
 mod dates;
 mod detecting;
@@ -17,8 +19,12 @@ mod heading;
 mod item;
 mod itemizing;
 mod keys;
+mod law;
 mod nodes;
+mod reading;
 mod rule;
+#[cfg(test)]
+mod rule_tests;
 mod source;
 mod sourcing;
 mod tables;

@@ -2,14 +2,13 @@
 
 ghost use Rattle.std.specs.Prelude.{◌≡◌, true, false, [], ◌∷◌, Some, None, IfSome, IfNone};
 ghost use Rattle.std.specs.Str.{chars};
-ghost use Rattle.sig_modifiers.specs.Judged.{must};
 ghost use Rattle.sig_modifiers.specs.TestsOf.{place_of};
 ghost use Rattle.yaml_tree.specs.View.{node_view, nodes_view, entry_view, entries_view};
 ghost use Rattle.rule_model.specs.Found.{IsFound};
 ghost use Rattle.rule_model.specs.Keys.{is_empty};
 ghost use Rattle.rule_model.specs.Nodes as spec;
 
-use sig_base::{Code, Detail, Place, Refusal, Text};
+use sig_base::{Place, Text};
 use std::slice;
 use yaml_tree::{Entry, Kind, Node};
 
@@ -121,18 +120,4 @@ pub fn find_value<'a>(entries: &'a [Entry], key: &str) -> Option<&'a Node>
         }
     }
     None
-}
-
-/// The refusal with the code at the place, unless the condition holds.
-pub fn check(code: Code, place: Place, holds: bool) -> Option<Refusal>
-    ensures { result ≡ must code place holds }
-{
-    if holds {
-        return None;
-    }
-    Some(Refusal {
-        code,
-        place,
-        detail: Detail::None,
-    })
 }

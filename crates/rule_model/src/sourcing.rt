@@ -21,8 +21,9 @@ fn check_source(node: &Node) -> Result<(), Fault>
     at_key(node, "category", Form::Text)?;
     at_key(node, "product", Form::Text)?;
     at_key(node, "service", Form::Text)?;
-    let is_given =
-        has_key(node, "category") || has_key(node, "product") || has_key(node, "service");
+    let is_given = has_key(node, "category")
+        || has_key(node, "product")
+        || has_key(node, "service");
     must(Code::MISSING_KEY, place_of(node), is_given)
 }
 

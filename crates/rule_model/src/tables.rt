@@ -48,11 +48,3 @@ pub fn has_key(node: &Node, key: &str) -> bool
 {
     value_at(node, key).is_some()
 }
-
-/// Refuses a map that lacks the key.
-pub fn required(node: &Node, key: &str) -> Result<(), Fault>
-    requires { is_ascii key.now ≡ true }
-    ensures { Judged (λ done. Unit {0}) (spec.required key.now (node_view node.now)) result }
-{
-    must(Code::MISSING_KEY, place_of(node), has_key(node, key))
-}

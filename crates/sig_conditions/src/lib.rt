@@ -4,6 +4,7 @@
 pub use condition::Condition;
 pub use formula::Formula;
 pub use law::{identifiers_are_names, one_condition, one_list_of_words, same_meaning};
+pub use names::Names;
 pub use reading::read_condition;
 pub use resolving::resolve_condition;
 pub use scan::is_identifier;
@@ -16,6 +17,7 @@ mod index;
 mod join;
 mod law;
 mod look;
+mod names;
 mod reader;
 mod reading;
 mod resolver;

@@ -7,32 +7,23 @@ ghost use Rattle.sig_conditions.specs.Refusals.{IsUnresolved, refusal_of};
 
 use crate::condition::Condition;
 use crate::formula::Formula;
-use crate::index::index_names;
-use crate::resolver::resolve;
+use crate::names::Names;
 use crate::unresolved::Unresolved;
-use sig_base::{Code, Detail, Fault, Place, Refusal, Text};
+use sig_base::{Code, Detail, Fault, Place, Refusal};
 use std::alloc::Global;
 
-/// Puts the numbers of a rule's detections in place of their names, where `names` has the names in the rule's order. Of
-/// the names and selectors that have no detection, the first in the text is refused: `UnknownName` with the name, or
-/// `NothingTaken`. More than 2^32 - 1 detections can't be numbered, which is want of memory.
+/// Puts the numbers of a rule's detections in place of their names. Of the names and selectors that have no detection,
+/// the first in the text is refused: `UnknownName` with the name, or `NothingTaken`.
 pub fn resolve_condition(
     alloc: Global,
     condition: &Condition,
-    names: &[Text],
+    names: &Names,
     place: Place,
 ) -> Result<Formula, Fault>
     ensures formula { IfOk result (λ f. formula_of names.now (cond_view condition.now) ≡ Some (form_view f)) }
     ensures refused { IfErr result (λ e. IsUnresolved names.now (cond_view condition.now) place e) }
 {
-    if names.len() > 4294967295 {
-        return Err(Fault::Memory);
-    }
-    let index = match index_names(alloc, names) {
-        Ok(index) => index,
-        Err(_) => return Err(Fault::Memory),
-    };
-    match resolve(alloc, condition, names, &index) {
+    match names.resolve(alloc, condition) {
         Ok(formula) => Ok(formula),
         Err(Unresolved::Memory) => Err(Fault::Memory),
         Err(Unresolved::Unknown(name)) => Err(Fault::Refused(Refusal {

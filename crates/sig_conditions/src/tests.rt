@@ -2,10 +2,11 @@
 
 use crate::condition::Condition;
 use crate::formula::Formula;
+use crate::names::Names;
 use crate::reading::read_condition;
 use crate::resolving::resolve_condition;
 use crate::scan::is_identifier;
-use sig_base::{Detail, Fault, Limits, Place, Refusal, Text};
+use sig_base::{Detail, Fault, Limits, Place, Refusal, Text, Texts};
 use std::alloc::{AllocError, Global};
 use std::test::Fail;
 
@@ -50,12 +51,12 @@ fn write_all(text: &mut String, parts: &[Formula]) -> Result<(), AllocError> {
     Ok(())
 }
 
-fn names(alloc: Global) -> Result<Vec<Text>, Fault> {
-    let mut all = Vec::new(alloc);
+fn names(alloc: Global) -> Result<Names, Fault> {
+    let mut all = Texts::new(alloc);
     for name in NAMES {
         all.push(Text::copy(alloc, name)?)?;
     }
-    Ok(all)
+    Names::number(alloc, all)
 }
 
 fn formula(alloc: Global, text: &str) -> Result<Formula, Fault> {

@@ -1,6 +1,4 @@
-use Rattle.std.proofs.Common.{◌≡◌, true, ◌∙◌, sym}
-use Rattle.std.specs.List.{list_all}
-use Rattle.rule_model.specs.Heads.{is_digit}
+use Rattle.std.proofs.Common.{◌∙◌, sym}
 use Rattle.rule_model.proofs.Days.{day_is}
 use Rattle.rule_model.proofs.dates.are_day.Goals as goal
 

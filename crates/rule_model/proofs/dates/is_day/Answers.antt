@@ -1,5 +1,4 @@
-use Rattle.std.proofs.Common.{◌≡◌, ◌∙◌, sym, ap}
-use Rattle.rule_model.specs.Heads.{is_day_text}
+use Rattle.std.proofs.Common.{◌∙◌}
 use Rattle.rule_model.proofs.Days.{same_day}
 use Rattle.rule_model.proofs.dates.is_day.Goals as goal
 

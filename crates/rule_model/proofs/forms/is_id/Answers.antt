@@ -1,5 +1,5 @@
-use Rattle.std.proofs.Common.{◌≡◌, List, ℕ, Bool, refl, sym, ap, ◌∙◌}
-use Rattle.std.specs.Prelude.{◌↔◌, Option, Some, None, Result, Ok, Err, IsOk, is_ok, is_some, encode_utf8_all}
+use Rattle.std.proofs.Common.{◌≡◌, List, ℕ, refl, ap, ◌∙◌}
+use Rattle.std.specs.Prelude.{◌↔◌, Option, Some, None, Result, Ok, Err, IsOk, is_ok, is_some}
 use Rattle.uuid.specs.Text.{parsed}
 use Rattle.rule_model.proofs.forms.is_id.Goals as goal
 

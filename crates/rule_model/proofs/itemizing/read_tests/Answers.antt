@@ -1,8 +1,7 @@
-use Rattle.std.proofs.Common.{ℕ, refl, ◌≡◌, ◌∙◌, ◌∷◌, [], List, length, map, not, nat_le, subst, ap, sym}
-use Rattle.std.specs.Prelude.{Option, None}
+use Rattle.std.proofs.Common.{ℕ, refl, ◌≡◌, ◌∙◌, List, length, map, not, nat_le, subst, ap, sym}
+use Rattle.std.specs.Prelude.{None}
 use Rattle.std.specs.List.{AllZip}
 use Rattle.std.proofs.lemmas.List.{length-map}
-use Rattle.sig_base.specs.declared.refusal.Refusal.{Refusal}
 use Rattle.sig_modifiers.specs.Judged.{first, must, Judged}
 use Rattle.sig_modifiers.specs.TestsOf.{TestsOf, value_refusal, place_of}
 use Rattle.yaml_tree.specs.Tree.{Tree}

@@ -1,11 +1,11 @@
-use Rattle.std.proofs.Common.{◌≡◌, ◌∙◌, ◌∷◌, [], List, sym, subst, refl, ap}
+use Rattle.std.proofs.Common.{◌≡◌, ◌∙◌, sym, subst, refl, ap}
 use Rattle.std.specs.Prelude.{Result, None}
 use Rattle.std.specs.List.{AllZip}
 use Rattle.sig_base.specs.declared.limits.Limits.{Limits}
 use Rattle.sig_base.specs.declared.refusal.Fault.{Fault}
 use Rattle.sig_modifiers.specs.Judged.{Judged, must}
 use Rattle.yaml_tree.specs.Tree.{Member}
-use Rattle.yaml_tree.specs.View.{node_view, entry_view}
+use Rattle.yaml_tree.specs.View.{node_view}
 use Rattle.rule_model.specs.Detections.{IsAlternative, IsDetection, content_refusal, detection_refusal, is_detection_key}
 use Rattle.rule_model.specs.Nodes.{parts_in}
 use Rattle.rule_model.specs.declared.detection.Detection.{Detection}
