@@ -1,0 +1,1 @@
+SELECT * FROM "events" WHERE "Image" = 'cmd.exe' COLLATE NOCASE

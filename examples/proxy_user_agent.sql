@@ -1,0 +1,1 @@
+SELECT * FROM "events" WHERE ("c-useragent" GLOB 'Mozilla/5.0 (Windows NT 6.1[[]x]) tool/?.*' OR "c-useragent" GLOB 'curl-loader*') AND "c-uri-extension" IS NOT NULL OR "c-useragent" = '' COLLATE NOCASE

@@ -1,0 +1,1 @@
+SELECT * FROM "events" WHERE ("Image" LIKE '%\\powershell.exe' ESCAPE '\' OR "Image" LIKE '%\\pwsh.exe' ESCAPE '\' OR "OriginalFileName" = 'PowerShell.EXE' COLLATE NOCASE) AND ("CommandLine" LIKE '% -enc %' ESCAPE '\' OR "CommandLine" LIKE '% -EncodedCommand %' ESCAPE '\') AND NOT ("ParentImage" IS NOT NULL AND "ParentImage" = 'C:\Program Files\Agent\agent.exe' COLLATE NOCASE)
