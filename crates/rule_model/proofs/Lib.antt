@@ -4,7 +4,6 @@ pub mod Days
 pub mod Faultless
 pub mod Firsts
 pub mod Found
-pub mod KeyLemmas
 pub mod Lines
 pub mod OneRule
 pub mod RuleLemmas

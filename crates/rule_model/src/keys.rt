@@ -45,7 +45,7 @@ fn read_piece(alloc: Global, text: &str) -> Result<(Text, Option<&str>), Fault>
 fn is_name_char(c: char) -> bool
     ensures { result ≡ spec.is_name_char c }
 {
-    !(c < ' ') && c != '\u{7f}' && c != '|'
+    c >= ' ' && c != '\u{7f}' && c != '|'
 }
 
 fn has_name_chars(name: &str) -> bool
