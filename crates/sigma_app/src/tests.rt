@@ -1,5 +1,6 @@
 //! The program over shelves and sinks in memory.
 
+mod cuts;
 mod faults;
 mod rules;
 mod running;
