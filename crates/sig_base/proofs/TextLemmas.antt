@@ -52,3 +52,13 @@ chars_push bs c utf8 ok = chars-append bs (encode_utf8 c) utf8 ∙ ap (λ cs. ch
 pub pushed : {E : Type 0} (r : Result (Unit {0}) E) (self old new : List ℕ) (c : ℕ) → IsUtf8 old → scalar c ≡ true → chars old ≡ self → new ≡ (if is_ok r then old ++ encode_utf8 c else old) → OnOk r (chars new ≡ self ++ c ∷ [])
 pushed (Ok x) self old new c utf8 ok view is = ap chars is ∙ (chars_push old c utf8 ok ∙ ap (λ cs. cs ++ c ∷ []) view)
 pushed (Err e) self old new c utf8 ok view is = tt
+
+-- what adding the bytes of a string makes of the characters
+pub joined : {E : Type 0} (r : Result (Unit {0}) E) (self old new more : List ℕ) → IsUtf8 old → chars old ≡ self → new ≡ (if is_ok r then old ++ more else old) → OnOk r (chars new ≡ self ++ chars more)
+joined (Ok x) self old new more utf8 view is = ap chars is ∙ (chars-append old more utf8 ∙ ap (λ cs. cs ++ chars more) view)
+joined (Err e) self old new more utf8 view is = tt
+
+pub joined_ascii : {E : Type 0} (r : Result (Unit {0}) E) (self old new more : List ℕ) → IsUtf8 old → chars old ≡ self → new ≡ (if is_ok r then old ++ more else old) → is_ascii more ≡ true → OnOk r (chars new ≡ self ++ more)
+joined_ascii {E = e} (Ok x) self old new more utf8 view is ascii =
+    joined {E = e} (Ok x) self old new more utf8 view is ∙ ap (λ cs. self ++ cs) (ascii_chars more ascii)
+joined_ascii (Err e) self old new more utf8 view is ascii = tt

@@ -12,6 +12,12 @@ fn keeps_texts_bytes_and_codes(rt: HostRuntime) -> Result<(), Fail> {
     let mut text = Text::copy(rt.alloc(), "Grüße")?;
     text.push('!')?;
     assert!(rt; text.is("Grüße!"));
+    text.push_all(&['a', '€'])?;
+    text.push_str("b")?;
+    assert!(rt; text.is("Grüße!a€b"));
+    assert!(rt;
+        text.equals(&Text::from_chars(rt.alloc(), &['G', 'r', 'ü', 'ß', 'e', '!', 'a', '€', 'b'])?)
+    );
     assert!(rt; !text.equals(&Text::new(rt.alloc())));
     let mut texts = Texts::new(rt.alloc());
     texts.push(text)?;

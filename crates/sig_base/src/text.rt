@@ -44,6 +44,26 @@ impl Text {
         })
     }
 
+    /// The text of these characters, in one piece of memory where all are ASCII.
+    pub fn from_chars(alloc: Global, all: &[char]) -> Result<Text, AllocError>
+        ensures { IfOk result (λ t. t ≡ all.now) }
+    {
+        let mut text = Text::with_capacity(alloc, all.len())?;
+        for c in all {
+            text.push(*c)?;
+        }
+        Ok(text)
+    }
+
+    /// The empty text, with memory for this many bytes in UTF-8.
+    pub fn with_capacity(alloc: Global, bytes: usize) -> Result<Text, AllocError>
+        ensures { IfOk result (λ t. t ≡ []) }
+    {
+        Ok(Text {
+            inner: String::with_capacity(alloc, bytes)?,
+        })
+    }
+
     /// The text of an owned string, without a copy.
     pub fn from_string(inner: String) -> Text
         ensures { result ≡ chars (string_bytes inner) }
@@ -61,11 +81,31 @@ impl Text {
     }
 
     /// Adds a character at the end, and leaves the text as it was where memory is missing.
+    #[inline(always)]
     pub fn push(&mut self, c: char) -> Result<(), AllocError>
         ensures ok { OnOk result (self.new ≡ self.old ++ c ∷ []) }
         ensures err { OnErr result (self.new ≡ self.old) }
     {
         self.inner.push(c)
+    }
+
+    /// Adds characters at the end. Where memory is missing, the first of them may have been added.
+    pub fn push_all(&mut self, all: &[char]) -> Result<(), AllocError>
+        ensures { OnOk result (self.new ≡ self.old ++ all.now) }
+    {
+        for c in all {
+            self.push(*c)?;
+        }
+        Ok(())
+    }
+
+    /// Adds a string at the end, and leaves the text as it was where memory is missing.
+    pub fn push_str(&mut self, more: &str) -> Result<(), AllocError>
+        ensures ok { OnOk result (self.new ≡ self.old ++ chars more.now) }
+        ensures ascii { is_ascii more.now ≡ true → OnOk result (self.new ≡ self.old ++ more.now) }
+        ensures err { OnErr result (self.new ≡ self.old) }
+    {
+        self.inner.push_str(more)
     }
 
     /// Whether both have the same characters.
