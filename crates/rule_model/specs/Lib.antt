@@ -3,6 +3,7 @@ pub mod Nodes
 pub mod Found
 pub mod Plain
 pub mod Heads
+pub mod Bare
 pub mod Forms
 pub mod Sources
 pub mod Keys

@@ -3,6 +3,7 @@
 ghost use Rattle.std.specs.Prelude.{◌≡◌, not, filter, codes, Some, IfOk, IfErr};
 ghost use Rattle.sig_modifiers.specs.Judged.{Judged, first};
 ghost use Rattle.yaml_tree.specs.View.{node_view, entry_view, entries_view};
+ghost use Rattle.rule_model.specs.Bare.{head_with};
 ghost use Rattle.rule_model.specs.Heads as heads;
 ghost use Rattle.rule_model.specs.Nodes as spec;
 ghost use Rattle.rule_model.specs.Plain.{head_view};
@@ -30,7 +31,7 @@ fn is_checked(entry: &Entry) -> bool
 }
 
 /// The entries that the head doesn't check.
-fn copy_rest(alloc: Global, entries: &[Entry]) -> Result<Vec<Entry>, Fault>
+pub fn copy_rest(alloc: Global, entries: &[Entry]) -> Result<Vec<Entry>, Fault>
     ensures ok { IfOk result (λ es. entries_view es.items ≡ filter (λ e. not (heads.is_checked e)) (entries_view entries.now)) }
     ensures err { IfErr result (λ e. e ≡ Fault.Memory) }
 {
@@ -69,17 +70,25 @@ impl Head {
     pub fn read(alloc: Global, node: &Node) -> Result<Head, Fault>
         ensures { Judged (λ h. heads.IsHead (node_view node.now) (head_view h)) (first (heads.head_checks (node_view node.now))) result }
     {
+        let mut head = Head::read_bare(alloc, node)?;
+        head.rest = copy_rest(alloc, all_entries(node))?;
+        Ok(head)
+    }
+
+    /// Reads a head as `read` does, and keeps no other keys: `rest` is empty.
+    pub fn read_bare(alloc: Global, node: &Node) -> Result<Head, Fault>
+        ensures { Judged (λ h. heads.IsHead (node_view node.now) (head_with (heads.rest_of (node_view node.now)) (head_view h))) (first (heads.head_checks (node_view node.now))) result }
+    {
         let title = check_head(node)?;
         let title = copy_characters(alloc, title)?;
         let id = copy_at(alloc, node, "id")?;
         let name = copy_at(alloc, node, "name")?;
-        let rest = copy_rest(alloc, all_entries(node))?;
         Ok(Head {
             title,
             id,
             name,
             place: place_of(node),
-            rest,
+            rest: Vec::new(alloc),
         })
     }
 }

@@ -3,6 +3,8 @@
 ghost use Rattle.std.specs.Prelude.{◌≡◌, IfOk};
 ghost use Rattle.sig_modifiers.specs.Judged.{Judged};
 ghost use Rattle.yaml_tree.specs.View.{node_view};
+ghost use Rattle.rule_model.specs.Bare.{rule_with};
+ghost use Rattle.rule_model.specs.Heads.{rest_of};
 ghost use Rattle.rule_model.specs.Plain.{rule_view};
 ghost use Rattle.rule_model.specs.Rules.{IsRule, rule_refusal};
 ghost use Rattle.rule_model.specs.Whole.{IsWhole};
@@ -10,7 +12,8 @@ ghost use Rattle.rule_model.specs.Whole.{IsWhole};
 use crate::conditioning::read_conditions;
 use crate::detecting::read_detections;
 use crate::head::Head;
-use crate::nodes::place_of;
+use crate::heading::copy_rest;
+use crate::nodes::{all_entries, place_of};
 use crate::rule::Rule;
 use crate::source::LogSource;
 use crate::tables::{refused, value_at};
@@ -26,7 +29,19 @@ impl Rule {
         ensures judged { Judged (λ r. IsRule (node_view node.now) (rule_view r)) (rule_refusal limits.now (node_view node.now)) result }
         ensures whole { IfOk result (λ r. IsWhole (rule_view r)) }
     {
-        let head = Head::read(alloc, node)?;
+        let mut rule = Rule::read_bare(alloc, limits, node)?;
+        rule.head.rest = copy_rest(alloc, all_entries(node))?;
+        Ok(rule)
+    }
+
+    /// Reads a rule as `read` does, but for the entries that its head keeps as they are: `rest` is empty. It takes no copy
+    /// of the document, and the rule has the same meaning and the same query.
+    pub fn read_bare(alloc: Global, limits: &Limits, node: &Node) -> Result<Rule, Fault>
+        ensures judged { Judged (λ r. IsRule (node_view node.now) (rule_with (rest_of (node_view node.now)) (rule_view r)))
+            (rule_refusal limits.now (node_view node.now)) result }
+        ensures whole { IfOk result (λ r. IsWhole (rule_view r)) }
+    {
+        let head = Head::read_bare(alloc, node)?;
         let Some(source) = value_at(node, "logsource") else {
             return Err(refused(Code::MISSING_KEY, place_of(node)));
         };

@@ -4,7 +4,7 @@ use Rattle.yaml_tree.specs.View.{node_view}
 use Rattle.rule_model.specs.Lists.{EachOf}
 use Rattle.rule_model.specs.Whole.{IsWholeForm}
 use Rattle.rule_model.proofs.RuleLemmas.{as_many}
-use Rattle.rule_model.proofs.rule.Rule.read.Goals as goal
+use Rattle.rule_model.proofs.rule.Rule.read_bare.Goals as goal
 
 pub returns-clause-whole : goal.returns-clause-whole
 returns-clause-whole c = record {
