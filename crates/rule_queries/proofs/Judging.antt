@@ -14,7 +14,8 @@ use Rattle.sqlite_writer.specs.Refused.{IsUnwritten}
 use Rattle.rule_lowering.specs.Refused.{leaves_refusal}
 use Rattle.rule_model.specs.Rules.{rule_refusal, IsRule}
 use Rattle.rule_queries.specs.Verdicts.{ConvertAnswers, no_query}
-use Rattle.yaml_tree.specs.Tree.{Tree}
+use Rattle.yaml_tree.specs.Tree.{Tree, Member}
+use Rattle.rule_model.specs.Bare.{rule_with}
 use Rattle.sig_modifiers.specs.Judged.{first, Judged}
 use Rattle.sql_lang.specs.Expression.{depth}
 use Rattle.sqlite_writer.specs.Queries.{query_expr, query_bytes}
@@ -132,3 +133,9 @@ pub node_answers : (limits : Limits) (t : Tree) (rule : PlainRule) (r : Result (
 node_answers limits t rule (Ok bytes) is j = (rule, record { checked = record { taken = is.0; is = is.1 }; written = j.0 }, j.1)
 node_answers limits t rule (Err Memory) is j = tt
 node_answers limits t rule (Err (Refused r)) is j = no_query rule (record { taken = is.0; is = is.1 }) j
+
+-- the same of a rule that was read without the other entries of its head, which no query asks for
+pub bare_answers : (limits : Limits) (t : Tree) (rest : List Member) (rule : PlainRule) (r : Result (List ℕ) Fault) → (rule_refusal limits t ≡ None) × IsRule t (rule_with rest rule)
+    → Judged (λ bytes. bytes ≡ query_of rule) (query_refusal limits rule) r → ConvertAnswers limits t r
+unfolding query_of query_depth rule_tree
+bare_answers limits t rest rule r is j = node_answers limits t (rule_with rest rule) r is j

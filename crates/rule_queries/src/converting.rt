@@ -44,7 +44,7 @@ fn convert_rule(alloc: Global, limits: &Limits, rule: &Rule) -> Result<Bytes, Fa
 pub fn convert_node(alloc: Global, limits: &Limits, node: &Node) -> Result<Bytes, Fault>
     ensures { ConvertAnswers limits.now (node_view node.now) result }
 {
-    let rule = Rule::read(alloc, limits, node)?;
+    let rule = Rule::read_bare(alloc, limits, node)?;
     convert_rule(alloc, limits, &rule)
 }
 
@@ -52,6 +52,6 @@ pub fn convert_node(alloc: Global, limits: &Limits, node: &Node) -> Result<Bytes
 pub fn check_node(alloc: Global, limits: &Limits, node: &Node) -> Result<Place, Fault>
     ensures { CheckAnswers limits.now (node_view node.now) result }
 {
-    let rule = Rule::read(alloc, limits, node)?;
+    let rule = Rule::read_bare(alloc, limits, node)?;
     Ok(rule.head.place)
 }

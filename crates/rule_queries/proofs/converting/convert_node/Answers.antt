@@ -1,7 +1,10 @@
+use Rattle.rule_model.specs.Heads.{rest_of}
 use Rattle.rule_model.specs.Plain.{rule_view}
 use Rattle.yaml_tree.specs.View.{node_view}
-use Rattle.rule_queries.proofs.Judging.{node_answers}
+use Rattle.rule_queries.proofs.Judging.{bare_answers}
 use Rattle.rule_queries.proofs.converting.convert_node.Goals as goal
 
 pub returns : goal.returns
-returns c = node_answers c.args.limits.now (node_view c.args.node.now) (rule_view c.in_ok-rule.rule) c.convert_rule.result c.in_ok-rule.ensures.judged c.convert_rule.ensures
+returns c =
+    let t = node_view c.args.node.now in
+    bare_answers c.args.limits.now t (rest_of t) (rule_view c.in_ok-rule.rule) c.convert_rule.result c.in_ok-rule.ensures.judged c.convert_rule.ensures
