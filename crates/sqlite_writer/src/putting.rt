@@ -1,7 +1,7 @@
 //! Pieces of a query's text.
 
-ghost use Rattle.std.specs.Prelude.{◌≡◌, ◌++◌, IfErr, IfOk, OnOk};
-ghost use Rattle.std.specs.Str.{chars};
+ghost use Rattle.std.specs.Prelude.{◌≡◌, ◌++◌, true, IfErr, IfOk, OnOk};
+ghost use Rattle.sig_base.specs.Texts.{is_ascii};
 ghost use Rattle.sql_lang.specs.Layout.{doubled, in_quotes};
 ghost use Rattle.sqlite_writer.specs.Pieces.{piece_if};
 
@@ -9,18 +9,18 @@ use sig_base::{Fault, Text};
 use std::alloc::Global;
 
 /// Adds a piece of ASCII.
-pub(crate) fn put(out: &mut Text, piece: &[u8]) -> Result<(), Fault>
+pub(crate) fn put(out: &mut Text, piece: &str) -> Result<(), Fault>
+    requires { is_ascii piece.now ≡ true }
     ensures ok { OnOk result (out.new ≡ out.old ++ piece.now) }
     ensures err { IfErr result (λ e. e ≡ Fault.Memory) }
 {
-    for b in piece {
-        out.push(char::from(*b))?;
-    }
+    out.push_str(piece)?;
     Ok(())
 }
 
 /// Adds a piece of ASCII, or nothing.
-pub(crate) fn put_if(out: &mut Text, so: bool, piece: &[u8]) -> Result<(), Fault>
+pub(crate) fn put_if(out: &mut Text, so: bool, piece: &str) -> Result<(), Fault>
+    requires { is_ascii piece.now ≡ true }
     ensures ok { OnOk result (out.new ≡ out.old ++ piece_if so piece.now) }
     ensures err { IfErr result (λ e. e ≡ Fault.Memory) }
 {
@@ -67,10 +67,12 @@ pub(crate) fn put_quoted(out: &mut Text, quote: char, text: &[char]) -> Result<(
 pub(crate) fn put_text_test(
     out: &mut Text,
     field: &[char],
-    word: &[u8],
+    word: &str,
     text: &[char],
-    behind: &[u8],
+    behind: &str,
 ) -> Result<(), Fault>
+    requires word { is_ascii word.now ≡ true }
+    requires behind { is_ascii behind.now ≡ true }
     ensures ok { OnOk result (out.new ≡ out.old ++ (in_quotes 34 field.now ++ (word.now ++ (in_quotes 39 text.now ++ behind.now)))) }
     ensures err { IfErr result (λ e. e ≡ Fault.Memory) }
 {

@@ -21,7 +21,7 @@ pub(crate) fn put_has(out: &mut Text, field: &[char]) -> Result<(), Fault>
     ensures err { IfErr result (λ e. e ≡ Fault.Memory) }
 {
     put_quoted(out, '"', field)?;
-    put(out, b" IS NOT NULL")?;
+    put(out, " IS NOT NULL")?;
     Ok(())
 }
 
@@ -30,7 +30,7 @@ fn put_absent(out: &mut Text, field: &[char]) -> Result<(), Fault>
     ensures err { IfErr result (λ e. e ≡ Fault.Memory) }
 {
     put_quoted(out, '"', field)?;
-    put(out, b" IS NULL")?;
+    put(out, " IS NULL")?;
     Ok(())
 }
 
@@ -46,11 +46,11 @@ fn put_wildcard(
 {
     if cased {
         let text = glob_text(alloc, parts)?;
-        put_text_test(out, field, b" GLOB ", text.as_slice(), b"")?;
+        put_text_test(out, field, " GLOB ", text.as_slice(), "")?;
         return Ok(());
     }
     let text = like_text(alloc, parts)?;
-    put_text_test(out, field, b" LIKE ", text.as_slice(), b" ESCAPE '\\'")?;
+    put_text_test(out, field, " LIKE ", text.as_slice(), " ESCAPE '\\'")?;
     Ok(())
 }
 
@@ -66,10 +66,10 @@ fn put_plain(
 {
     let text = plain_text(alloc, parts)?;
     if cased {
-        put_text_test(out, field, b" = ", text.as_slice(), b"")?;
+        put_text_test(out, field, " = ", text.as_slice(), "")?;
         return Ok(());
     }
-    put_text_test(out, field, b" = ", text.as_slice(), b" COLLATE NOCASE")?;
+    put_text_test(out, field, " = ", text.as_slice(), " COLLATE NOCASE")?;
     Ok(())
 }
 
@@ -118,10 +118,10 @@ pub(crate) fn put_guarded(
         return put_test(alloc, out, field, test);
     }
     let enclosed = is_behind_not(at);
-    put_if(out, enclosed, b"(")?;
+    put_if(out, enclosed, "(")?;
     put_has(out, field)?;
-    put(out, b" AND ")?;
+    put(out, " AND ")?;
     put_test(alloc, out, field, test)?;
-    put_if(out, enclosed, b")")?;
+    put_if(out, enclosed, ")")?;
     Ok(())
 }

@@ -65,30 +65,30 @@ pub(crate) fn put_tree(
     match tree {
         Tree::All(parts) => {
             let enclosed = is_behind_not(at);
-            put_if(out, enclosed, b"(")?;
+            put_if(out, enclosed, "(")?;
             let mut behind = false;
             for part in parts {
-                put_if(out, behind, b" AND ")?;
+                put_if(out, behind, " AND ")?;
                 behind = true;
                 put_tree(alloc, out, fields, part, Standing::InAnd, odd)?;
             }
-            put_if(out, enclosed, b")")?;
+            put_if(out, enclosed, ")")?;
             Ok(())
         }
         Tree::Any(parts) => {
             let enclosed = !is_in_or(at);
-            put_if(out, enclosed, b"(")?;
+            put_if(out, enclosed, "(")?;
             let mut behind = false;
             for part in parts {
-                put_if(out, behind, b" OR ")?;
+                put_if(out, behind, " OR ")?;
                 behind = true;
                 put_tree(alloc, out, fields, part, Standing::InOr, odd)?;
             }
-            put_if(out, enclosed, b")")?;
+            put_if(out, enclosed, ")")?;
             Ok(())
         }
         Tree::Not(part) => {
-            put(out, b"NOT ")?;
+            put(out, "NOT ")?;
             put_tree(alloc, out, fields, part, Standing::BehindNot, !odd)?;
             Ok(())
         }

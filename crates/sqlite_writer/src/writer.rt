@@ -30,9 +30,9 @@ fn query_of(alloc: Global, schema: &Schema, tree: &Tree) -> Result<Text, Fault>
 {
     let table = characters_of(alloc, &schema.table)?;
     let mut out = Text::new(alloc);
-    put(&mut out, b"SELECT * FROM ")?;
+    put(&mut out, "SELECT * FROM ")?;
     put_quoted(&mut out, '"', table.as_slice())?;
-    put(&mut out, b" WHERE ")?;
+    put(&mut out, " WHERE ")?;
     put_tree(
         alloc,
         &mut out,
