@@ -7,6 +7,7 @@ mod Nested
 mod Apart
 mod Calm
 pub mod Signed
+mod Doubled
 mod Rows
 mod Names
 mod Laws

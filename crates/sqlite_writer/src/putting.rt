@@ -1,26 +1,27 @@
 //! Pieces of a query's text.
 
-ghost use Rattle.std.specs.Prelude.{◌≡◌, ◌++◌, IfErr, IfOk, OnOk};
+ghost use Rattle.std.specs.Prelude.{◌≡◌, ◌∷◌, ◌++◌, [], true, IfErr, OnOk};
 ghost use Rattle.std.specs.Str.{chars};
+ghost use Rattle.sig_base.specs.Texts.{is_ascii};
 ghost use Rattle.sql_lang.specs.Layout.{doubled, in_quotes};
 ghost use Rattle.sqlite_writer.specs.Pieces.{piece_if};
 
 use sig_base::{Fault, Text};
-use std::alloc::Global;
+use std::alloc::AllocError;
 
 /// Adds a piece of ASCII.
-pub(crate) fn put(out: &mut Text, piece: &[u8]) -> Result<(), Fault>
+pub(crate) fn put(out: &mut Text, piece: &str) -> Result<(), Fault>
+    requires { is_ascii piece.now ≡ true }
     ensures ok { OnOk result (out.new ≡ out.old ++ piece.now) }
     ensures err { IfErr result (λ e. e ≡ Fault.Memory) }
 {
-    for b in piece {
-        out.push(char::from(*b))?;
-    }
+    out.push_str(piece)?;
     Ok(())
 }
 
 /// Adds a piece of ASCII, or nothing.
-pub(crate) fn put_if(out: &mut Text, so: bool, piece: &[u8]) -> Result<(), Fault>
+pub(crate) fn put_if(out: &mut Text, so: bool, piece: &str) -> Result<(), Fault>
+    requires { is_ascii piece.now ≡ true }
     ensures ok { OnOk result (out.new ≡ out.old ++ piece_if so piece.now) }
     ensures err { IfErr result (λ e. e ≡ Fault.Memory) }
 {
@@ -30,53 +31,44 @@ pub(crate) fn put_if(out: &mut Text, so: bool, piece: &[u8]) -> Result<(), Fault
     Ok(())
 }
 
-/// The characters of a text.
-pub(crate) fn characters_of(alloc: Global, text: &Text) -> Result<Vec<char>, Fault>
-    ensures ok { IfOk result (λ characters. characters.items ≡ text.now) }
-    ensures err { IfErr result (λ e. e ≡ Fault.Memory) }
+/// Adds a character of a text in quotes, doubled where it's the quote.
+pub(crate) fn put_inside(out: &mut Text, quote: char, c: char) -> Result<(), AllocError>
+    ensures { OnOk result (out.new ≡ out.old ++ doubled quote (c ∷ [])) }
 {
-    let characters: Vec<char> = text.as_str().chars().collect(alloc)?;
-    Ok(characters)
+    if c == quote {
+        out.push(c)?;
+    }
+    out.push(c)?;
+    Ok(())
 }
 
-fn put_doubled(out: &mut Text, quote: char, text: &[char]) -> Result<(), Fault>
-    ensures ok { OnOk result (out.new ≡ out.old ++ doubled quote text.now) }
-    ensures err { IfErr result (λ e. e ≡ Fault.Memory) }
+#[tactic(auto, using(crate::proofs::Doubled::one_doubled))]
+fn put_doubled(out: &mut Text, quote: char, text: &str) -> Result<(), AllocError>
+    ensures { OnOk result (out.new ≡ out.old ++ doubled quote (chars text.now)) }
 {
-    for c in text {
-        out.push(*c)?;
-        if *c == quote {
-            out.push(*c)?;
-        }
+    for c in text.chars() {
+        put_inside(out, quote, c)?;
     }
     Ok(())
 }
 
-/// Adds a text in quotes, each quote inside doubled.
-pub(crate) fn put_quoted(out: &mut Text, quote: char, text: &[char]) -> Result<(), Fault>
-    ensures ok { OnOk result (out.new ≡ out.old ++ in_quotes quote text.now) }
-    ensures err { IfErr result (λ e. e ≡ Fault.Memory) }
+/// Adds what stands between the quotes of a name.
+fn put_name_inside(out: &mut Text, name: &str) -> Result<(), AllocError>
+    ensures { OnOk result (out.new ≡ out.old ++ doubled 34 (chars name.now)) }
 {
-    out.push(quote)?;
-    put_doubled(out, quote, text)?;
-    out.push(quote)?;
-    Ok(())
+    if name.as_bytes().contains(&b'"') {
+        return put_doubled(out, '"', name);
+    }
+    out.push_str(name)
 }
 
-/// Adds a test of a field's text: the field, a word, a text and what stands behind it.
-pub(crate) fn put_text_test(
-    out: &mut Text,
-    field: &[char],
-    word: &[u8],
-    text: &[char],
-    behind: &[u8],
-) -> Result<(), Fault>
-    ensures ok { OnOk result (out.new ≡ out.old ++ (in_quotes 34 field.now ++ (word.now ++ (in_quotes 39 text.now ++ behind.now)))) }
+/// Adds a name in quotes, each quote inside doubled.
+pub(crate) fn put_name(out: &mut Text, name: &str) -> Result<(), Fault>
+    ensures ok { OnOk result (out.new ≡ out.old ++ in_quotes 34 (chars name.now)) }
     ensures err { IfErr result (λ e. e ≡ Fault.Memory) }
 {
-    put_quoted(out, '"', field)?;
-    put(out, word)?;
-    put_quoted(out, '\'', text)?;
-    put(out, behind)?;
+    out.push('"')?;
+    put_name_inside(out, name)?;
+    out.push('"')?;
     Ok(())
 }

@@ -10,10 +10,10 @@ use std::test::Fail;
 
 const PLACE: Place = Place { line: 6, column: 5 };
 
-/// The table `events` with three fields of texts.
+/// The table `events` with four fields of texts.
 fn schema(alloc: Global) -> Result<Schema, Fail> {
     let mut fields = Fields::new(alloc);
-    for name in ["Image", "User", "Name"] {
+    for name in ["Image", "User", "Name", "a\"é"] {
         fields.push(Field {
             name: Text::copy(alloc, name)?,
             kind: FieldKind::Text,
@@ -91,6 +91,7 @@ fn tests_of_one_field(rt: HostRuntime) -> Result<(), Fail> {
         assert!(rt; is_written(alloc, &tree, want)?, "{want}");
     }
     assert!(rt; is_written(alloc, &absent(1), "\"User\" IS NULL")?);
+    assert!(rt; is_written(alloc, &absent(3), "\"a\"\"é\" IS NULL")?);
     Ok(())
 }
 

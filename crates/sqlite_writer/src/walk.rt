@@ -1,17 +1,17 @@
 //! The text of a tree.
 
-ghost use Rattle.std.specs.Prelude.{◌≡◌, ◌++◌, IfErr, IfOk, OnOk};
+ghost use Rattle.std.specs.Prelude.{◌≡◌, ◌++◌, IfErr, OnOk};
+ghost use Rattle.std.specs.Str.{chars};
 ghost use Rattle.backend_core.specs.View.{tree_view};
 ghost use Rattle.sqlite_writer.specs.Guarded as guards;
 ghost use Rattle.sqlite_writer.specs.Pieces.{tree_text, leaf_text};
 
 use crate::place::{Standing, is_behind_not, is_in_or};
-use crate::putting::{characters_of, put, put_if};
+use crate::putting::{put, put_if};
 use crate::tests_of::put_guarded;
 use backend_core::{Leaf, LeafTest, Tree};
 use event_schema::Field;
 use sig_base::{Fault, Text};
-use std::alloc::Global;
 
 /// Whether a test is unknown where there is no value.
 pub(crate) fn is_unsure(test: &LeafTest) -> bool
@@ -24,18 +24,16 @@ pub(crate) fn is_unsure(test: &LeafTest) -> bool
 }
 
 /// The name of a field, which is empty where there is no such field.
-fn name_of(alloc: Global, fields: &[Field], field: u32) -> Result<Vec<char>, Fault>
-    ensures ok { IfOk result (λ name. name.items ≡ guards.name_at fields.now field) }
-    ensures err { IfErr result (λ e. e ≡ Fault.Memory) }
+fn name_of(fields: &[Field], field: u32) -> &str
+    ensures { chars result.now ≡ guards.name_at fields.now field }
 {
     match fields.get(field as usize) {
-        Some(field) => characters_of(alloc, &field.name),
-        None => Ok(Vec::new(alloc)),
+        Some(field) => field.name.as_str(),
+        None => "",
     }
 }
 
 fn put_leaf(
-    alloc: Global,
     out: &mut Text,
     fields: &[Field],
     leaf: &Leaf,
@@ -45,14 +43,12 @@ fn put_leaf(
     ensures ok { OnOk result (out.new ≡ out.old ++ leaf_text guarded at (guards.name_at fields.now leaf.now.field) leaf.now.test) }
     ensures err { IfErr result (λ e. e ≡ Fault.Memory) }
 {
-    let name = name_of(alloc, fields, leaf.field)?;
-    put_guarded(alloc, out, guarded, at, name.as_slice(), &leaf.test)?;
-    Ok(())
+    let name = name_of(fields, leaf.field);
+    put_guarded(out, guarded, at, name, &leaf.test)
 }
 
 /// Adds the text of a tree that stands here, below an odd number of words NOT or an even one.
 pub(crate) fn put_tree(
-    alloc: Global,
     out: &mut Text,
     fields: &[Field],
     tree: &Tree,
@@ -65,36 +61,36 @@ pub(crate) fn put_tree(
     match tree {
         Tree::All(parts) => {
             let enclosed = is_behind_not(at);
-            put_if(out, enclosed, b"(")?;
+            put_if(out, enclosed, "(")?;
             let mut behind = false;
             for part in parts {
-                put_if(out, behind, b" AND ")?;
+                put_if(out, behind, " AND ")?;
                 behind = true;
-                put_tree(alloc, out, fields, part, Standing::InAnd, odd)?;
+                put_tree(out, fields, part, Standing::InAnd, odd)?;
             }
-            put_if(out, enclosed, b")")?;
+            put_if(out, enclosed, ")")?;
             Ok(())
         }
         Tree::Any(parts) => {
             let enclosed = !is_in_or(at);
-            put_if(out, enclosed, b"(")?;
+            put_if(out, enclosed, "(")?;
             let mut behind = false;
             for part in parts {
-                put_if(out, behind, b" OR ")?;
+                put_if(out, behind, " OR ")?;
                 behind = true;
-                put_tree(alloc, out, fields, part, Standing::InOr, odd)?;
+                put_tree(out, fields, part, Standing::InOr, odd)?;
             }
-            put_if(out, enclosed, b")")?;
+            put_if(out, enclosed, ")")?;
             Ok(())
         }
         Tree::Not(part) => {
-            put(out, b"NOT ")?;
-            put_tree(alloc, out, fields, part, Standing::BehindNot, !odd)?;
+            put(out, "NOT ")?;
+            put_tree(out, fields, part, Standing::BehindNot, !odd)?;
             Ok(())
         }
         Tree::Leaf(leaf) => {
             let guarded = odd && is_unsure(&leaf.test);
-            put_leaf(alloc, out, fields, leaf, at, guarded)?;
+            put_leaf(out, fields, leaf, at, guarded)?;
             Ok(())
         }
     }

@@ -11,7 +11,7 @@ ghost use Rattle.sqlite_writer.specs.Schemas.{IsTextSchema};
 use crate::deep::tree_depth;
 use crate::law::tree_is_query;
 use crate::place::Standing;
-use crate::putting::{characters_of, put, put_quoted};
+use crate::putting::{put, put_name};
 use crate::walk::put_tree;
 use backend_core::Tree;
 use event_schema::Schema;
@@ -28,13 +28,11 @@ fn query_of(alloc: Global, schema: &Schema, tree: &Tree) -> Result<Text, Fault>
         → IfOk result (λ text. text ≡ query_text schema.now (tree_view tree.now)) }
     ensures err { IfErr result (λ e. e ≡ Fault.Memory) }
 {
-    let table = characters_of(alloc, &schema.table)?;
     let mut out = Text::new(alloc);
-    put(&mut out, b"SELECT * FROM ")?;
-    put_quoted(&mut out, '"', table.as_slice())?;
-    put(&mut out, b" WHERE ")?;
+    put(&mut out, "SELECT * FROM ")?;
+    put_name(&mut out, schema.table.as_str())?;
+    put(&mut out, " WHERE ")?;
     put_tree(
-        alloc,
         &mut out,
         schema.fields.as_slice(),
         tree,

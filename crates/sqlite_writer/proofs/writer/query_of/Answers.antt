@@ -1,4 +1,4 @@
-use Rattle.std.proofs.Common.{List, ℕ, ◌≡◌, ◌++◌, ◌∙◌, subst, false}
+use Rattle.std.proofs.Common.{List, ℕ, ◌≡◌, ◌++◌, subst, false}
 use Rattle.backend_core.specs.View.{tree_view}
 use Rattle.sql_lang.specs.Layout.{in_quotes}
 use Rattle.sql_lang.specs.Trees.{layout}
@@ -13,13 +13,12 @@ pub returns-clause-ok : goal.returns-clause-ok
 returns-clause-ok c = λ sound.
     let schema = c.args.schema.now in
     let t = tree_view c.args.tree.now in
-    let table : c.as_slice.result.now ≡ schema.table = c.as_slice.ensures.value ∙ c.in_ok-table.ensures.ok in
-    let fields : c.as_slice-2.result.now ≡ schema.fields = c.as_slice-2.ensures in
+    let fields : c.as_slice.result.now ≡ schema.fields = c.as_slice.ensures in
     query_pieces schema.table (layout (query_tree schema t)) (tree_text schema.fields false InOr t)
-    c.new-out.result c.put.new.out c.put_quoted.new.out c.put-2.new.out c.put_tree.new.out
+    c.new-out.result c.put.new.out c.put_name.new.out c.put-2.new.out c.put_tree.new.out
     c.new-out.ensures
     c.in_ok-put.ensures.ok
-    (subst (λ (name : List ℕ). c.put_quoted.new.out ≡ c.put.new.out ++ in_quotes 34 name) table c.in_ok-put_quoted.ensures.ok)
+    (subst (λ (name : List ℕ). c.put_name.new.out ≡ c.put.new.out ++ in_quotes 34 name) c.as_str.ensures.chars c.in_ok-put_name.ensures.ok)
     c.in_ok-put-2.ensures.ok
     (subst (λ fs. c.put_tree.new.out ≡ c.put-2.new.out ++ tree_text fs false InOr t) fields c.in_ok-put_tree.ensures.ok)
     (text_is schema.fields false InOr t sound)
