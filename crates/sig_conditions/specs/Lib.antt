@@ -7,6 +7,7 @@ pub mod Outcome
 pub mod Reader
 pub mod Refusals
 pub mod Resolved
+pub mod Selectors
 pub mod Spelling
 pub mod Taken
 pub mod Words

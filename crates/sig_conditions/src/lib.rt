@@ -12,6 +12,7 @@ pub use selector::Selector;
 
 mod condition;
 mod copying;
+mod counting;
 mod formula;
 mod index;
 mod join;

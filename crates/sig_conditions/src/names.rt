@@ -1,6 +1,6 @@
 //! The names that conditions are over.
 
-ghost use Rattle.std.specs.Prelude.{◌≡◌, IfOk, IfErr};
+ghost use Rattle.std.specs.Prelude.{◌≡◌, length, IfOk, IfErr};
 ghost use Rattle.sig_conditions.specs.Conditions.{cond_view};
 ghost use Rattle.sig_conditions.specs.Formulas.{faults, form_view, formula_of};
 ghost use Rattle.sig_conditions.specs.Resolved.{Resolves};
@@ -47,6 +47,13 @@ impl Names {
             return Err(Fault::Memory);
         };
         Ok(Names { texts, numbers })
+    }
+
+    /// How many names there are.
+    pub fn len(&self) -> usize
+        ensures { result ≡ length self.now }
+    {
+        self.texts.as_slice().len()
     }
 
     /// The formula of a condition over these names.

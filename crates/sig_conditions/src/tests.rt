@@ -220,3 +220,16 @@ fn identifiers_are_no_keywords(rt: HostRuntime) -> Result<(), Fail> {
     }
     Ok(())
 }
+
+#[test]
+fn selectors_are_counted(rt: HostRuntime) -> Result<(), Fail> {
+    for (text, want) in [
+        ("selection_a", 0),
+        ("1 of q*", 1),
+        ("not (all of them or any of q) and not not 1 of them", 3),
+    ] {
+        let condition = read_condition(rt.alloc(), &Limits::standard(), text, HERE)?;
+        assert_eq!(rt; condition.count_selectors(), want, "{text}");
+    }
+    Ok(())
+}

@@ -1,5 +1,8 @@
 -- The steps of the reader.
-use Rattle.std.proofs.Common.{ℕ, ◌≡◌, ◌≢◌, ◌<◌, Bool, false, List, [], ◌∷◌, ◌++◌, length, Option, Some, None, sym, subst, append_assoc, append-nil, arith}
+use Rattle.std.proofs.Common.{ℕ, ◌≡◌, ◌≢◌, ◌<◌, ◌≤◌, Bool, false, List, [], ◌∷◌, ◌++◌, length, nat_lt, Option, Some, None, sym, ap, subst, append_assoc, append-nil, arith}
+use Rattle.std.specs.Str.{IsUtf8, chars}
+use Rattle.std.proofs.lemmas.Bool.{le-ltb}
+use Rattle.std.proofs.lemmas.Str.{encodes-chars, length-le-encodes}
 use Rattle.std.proofs.lemmas.Bool.Decides.{nat_tests}
 use Rattle.sig_strings.specs.Spells.{is_special, SpellsFront, Spells, HasHole}
 use Rattle.sig_strings.specs.Signs.{Begins}
@@ -42,3 +45,15 @@ pub no_hole_there : (text rest : List ℕ) (c : ℕ) → text ≡ c ∷ rest →
 no_hole_there text rest c front differs name after found =
     let shape : text ≡ 37 ∷ (name ++ 37 ∷ after) = found.shape in
     differs (cc)
+
+-- a text of at most so many bytes has at most so many characters
+pub no_longer : (most : ℕ) (bytes : List ℕ) → IsUtf8 bytes → length bytes ≤ most → nat_lt most (length (chars bytes)) ≡ false
+no_longer most bytes utf8 few = le-ltb _ _ (omega (arith, few, length-le-encodes (chars bytes), ap length (encodes-chars bytes utf8)))
+
+-- a plain character was read: whatever the rest spells comes behind it
+pub reads_plain : (expand : Bool) (text rest whole : List ℕ) (part : Part) (items : List Part)
+    → SpellsFront expand text part rest
+    → ((later : List Part) → Spells expand text later → Spells expand whole (items ++ later))
+    → (later : List Part) → Spells expand rest later → Spells expand whole ((items ++ part ∷ []) ++ later)
+reads_plain expand text rest whole part items front read later spelled =
+    subst (λ (parts : List Part). Spells expand whole parts) (sym (append_assoc items (part ∷ []) later)) (read (part ∷ later) (rest, front, spelled))

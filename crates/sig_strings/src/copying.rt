@@ -30,7 +30,7 @@ impl Pattern {
         ensures ok { IfOk result (λ pattern. pattern ≡ self.now) }
         ensures err { IfErr result (λ e. e ≡ Fault.Memory) }
     {
-        let mut parts = Vec::new(alloc);
+        let mut parts = Vec::with_capacity(alloc, self.parts().len())?;
         for part in self.parts() {
             parts.push(part.copy(alloc)?)?;
         }

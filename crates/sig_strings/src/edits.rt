@@ -100,7 +100,7 @@ fn plain_text(alloc: Global, parts: &[Part]) -> Result<Text, Fault>
     ensures ok { IfOk result (λ text. text ≡ edits.plain_text parts.now) }
     ensures err { IfErr result (λ e. e ≡ Fault.Memory) }
 {
-    let mut text = Text::new(alloc);
+    let mut text = Text::with_capacity(alloc, parts.len())?;
     for part in parts {
         if let Part::Char(c) = part {
             text.push(*c)?;

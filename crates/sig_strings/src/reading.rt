@@ -1,6 +1,6 @@
-ghost use Rattle.std.specs.Prelude.{◌≡◌, ◌↔◌, ◌<◌, ◌⊎◌, ◌∷◌, true, false, length, IfOk, IfErr};
+ghost use Rattle.std.specs.Prelude.{◌≡◌, ◌↔◌, ◌<◌, ◌⊎◌, ◌∷◌, Bool, true, false, length, nat_lt, IfOk, IfErr, IfSome};
 ghost use Rattle.std.specs.Str.{chars};
-ghost use Rattle.sig_strings.specs.Spells.{Spells};
+ghost use Rattle.sig_strings.specs.Spells.{Spells, SpellsFront};
 ghost use Rattle.sig_strings.specs.Signs.{Begins, part_at};
 ghost use Rattle.sig_strings.specs.Edits.{all_written};
 ghost use Rattle.sig_strings.specs.Refused as refused;
@@ -76,14 +76,35 @@ fn part_of(alloc: Global, text: &str, sign: Sign) -> Result<Option<Part>, Fault>
     }
 }
 
+/// The runs that may be added to a pattern, one before its parts and one behind them.
+const RUNS: usize = 2;
+
+/// The character at the front of a text and the rest, where it is plain and no percent sign.
+fn plain_front(text: &str) -> Option<(char, &str)>
+    ensures { IfSome result (λ front. (expand : Bool) → SpellsFront expand (chars text.now) (Part.Char front.0) (chars front.1.now)) }
+{
+    let Some((c, rest)) = first_char(text) else {
+        return None;
+    };
+    if is_special(c) || c == '%' {
+        return None;
+    }
+    Some((c, rest))
+}
+
 /// Reads a text of any length.
 fn read_parts(alloc: Global, text: &str, expand: bool) -> Result<Pattern, Fault>
     ensures spelled { IfOk result (λ pattern. Spells expand (chars text.now) pattern) }
     ensures err { IfErr result (λ e. e ≡ Fault.Memory) }
 {
-    let mut parts = Vec::new(alloc);
+    let mut parts = Vec::with_capacity(alloc, text.len() + RUNS)?;
     let mut left = text;
     loop {
+        if let Some((c, behind)) = plain_front(left) {
+            parts.push(Part::Char(c))?;
+            left = behind;
+            continue;
+        }
         let (sign, rest) = read_front(left, expand);
         let Some(part) = part_of(alloc, left, sign)? else {
             return Ok(Pattern::of_parts(parts));
@@ -98,6 +119,16 @@ fn count_of(text: &str) -> usize
     ensures { result ≡ length (chars text.now) }
 {
     text.chars().count()
+}
+
+/// Whether a text has more characters than these.
+fn is_longer(text: &str, most: usize) -> bool
+    ensures { result ≡ nat_lt most (length (chars text.now)) }
+{
+    if text.len() <= most {
+        return false;
+    }
+    count_of(text) > most
 }
 
 impl Pattern {
@@ -116,7 +147,7 @@ impl Pattern {
         ensures refused { (result ≡ Err (refused.too_long place)) ↔ (limits.now.value_chars < length (chars text.now)) }
         ensures only { IfErr result (λ e. (e ≡ Fault.Memory) ⊎ (e ≡ refused.too_long place)) }
     {
-        if count_of(text) > limits.value_chars {
+        if is_longer(text, limits.value_chars) {
             return Err(Fault::Refused(Refusal {
                 code: Code::VALUE_TOO_LONG,
                 place,

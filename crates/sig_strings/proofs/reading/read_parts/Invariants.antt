@@ -7,11 +7,11 @@ use Rattle.sig_strings.specs.declared.part.Part.{Part}
 use Rattle.sig_strings.proofs.reading.read_parts.Given as goal
 
 -- whatever the rest spells, the whole spells what was read and then that
-abbrev pub invariant-loop-parts : goal.invariant-loop-parts
-invariant-loop-parts l = record {
+abbrev pub invariant-loop-c : goal.invariant-loop-c
+invariant-loop-c l = record {
   text : shadow (Utf8 l.left);
   read : (later : List Part) → Spells l.expand (chars l.left) later → Spells l.expand (chars l.fn.text) (l.parts.items ++ later);
 }
 
-abbrev pub decreases-loop-parts : goal.decreases-loop-parts
-decreases-loop-parts l = length (chars l.left)
+abbrev pub decreases-loop-c : goal.decreases-loop-c
+decreases-loop-c l = length (chars l.left)
