@@ -1,0 +1,288 @@
+#!/usr/bin/env python3
+"""Tries converted rules in a real SQLite. Run by hand; it needs Python 3 with its `sqlite3` and a built program.
+
+    python3 bench/against_sqlite.py PROGRAM [--rules N] [--seed S]
+
+PROGRAM is the built program, as crates/sigma_app/out/sigma_app. It makes N small rules of odd values (wildcards, escapes, quotes,
+signs of LIKE and GLOB, letters beyond ASCII, numbers, null, lists, each modifier, conditions that nest), has the program
+convert them, and runs each query over random events in a table of texts. The rows that SQLite selects have to be those
+that the rule matches by a plain reading of what was made, which shares no code with the program. It prints each rule that differs, and the
+numbers of rules last; the exit status is 1 where one differs.
+"""
+import argparse
+import os
+import random
+import re
+import sqlite3
+import subprocess
+import sys
+import tempfile
+
+FIELDS = ["Image", "User", "Cmd", "a b"]
+SIGNS = list("aAbB*?\\%_[]-/'\" .éÉ1")
+CHAINS = [[], [], ["contains"], ["startswith"], ["endswith"], ["contains", "all"], ["cased"], ["cased", "contains"], ["all"],
+          ["endswith", "cased"]]
+PLACES = {"contains", "startswith", "endswith"}
+NAMES = ["sel", "sel_a", "sel_b", "filter", "_h"]
+RUN, ONE = "run", "one"
+
+# ---- what is made
+
+
+def some_text(rng):
+    return "".join(rng.choice(SIGNS) for _ in range(rng.randrange(5)))
+
+
+def some_value(rng, chain):
+    kind = rng.randrange(10)
+    if kind == 0 and not PLACES & set(chain):
+        return None
+    if kind == 1:
+        return rng.randrange(-20, 20)
+    if kind == 2:
+        return rng.choice([True, False])
+    return some_text(rng)
+
+
+def some_item(rng):
+    """A field, its modifiers and its values."""
+    field = rng.choice(FIELDS)
+    if rng.randrange(12) == 0:
+        return field, ["exists"], [rng.choice([True, False])]
+    chain = rng.choice(CHAINS)
+    return field, chain, [some_value(rng, chain) for _ in range(rng.choice([1, 1, 1, 2, 3]))]
+
+
+def some_condition(rng, names, depth):
+    kind = rng.randrange(8 if depth else 3)
+    if kind < 2:
+        return rng.choice(names)
+    if kind == 2:
+        return rng.choice(["1 of sel*", "all of sel*", "1 of them", "all of them", "any of sel*"])
+    if kind < 5:
+        return "not " + (f"({some_condition(rng, names, depth - 1)})" if rng.randrange(2) else rng.choice(names))
+    word = " and " if kind == 5 else " or "
+    return "(" + word.join(some_condition(rng, names, depth - 1) for _ in range(rng.randrange(2, 4))) + ")"
+
+
+def some_event(rng):
+    def value():
+        kind = rng.randrange(6)
+        if kind == 0:
+            return None
+        if kind == 1:
+            return str(rng.randrange(-20, 20))
+        return rng.choice(["true", "False", ""]) if kind == 2 else some_text(rng)
+
+    return {field: value() for field in FIELDS}
+
+
+# ---- how it is written
+
+
+def written(rng, value):
+    if value is None:
+        return rng.choice(["null", "~", "NULL"])
+    if isinstance(value, bool):
+        return rng.choice(["true", "True"]) if value else rng.choice(["false", "FALSE"])
+    if isinstance(value, int):
+        return str(value)
+    if rng.randrange(2):
+        return "'" + value.replace("'", "''") + "'"
+    return '"' + value.replace("\\", "\\\\").replace('"', '\\"') + '"'
+
+
+def item_lines(rng, indent, item):
+    field, chain, values = item
+    key = "|".join([field] + chain)
+    if len(values) == 1 and rng.randrange(2):
+        return [f"{indent}{key}: {written(rng, values[0])}"]
+    if rng.randrange(2):
+        return [f"{indent}{key}: [{', '.join(written(rng, value) for value in values)}]"]
+    return [f"{indent}{key}:"] + [f"{indent}  - {written(rng, value)}" for value in values]
+
+
+def some_map(rng, indent):
+    """The lines of a map, and its items, no key twice."""
+    lines, items = [], {}
+    for item in (some_item(rng) for _ in range(rng.randrange(1, 3))):
+        if (item[0], *item[1]) not in items:
+            items[(item[0], *item[1])] = item
+            lines += item_lines(rng, indent, item)
+    return lines, list(items.values())
+
+
+def some_detection(rng, name):
+    """The lines of a detection, and its alternatives."""
+    if rng.randrange(3):
+        lines, items = some_map(rng, "    ")
+        return [f"  {name}:"] + lines, [items]
+    lines, alternatives = [f"  {name}:"], []
+    for _ in range(rng.randrange(1, 3)):
+        inner, items = some_map(rng, "      ")
+        lines += ["    - " + inner[0].strip()] + inner[1:]
+        alternatives.append(items)
+    return lines, alternatives
+
+
+def some_rule(rng):
+    names = rng.sample(NAMES, rng.randrange(1, 4))
+    lines, detections = ["title: t", "logsource:", "  category: c", "detection:"], {}
+    for name in names:
+        inner, detections[name] = some_detection(rng, name)
+        lines += inner
+    condition = some_condition(rng, names, 3)
+    return "\n".join(lines + [f"  condition: {condition}"]) + "\n", detections, condition
+
+
+# ---- what it means
+
+
+def fold(character):
+    return character.lower() if "A" <= character <= "Z" else character
+
+
+def parts_of(text):
+    parts, at = [], 0
+    while at < len(text):
+        if text[at] == "\\" and text[at + 1 : at + 2] in ("*", "?", "\\") and at + 1 < len(text):
+            at += 1
+            parts.append((text[at],))
+        else:
+            parts.append({"*": RUN, "?": ONE}.get(text[at], (text[at],)))
+        at += 1
+    return parts
+
+
+def fits(parts, text, cased):
+    """Whether the parts take the text; `ends` are the places up to which those so far may take it."""
+    ends = {0}
+    for part in parts:
+        if part == RUN:
+            ends = set(range(min(ends), len(text) + 1)) if ends else ends
+        else:
+            ends = {end + 1 for end in ends if end < len(text) and (part == ONE or text[end] == part[0]
+                                                                   or not cased and fold(text[end]) == fold(part[0]))}
+    return len(text) in ends
+
+
+def satisfied(chain, value, found):
+    """Whether what an event has in a field satisfies one value."""
+    if value is None or found is None:
+        return value is None and found is None
+    if isinstance(value, int) and not isinstance(value, bool):
+        parts = [(digit,) for digit in str(value)]
+    else:
+        parts = parts_of({True: "true", False: "false"}.get(value, value) if isinstance(value, bool) else value)
+    if {"contains", "endswith"} & set(chain) and parts[:1] != [RUN]:
+        parts = [RUN] + parts
+    if {"contains", "startswith"} & set(chain) and parts[-1:] != [RUN]:
+        parts = parts + [RUN]
+    return fits(parts, found, "cased" in chain)
+
+
+def holds(item, event):
+    field, chain, values = item
+    if chain == ["exists"]:
+        return (event[field] is not None) == values[0]
+    return (all if "all" in chain else any)(satisfied(chain, value, event[field]) for value in values)
+
+
+class Nothing(Exception):
+    """A selector takes no detection."""
+
+
+def matches(condition, detections, event):
+    """Whether the condition is true, read by recursive descent."""
+    words, true_of = re.findall(r"[()]|[A-Za-z0-9_*-]+", condition), {
+        name: any(all(holds(item, event) for item in items) for items in alternatives) for name, alternatives in detections.items()}
+
+    def chain(word, part, join):
+        found = [part()]
+        while words and words[0] == word:
+            words.pop(0)
+            found.append(part())
+        return join(found)
+
+    def atom():
+        word = words.pop(0)
+        if word == "not":
+            return not atom()
+        if word == "(":
+            value = either()
+            words.pop(0)
+            return value
+        if word in ("1", "any", "all") and words[:1] == ["of"]:
+            selector = words[1]
+            del words[:2]
+            taken = [name for name in detections if not name.startswith("_")
+                     and (selector == "them" or re.fullmatch(re.escape(selector).replace(r"\*", ".*"), name))]
+            if not taken:
+                raise Nothing
+            return (all if word == "all" else any)(true_of[name] for name in taken)
+        return true_of[word]
+
+    def both():
+        return chain("and", atom, all)
+
+    def either():
+        return chain("or", both, any)
+
+    return either()
+
+
+# ---- the trial
+
+
+def converted(program, folder, rules):
+    """The query of each rule, or the line of its refusal."""
+    names = [f"{number}.yml" for number in range(len(rules))]
+    for name, (text, _, _) in zip(names, rules):
+        with open(os.path.join(folder, name), "w", encoding="utf-8", newline="") as file:
+            file.write(text)
+    ran = subprocess.run([program, "convert", "--backend", "sqlite", *names], cwd=folder, capture_output=True)
+    lines = {line.split(":")[0]: line for line in ran.stderr.decode().splitlines()}
+    queries = iter(ran.stdout.decode().split("\n"))
+    return [(None, lines[name]) if name in lines else (next(queries), None) for name in names]
+
+
+def tried(database, rng, rule, query, line):
+    """Whether the rule is refused rightly, and whether its query selects what it should; None where it was refused so."""
+    _, detections, condition = rule
+    events = [some_event(rng) for _ in range(12)]
+    try:
+        wanted = {number for number, event in enumerate(events) if matches(condition, detections, event)}
+    except Nothing:
+        return None if line and " 64 " in line else False
+    if line:
+        return False
+    database.execute("delete from events")
+    database.executemany(f"insert into events values ({', '.join('?' * (len(FIELDS) + 1))})",
+                         [(number, *event.values()) for number, event in enumerate(events)])
+    return {row[0] for row in database.execute(query)} == wanted
+
+
+def main():
+    parser = argparse.ArgumentParser(description=__doc__, formatter_class=argparse.RawDescriptionHelpFormatter)
+    parser.add_argument("program", help="the built program")
+    parser.add_argument("--rules", type=int, default=5000, help="how many rules (5,000)")
+    parser.add_argument("--seed", type=int, default=1, help="the seed of what is made (1)")
+    told = parser.parse_args()
+    rng, program = random.Random(told.seed), os.path.abspath(told.program)
+    database = sqlite3.connect(":memory:")
+    database.execute(f"create table events (number integer, {', '.join(f'{chr(34)}{field}{chr(34)} text' for field in FIELDS)})")
+    counts = {True: 0, False: 0, None: 0}
+    with tempfile.TemporaryDirectory() as folder:
+        for start in range(0, told.rules, 200):
+            rules = [some_rule(rng) for _ in range(min(200, told.rules - start))]
+            for rule, (query, line) in zip(rules, converted(program, folder, rules)):
+                verdict = tried(database, rng, rule, query, line)
+                counts[verdict] += 1
+                if verdict is False:
+                    print(f"{rule[0]}{query or line}\n")
+    print(f"{counts[True]} as they should be, {counts[None]} refused as they should be, {counts[False]} not (SQLite {sqlite3.sqlite_version})")
+    sys.exit(1 if counts[False] else 0)
+
+
+if __name__ == "__main__":
+    main()
