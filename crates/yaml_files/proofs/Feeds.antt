@@ -1,8 +1,8 @@
 -- A text is divided at its first line feed.
-use Rattle.std.proofs.Common.{◌≡◌, ℕ, suc, ◌+◌, ◌<◌, Bool, true, false, not, cond, ◌&&◌, ◌==◌, List, [], ◌∷◌, ◌++◌, length, get_or, take, drop, refl, sym, ap, ◌∙◌, arith}
-use Rattle.std.specs.List.{prefix_len}
+use Rattle.std.proofs.Common.{◌≡◌, ℕ, zero, suc, ◌+◌, ◌-◌, ◌<◌, ◌≤◌, Bool, true, false, not, cond, ◌&&◌, ◌||◌, ◌==◌, List, [], ◌∷◌, ◌++◌, length, get_or, take, drop, refl, sym, ap, ◌∙◌, arith}
+use Rattle.std.specs.List.{list_any, prefix_len}
 use Rattle.std.proofs.lemmas.Bool.{eqb-true}
-use Rattle.std.proofs.lemmas.List.{at_drop_all}
+use Rattle.std.proofs.lemmas.List.{at_drop_all, drop-drop, length-drop}
 use Rattle.std.proofs.lemmas.List.Sums.{prefix_len_stops}
 use Rattle.std.proofs.Math.Seq.{split_at}
 use Rattle.yaml_lines.specs.File.{is_empty, begins, put_first, line_texts}
@@ -11,6 +11,42 @@ use Rattle.yaml_files.proofs.Prefixes.{first_passes, front_passes, was_false, wa
 
 abbrev no_feed : ℕ → Bool
 no_feed c = not (c == 10)
+
+-- ---- blocks without a line feed
+
+abbrev has_feed : List ℕ → Bool
+has_feed cs = list_any (λ c. c == 10) cs
+
+feedless_front : (n : ℕ) (cs : List ℕ) → n ≤ length cs → has_feed (take n cs) ≡ false → prefix_len no_feed cs ≡ n + prefix_len no_feed (drop n cs)
+feedless_front zero cs h e = omega arith
+feedless_front (suc n) [] h e = absurd (omega arith)
+feedless_front (suc n) (c ∷ cs) h e = by (c == 10) (feedless_front n cs (omega arith)) e
+  where
+    by : (b : Bool) → (has_feed (take n cs) ≡ false → prefix_len no_feed cs ≡ n + prefix_len no_feed (drop n cs)) → (b || has_feed (take n cs)) ≡ false
+        → cond (not b) (1 + prefix_len no_feed cs) 0 ≡ suc n + prefix_len no_feed (drop n cs)
+    by true more e = cc
+    by false more e = omega (arith, more e)
+
+pub block_fits : (text rest : List ℕ) (n : ℕ) → rest ≡ drop n text → 8 ≤ length text - n → 8 ≤ length rest
+block_fits text rest n rest_is h = omega (arith, h, ap length rest_is, length-drop n text)
+
+-- one more block
+pub block_more : (text rest block : List ℕ) (n : ℕ) → rest ≡ drop n text → block ≡ take 8 rest → 8 ≤ length text - n → list_any (λ c. c == 10) block ≡ false
+    → prefix_len (λ c. not (c == 10)) text ≡ n + prefix_len (λ c. not (c == 10)) (drop n text)
+    → prefix_len (λ c. not (c == 10)) text ≡ n + 8 + prefix_len (λ c. not (c == 10)) (drop (n + 8) text)
+block_more text rest block n rest_is block_is h e so_far =
+    let left : 8 ≤ length (drop n text) = omega (arith, length-drop n text) in
+    let none : has_feed (take 8 (drop n text)) ≡ false = ap (λ (cs : List ℕ). has_feed (take 8 cs)) (sym rest_is) ∙ (ap has_feed (sym block_is) ∙ e) in
+    let front : prefix_len no_feed (drop n text) ≡ 8 + prefix_len no_feed (drop (n + 8) text) =
+    feedless_front 8 (drop n text) left none ∙ ap (λ (cs : List ℕ). 8 + prefix_len no_feed cs) (drop-drop 8 n text) in
+    omega (arith, so_far, front)
+
+-- what stands behind the blocks is added
+pub behind_blocks : (text rest : List ℕ) (n m : ℕ) → rest ≡ drop n text → m ≡ prefix_len (λ c. not (c == 10)) rest
+    → prefix_len (λ c. not (c == 10)) text ≡ n + prefix_len (λ c. not (c == 10)) (drop n text) → n + m ≡ prefix_len (λ c. not (c == 10)) text
+behind_blocks text rest n m rest_is m_is blocks =
+    let same : m ≡ prefix_len no_feed (drop n text) = m_is ∙ ap (prefix_len no_feed) rest_is in
+    omega (arith, same, blocks)
 
 -- ---- the end of a line
 

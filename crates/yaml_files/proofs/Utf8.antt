@@ -1,13 +1,17 @@
 -- Bytes and the characters that they are.
-use Rattle.std.proofs.Common.{◌≡◌, ℕ, ◌≤◌, inr, List, length, take, refl, sym, ap, subst, arith}
-use Rattle.std.specs.Str.{IsUtf8, IsValidUpTo, chars}
-use Rattle.std.proofs.lemmas.Str.{scalars-chars, encodes-chars, length-le-encodes}
+use Rattle.std.proofs.Common.{◌≡◌, ℕ, ◌≤◌, inr, List, length, take, refl, sym, ap, ◌∙◌, subst, arith}
+use Rattle.std.specs.Str.{IsAscii, IsUtf8, IsValidUpTo, chars}
+use Rattle.std.proofs.lemmas.Str.{scalars-chars, encodes-chars, length-le-encodes, chars-IsAscii, IsUtf8-from_ascii}
 use Rattle.yaml_tree.specs.Tree.{At}
 use Rattle.yaml_files.specs.Call.{IsText, place_behind, IsUnreadable}
 
 pub text_of_chars : (bytes cs : List ℕ) → IsUtf8 bytes → cs ≡ chars bytes → IsText bytes cs
 text_of_chars bytes cs utf8 is =
     subst (λ (xs : List ℕ). IsText bytes xs) (sym is) (record { scalars = scalars-chars bytes utf8; encoded = sym (encodes-chars bytes utf8) })
+
+-- bytes of ASCII are their characters
+pub ascii_text : (bytes cs : List ℕ) → IsAscii bytes → cs ≡ bytes → IsText bytes cs
+ascii_text bytes cs ascii is = text_of_chars bytes cs (IsUtf8-from_ascii bytes ascii) (is ∙ sym (chars-IsAscii bytes ascii))
 
 -- there are no more characters than bytes
 pub text_within : (bytes cs : List ℕ) → IsText bytes cs → length cs ≤ length bytes

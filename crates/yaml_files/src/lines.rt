@@ -1,7 +1,7 @@
 //! The lines of a file (YAML 1.2, 5.4).
 
-ghost use Rattle.std.specs.Prelude.{◌≡◌, ◌<◌, ◌≤◌, ◌∷◌, not, ◌==◌, length, IfOk};
-ghost use Rattle.std.specs.List.{prefix_len};
+ghost use Rattle.std.specs.Prelude.{◌≡◌, ◌<◌, ◌≤◌, ◌+◌, ◌∷◌, not, ◌==◌, length, drop, IfOk};
+ghost use Rattle.std.specs.List.{list_any, prefix_len};
 ghost use Rattle.yaml_lines.specs.File as file;
 ghost use Rattle.yaml_blocks.specs.Views.{lines_view};
 ghost use Rattle.yaml_files.specs.Ends as ends;
@@ -17,7 +17,8 @@ pub fn lines_of<'t>(alloc: Global, text: &'t [char]) -> Result<Vec<Line<'t>>, Al
     ensures { IfOk result (λ ls. lines_view ls.items ≡ file.lines_of text.now) }
 {
     let mut rest = skip_mark(text);
-    let mut lines = Vec::new(alloc);
+    // an average line of a rule is longer, so that most files need no more memory for their lines
+    let mut lines = Vec::with_capacity(alloc, text.len() / 24)?;
     while !rest.is_empty() {
         let (line, after) = next_line(rest);
         let number = lines.len() as u32 + 1;
@@ -56,7 +57,43 @@ fn next_line(text: &[char]) -> (&[char], &[char])
 }
 
 /// How many characters stand before the first line feed.
+#[tactic(auto, using(crate::proofs::Feeds::behind_blocks))]
 fn line_len(text: &[char]) -> usize
+    ensures len { result ≡ prefix_len (λ c. not (c == 10)) text.now }
+    ensures within { result ≤ length text.now }
+{
+    let before = blocks_len(text);
+    before + feedless_len(behind(text, before))
+}
+
+/// How many characters the first blocks have, of 8 characters each and without a line feed.
+#[tactic(auto, using(crate::proofs::Feeds::block_fits, crate::proofs::Feeds::block_more))]
+fn blocks_len(text: &[char]) -> usize
+    ensures feedless { prefix_len (λ c. not (c == 10)) text.now ≡ result + prefix_len (λ c. not (c == 10)) (drop result text.now) }
+    ensures within { result ≤ length text.now }
+{
+    let mut len = 0;
+    while text.len() - len >= 8 {
+        if has_feed(behind(text, len).split_at(8).0) {
+            return len;
+        }
+        len += 8;
+    }
+    len
+}
+
+/// Goes through all characters, since a loop without an exit tests several of them at once.
+fn has_feed(block: &[char]) -> bool
+    ensures { result ≡ list_any (λ c. c == 10) block.now }
+{
+    let mut found = false;
+    for c in block {
+        found = found | (*c == '\n');
+    }
+    found
+}
+
+fn feedless_len(text: &[char]) -> usize
     ensures len { result ≡ prefix_len (λ c. not (c == 10)) text.now }
     ensures within { result ≤ length text.now }
 {

@@ -22,6 +22,9 @@ pub fn characters(alloc: Global, file_bytes: usize, bytes: &[u8]) -> Result<Vec<
     if bytes.len() > file_bytes {
         return Err(refused(Code::TOO_LARGE, Place::START));
     }
+    if bytes.is_ascii() {
+        return Ok(widened(alloc, bytes)?);
+    }
     match std::str::from_utf8(bytes) {
         Ok(text) => Ok(decoded(alloc, text)?),
         Err(bad) => {
@@ -45,6 +48,19 @@ fn decoded(alloc: Global, text: &str) -> Result<Vec<char>, AllocError>
     ensures text { IfOk result (λ cs. call.IsText text.now cs.items) }
 {
     text.chars().collect(alloc)
+}
+
+/// The characters with the numbers that the bytes have.
+fn widened(alloc: Global, bytes: &[u8]) -> Result<Vec<char>, AllocError>
+    ensures items { IfOk result (λ cs. cs.items ≡ bytes.now) }
+    ensures len { IfOk result (λ cs. vec_len cs ≡ length bytes.now) }
+{
+    let mut all = Vec::new(alloc);
+    all.resize(bytes.len(), '\0')?;
+    for i in 0..bytes.len() {
+        all[i] = bytes[i] as char;
+    }
+    Ok(all)
 }
 
 /// The place directly behind the first characters of a file.

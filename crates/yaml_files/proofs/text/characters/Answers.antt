@@ -3,7 +3,7 @@ use Rattle.std.specs.Str.{IsValidUpTo}
 use Rattle.yaml_tree.specs.Tree.{At}
 use Rattle.yaml_files.specs.Call.{place_behind}
 use Rattle.yaml_files.proofs.Refusals.{refused_as}
-use Rattle.yaml_files.proofs.Utf8.{bad_bytes}
+use Rattle.yaml_files.proofs.Utf8.{bad_bytes, ascii_text}
 use Rattle.yaml_files.proofs.text.characters.Goals as goal
 
 pub place_behind-requires : goal.place_behind-requires
@@ -19,3 +19,7 @@ returns-in_ok-front-in-Err-clause-refused c =
     refused_as c.refused-in-Err.result _ _ c.refused-in-Err.ensures
     (λ p e. bad_bytes c.args.file_bytes n c.args.bytes.now c.as_text.result.now c.in_ok-front-in-Err.front.items p (omega arith) longest good c.in_ok-front-in-Err.ensures.text
     (e ∙ ap (λ (a : At). (1, a)) (c.place_behind.ensures ∙ ap place_behind c.as_slice.ensures.value)))
+
+pub returns-then-is_ascii-clause-text : goal.returns-then-is_ascii-clause-text
+returns-then-is_ascii-clause-text c =
+    ascii_text c.args.bytes.now c.in_ok-widened.field-0.items c.if-is_ascii.ensures.cases c.in_ok-widened.ensures.items
