@@ -1,5 +1,5 @@
 -- A plain scalar behind which nothing stands.
-use Rattle.std.proofs.Common.{◌≡◌, ℕ, suc, Bool, true, false, List, [], ◌∷◌, ◌++◌, Ok, Err, refl, sym, ap, ◌∙◌, append-nil}
+use Rattle.std.proofs.Common.{◌≡◌, ℕ, suc, Bool, true, false, List, [], ◌∷◌, Ok, refl, sym, ap, ◌∙◌, append-nil}
 use Rattle.yaml_lines.specs.File.{Line, is_empty, ends_line}
 use Rattle.yaml_lines.specs.Line.{is_void, is_bare, plain_front, plain_rest}
 use Rattle.yaml_blocks.specs.Blocks.{nothing_in, empty_line, comment_line, further, more_plain, plain_text}
