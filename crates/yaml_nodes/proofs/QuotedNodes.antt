@@ -1,6 +1,6 @@
 -- Nodes that begin with a quote.
-use Rattle.std.proofs.Common.{◌≡◌, ℕ, true, List, Ok, Err, refl, sym, ap, ◌∙◌}
-use Rattle.yaml_tree.specs.Tree.{text, Tree, scalar}
+use Rattle.std.proofs.Common.{◌≡◌, ℕ, true, List, Ok, Err, refl, ◌∙◌}
+use Rattle.yaml_tree.specs.Tree.{text, scalar}
 use Rattle.yaml_lines.specs.File.{Line, skip_blanks}
 use Rattle.yaml_lines.specs.Line.{Stop, Read, ◌>>=◌, spot}
 use Rattle.yaml_lines.specs.Flow.{is_quote, quoted}
