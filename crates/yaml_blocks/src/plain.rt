@@ -1,6 +1,7 @@
 //! Plain scalars that go on over further lines (YAML 1.2, 7.3.3 and 6.5 on folding).
 
-ghost use Rattle.std.specs.Prelude.{◌≡◌, ◌≤◌, ◌++◌, length, drop, Ok, IfOk, OnOk};
+ghost use Rattle.std.specs.Prelude.{◌≡◌, ◌≤◌, ◌++◌, ℕ, length, drop, Ok, IfOk, IfSome, OnOk};
+ghost use Rattle.yaml_lines.specs.File as file;
 ghost use Rattle.yaml_lines.specs.Scalar as scalar;
 ghost use Rattle.yaml_lines.specs.View.{line_view, Gives};
 ghost use Rattle.yaml_blocks.specs.Blocks as spec;
@@ -8,13 +9,12 @@ ghost use Rattle.yaml_blocks.specs.Views.{lines_view, done};
 ghost use Rattle.yaml_blocks.specs.Furthers.{further_view, text_given, behind_text};
 
 use crate::lines::{body, indent, is_bare, is_barred, is_void, lines_behind, nothing_in, stray};
-use crate::texts::{push_all, push_feeds};
+use crate::texts::push_feeds;
 use sig_base::Text;
 use std::alloc::{AllocError, Global};
 use yaml_lines::flow::no_reading;
-use yaml_lines::plain::{plain_front, plain_rest};
+use yaml_lines::plain::plain_parts;
 use yaml_lines::scan::ends_line;
-use yaml_lines::word::text_of;
 use yaml_lines::{Halt, Line};
 
 /// A line behind a plain scalar: empty, a comment, text, or text that a comment ends.
@@ -39,11 +39,10 @@ fn further_line<'t>(least: usize, line: &Line<'t>) -> Result<Further<'t>, Halt>
         return Err(stray(line));
     }
     let rest = body(line);
-    let after = plain_rest(false, rest);
+    let (front, after) = plain_parts(false, rest);
     if indent(line) < least || !ends_line(after) {
         return Err(no_reading(line));
     }
-    let front = plain_front(false, rest);
     if after.is_empty() {
         Ok(Further::Text(front))
     } else {
@@ -93,7 +92,23 @@ fn push_joined(content: &mut Text, empty: usize, text: &[char]) -> Result<(), Al
     } else {
         push_feeds(content, empty)?;
     }
-    push_all(content, text)
+    content.push_all(text)
+}
+
+/// The characters of the plain scalar that begins here, where it's all that stands on its line and
+/// in the lines behind it.
+#[tactic(auto, using(crate::proofs::Whole::whole_text))]
+pub fn whole_plain<'t>(rest: &'t [char], lines: &[Line<'_>]) -> Option<&'t [char]>
+    ensures { IfSome result (λ front. (m : ℕ) (l : file.Line) → spec.plain_text m l rest.now (lines_view lines.now) ≡ Ok front.now) }
+{
+    let (front, after) = plain_parts(false, rest);
+    if !ends_line(after) {
+        return None;
+    }
+    match nothing_in(lines) {
+        Ok(()) => Some(front),
+        Err(_) => None,
+    }
 }
 
 /// The text of the plain scalar that begins here, which may go on over the lines of its block.
@@ -107,8 +122,8 @@ pub fn plain_text(
 ) -> Result<Text, Halt>
     ensures { Gives text_given result (spec.plain_text least (line_view line.now) rest.now (lines_view lines.now)) }
 {
-    let first = text_of(alloc, plain_front(false, rest))?;
-    let after = plain_rest(false, rest);
+    let (front, after) = plain_parts(false, rest);
+    let first = Text::from_chars(alloc, front)?;
     if after.is_empty() {
         return more_plain(alloc, least, lines, first);
     }

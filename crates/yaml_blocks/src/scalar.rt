@@ -7,7 +7,7 @@ ghost use Rattle.yaml_blocks.specs.Blocks as spec;
 ghost use Rattle.yaml_blocks.specs.Views.{lines_view, done};
 ghost use Rattle.yaml_blocks.specs.Endings.{ending_view, texts_view, add_text, kept_text};
 
-use crate::texts::{push_all, push_feeds};
+use crate::texts::push_feeds;
 use sig_base::{Code, Text};
 use std::alloc::{AllocError, Global};
 use yaml_lines::flow::{no_reading, refused};
@@ -89,7 +89,7 @@ fn push_text(content: &mut Text, is_first: bool, text: &[char]) -> Result<(), Al
     if !is_first {
         content.push('\n')?;
     }
-    push_all(content, text)
+    content.push_all(text)
 }
 
 /// What joins two lines with so many empty ones between them.
@@ -133,7 +133,7 @@ fn fold_line(
     }
     let blank = begins_blank(text);
     push_joint(content, before || blank, empty)?;
-    push_all(content, text)?;
+    content.push_all(text)?;
     Ok((blank, 0))
 }
 
@@ -167,7 +167,7 @@ fn push_folded(content: &mut Text, texts: &[&[char]]) -> Result<(), AllocError>
         return Ok(());
     }
     let text = texts[at];
-    push_all(content, text)?;
+    content.push_all(text)?;
     push_folded_from(content, begins_blank(text), texts.split_at(at + 1).1)
 }
 

@@ -16,13 +16,3 @@ pub fn push_feeds(content: &mut Text, count: usize) -> Result<(), AllocError>
     }
     Ok(())
 }
-
-/// Adds characters.
-pub fn push_all(content: &mut Text, all: &[char]) -> Result<(), AllocError>
-    ensures { OnOk result (content.new ≡ content.old ++ all.now) }
-{
-    for c in all {
-        content.push(*c)?;
-    }
-    Ok(())
-}

@@ -1,9 +1,9 @@
 -- Loops over the characters of a line, a turn at a time.
-use Rattle.std.proofs.Common.{◌≡◌, ℕ, suc, ◌+◌, ◌<◌, ◌≤◌, Bool, true, false, cond, ◌&&◌, List, [], ◌∷◌, ◌++◌, length, get_or, take, drop, refl, sym, ap, ◌∙◌, arith}
+use Rattle.std.proofs.Common.{◌≡◌, ℕ, suc, ◌+◌, ◌<◌, ◌≤◌, Bool, true, false, cond, ◌&&◌, ◌||◌, ◌==◌, List, [], ◌∷◌, ◌++◌, length, get_or, take, drop, refl, sym, ap, ◌∙◌, arith}
 use Rattle.std.proofs.lemmas.List.{drop_more, at_drop_all}
 use Rattle.std.proofs.Math.Seq.{take-suc}
-use Rattle.yaml_lines.specs.File.{is_blank, is_empty}
-use Rattle.yaml_lines.specs.Line.{stops, plain_len, trimmed}
+use Rattle.yaml_lines.specs.File.{is_blank, is_empty, begins, blank_or_end}
+use Rattle.yaml_lines.specs.Line.{is_flow, stops, plain_len, trimmed}
 
 plain_len-cons : (in_flow : Bool) (x : ℕ) (xs : List ℕ) → stops in_flow (x ∷ xs) ≡ false → plain_len in_flow (x ∷ xs) ≡ suc (plain_len in_flow xs)
 unfolding plain_len
@@ -14,6 +14,19 @@ pub plain_len_more : (in_flow : Bool) (xs : List ℕ) (i : ℕ) → i < length x
 plain_len_more in_flow xs i h e =
     let d = drop_more xs i 0 h in
     ap (plain_len in_flow) d ∙ plain_len-cons in_flow _ _ (sym (ap (stops in_flow) d) ∙ e)
+
+pass : (a b d x y : Bool) → ((a || b) || d) ≡ false → (((a && x) || (b && y)) || d) ≡ false
+pass true b d x y e = cc
+pass false true d x y e = cc
+pass false false d x y e = e
+
+-- the same where no scalar may end at the character
+pub plain_len_pass : (in_flow : Bool) (xs : List ℕ) (i c : ℕ) → i < length xs → c ≡ get_or xs i c → ((c == 58 || is_blank c) || (in_flow && is_flow c)) ≡ false
+    → plain_len in_flow (drop i xs) ≡ suc (plain_len in_flow (drop (i + 1) xs))
+plain_len_pass in_flow xs i c h c_is e =
+    let d : drop i xs ≡ c ∷ drop (i + 1) xs = drop_more xs i c h ∙ ap (λ (x : ℕ). x ∷ drop (i + 1) xs) (sym c_is) in
+    let more = drop (i + 1) xs in
+    ap (plain_len in_flow) d ∙ plain_len-cons in_flow c more (pass (c == 58) (is_blank c) (in_flow && is_flow c) (blank_or_end more) (begins 35 more) e)
 
 pub plain_len_stop : (in_flow : Bool) (xs : List ℕ) → stops in_flow xs ≡ true → plain_len in_flow xs ≡ 0
 unfolding plain_len

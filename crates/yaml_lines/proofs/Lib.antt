@@ -3,5 +3,7 @@ pub mod Failing
 pub mod Flows
 pub mod Fronts
 pub mod Nexts
+pub mod Opens
 pub mod Quoting
 pub mod SeenLemmas
+pub mod Words

@@ -14,11 +14,11 @@ ghost use Rattle.yaml_lines.specs.View.{line_view, quoted_view, text_front, rest
 
 use crate::halt::{Halt, Opening};
 use crate::line::Line;
-use crate::plain::{plain_front, plain_rest};
+use crate::plain::plain_parts;
 use crate::quote::{Quoted, double, single};
 use crate::scan::{begins, behind, ends_line, is_left_out, skip_blanks, spot, starts_plain};
 use crate::seen::Seen;
-use crate::word::{resolved, text_of};
+use crate::word::resolved;
 use sig_base::{Code, Place, Text};
 use std::alloc::Global;
 use yaml_tree::{Entry, Node};
@@ -161,12 +161,11 @@ fn flow_key<'t>(
     if !starts_plain(rest) {
         return Err(no_reading(line));
     }
-    let front = plain_front(true, rest);
-    let after = plain_rest(true, rest);
+    let (front, after) = plain_parts(true, rest);
     if is_merge(front) && begins(':', after) {
         return Err(refused(Code::UNSUPPORTED, line, rest));
     }
-    behind_colon(alloc, line, text_of(alloc, front)?, after)
+    behind_colon(alloc, line, Text::from_chars(alloc, front)?, after)
 }
 
 /// Whether the key is the one that merges maps, which is left out.
@@ -242,8 +241,9 @@ fn flow_scalar<'t>(
     if !starts_plain(rest) {
         return Err(no_reading(line));
     }
-    let kind = resolved(alloc, plain_front(true, rest))?;
-    Ok((Node { place, kind }, plain_rest(true, rest)))
+    let (front, after) = plain_parts(true, rest);
+    let kind = resolved(alloc, front)?;
+    Ok((Node { place, kind }, after))
 }
 
 /// A key that isn't one of those seen, to which it's added.

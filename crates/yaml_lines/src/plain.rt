@@ -4,15 +4,18 @@ ghost use Rattle.std.specs.Prelude.{◌≡◌, ◌≤◌, ◌<◌, length, take,
 ghost use Rattle.yaml_lines.specs.Line as spec;
 ghost use Rattle.yaml_lines.specs.Quotes.{StartsSolid};
 
-use crate::scan::{behind, is_blank, stops};
+use crate::scan::{behind, is_blank, may_stop, stops};
 
 /// How many characters a plain scalar has here, with the blanks behind it.
-#[tactic(auto, using(crate::proofs::Fronts::plain_len_more, crate::proofs::Fronts::plain_len_stop, crate::proofs::Fronts::plain_len_end))]
+#[tactic(auto, using(crate::proofs::Fronts::plain_len_pass, crate::proofs::Fronts::plain_len_more, crate::proofs::Fronts::plain_len_stop, crate::proofs::Fronts::plain_len_end))]
 fn plain_len(in_flow: bool, rest: &[char]) -> usize
     ensures len { result ≡ spec.plain_len in_flow rest.now }
     ensures within { result ≤ length rest.now }
 {
     for at in 0..rest.len() {
+        if !may_stop(in_flow, rest[at]) {
+            continue;
+        }
         if stops(in_flow, behind(rest, at)) {
             return at;
         }
@@ -33,23 +36,14 @@ pub fn trimmed(all: &[char]) -> &[char]
     all.split_at(end).0
 }
 
-/// The characters of the plain scalar that begins here.
-#[tactic(auto, unfolding(crate::specs::Line::plain_front))]
-pub fn plain_front(in_flow: bool, rest: &[char]) -> &[char]
-    ensures front { result.now ≡ spec.plain_front in_flow rest.now }
-    ensures within { length result.now ≤ length rest.now }
+/// The characters of the plain scalar that begins here, and what is left behind it.
+#[tactic(auto, unfolding(crate::specs::Line::plain_front, crate::specs::Line::plain_rest), using(crate::proofs::Nexts::plain_rest_shorter))]
+pub fn plain_parts(in_flow: bool, rest: &[char]) -> (&[char], &[char])
+    ensures front { result.0.now ≡ spec.plain_front in_flow rest.now }
+    ensures rest { result.1.now ≡ spec.plain_rest in_flow rest.now }
+    ensures within { length result.1.now ≤ length rest.now }
+    ensures shorter { StartsSolid rest.now → length result.1.now < length rest.now }
 {
-    let len = plain_len(in_flow, rest);
-    trimmed(rest.split_at(len).0)
-}
-
-/// What is left behind the plain scalar that begins here.
-#[tactic(auto, unfolding(crate::specs::Line::plain_rest), using(crate::proofs::Nexts::plain_rest_shorter))]
-pub fn plain_rest(in_flow: bool, rest: &[char]) -> &[char]
-    ensures rest { result.now ≡ spec.plain_rest in_flow rest.now }
-    ensures within { length result.now ≤ length rest.now }
-    ensures shorter { StartsSolid rest.now → length result.now < length rest.now }
-{
-    let len = plain_len(in_flow, rest);
-    behind(rest, len)
+    let (front, after) = rest.split_at(plain_len(in_flow, rest));
+    (trimmed(front), after)
 }

@@ -1,6 +1,7 @@
 //! Scalars in quotes, on one line (YAML 1.2, 7.3.1 and 7.3.2).
 
-ghost use Rattle.std.specs.Prelude.{◌≡◌, ◌≤◌, ◌<◌, ◌+◌, ◌*◌, ◌^◌, length, option_map, IfOk, IfSome};
+ghost use Rattle.std.specs.Prelude.{◌≡◌, ◌≤◌, ◌<◌, ◌+◌, ◌*◌, ◌^◌, ◌==◌, not, length, option_map, IfOk, IfSome};
+ghost use Rattle.std.specs.List.{prefix_len};
 ghost use Rattle.yaml_lines.specs.Scalar as spec;
 ghost use Rattle.yaml_lines.specs.View.{quoted_view};
 ghost use Rattle.yaml_lines.specs.Quotes.{IsShorter, step_view};
@@ -24,7 +25,7 @@ pub fn single(alloc: Global, rest: &[char]) -> Result<Quoted<'_>, AllocError>
     ensures text { IfOk result (λ q. quoted_view q ≡ spec.single rest.now) }
     ensures within { IfOk result (λ q. IsShorter rest.now q) }
 {
-    let mut content = Text::new(alloc);
+    let mut content = Text::with_capacity(alloc, count_before('\'', rest))?;
     let mut at = 0;
     while at < rest.len() {
         let c = rest[at];
@@ -47,7 +48,7 @@ pub fn double(alloc: Global, rest: &[char]) -> Result<Quoted<'_>, AllocError>
     ensures text { IfOk result (λ q. quoted_view q ≡ spec.double 0 rest.now) }
     ensures within { IfOk result (λ q. IsShorter rest.now q) }
 {
-    let mut content = Text::new(alloc);
+    let mut content = Text::with_capacity(alloc, count_before('"', rest))?;
     let mut at = 0;
     while at < rest.len() {
         let c = rest[at];
@@ -66,6 +67,13 @@ pub fn double(alloc: Global, rest: &[char]) -> Result<Quoted<'_>, AllocError>
         }
     }
     Ok(Quoted::Open)
+}
+
+/// How many characters stand before the next quote, or before the end.
+fn count_before(quote: char, rest: &[char]) -> usize
+    ensures { result ≡ prefix_len (λ c. not (c == quote)) rest.now }
+{
+    rest.iter().take_while(|c| **c != quote).count()
 }
 
 /// The character that an escape means, and how many characters it takes behind its backslash.

@@ -1,6 +1,6 @@
 //! Steps over what is left of a line. None of them takes memory.
 
-ghost use Rattle.std.specs.Prelude.{◌≡◌, ◌≤◌, length, drop};
+ghost use Rattle.std.specs.Prelude.{◌≡◌, ◌≤◌, ◌==◌, ◌||◌, ◌&&◌, length, drop};
 ghost use Rattle.std.specs.List.{prefix_len};
 ghost use Rattle.yaml_tree.specs.View.{place_view};
 ghost use Rattle.yaml_lines.specs.File as file;
@@ -103,6 +103,13 @@ pub fn stops(in_flow: bool, rest: &[char]) -> bool
                 || in_flow && is_flow(*first)
         }
     }
+}
+
+/// Whether a plain scalar may end at the character, which what follows it decides.
+pub fn may_stop(in_flow: bool, c: char) -> bool
+    ensures { result ≡ ((c == 58 || file.is_blank c) || (in_flow && spec.is_flow c)) }
+{
+    c == ':' || is_blank(c) || in_flow && is_flow(c)
 }
 
 /// Whether the character opens, parts or closes flow collections.

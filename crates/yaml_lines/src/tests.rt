@@ -1,7 +1,7 @@
 use crate::Line;
 use crate::flow::flow_node;
 use crate::key::key_at;
-use crate::plain::{plain_front, plain_rest};
+use crate::plain::plain_parts;
 use crate::scan::blank_or_end;
 use crate::word::resolved;
 use std::alloc::Global;
@@ -47,8 +47,9 @@ fn shown_key(alloc: Global, text: &str) -> Result<String, Fail> {
 
 fn meant(alloc: Global, text: &str) -> Result<String, Fail> {
     let all: Vec<char> = text.chars().collect(alloc)?;
-    let kind = resolved(alloc, plain_front(false, &all))?;
-    let left = plain_rest(false, &all).len();
+    let (front, after) = plain_parts(false, &all);
+    let kind = resolved(alloc, front)?;
+    let left = after.len();
     Ok(format!(in alloc; "{kind:?} {left}")?)
 }
 

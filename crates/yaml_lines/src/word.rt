@@ -10,21 +10,34 @@ use sig_base::Text;
 use std::alloc::{AllocError, Global};
 use yaml_tree::Kind;
 
+/// How many characters the longest word has that means something else than itself.
+const LONGEST_WORD: usize = 5;
+
 /// The null, truth value, whole number or text that these characters are.
-#[tactic(auto, unfolding(crate::specs::Scalar::resolved))]
+#[tactic(auto, unfolding(crate::specs::Scalar::resolved), using(crate::proofs::Words::long_text))]
 pub fn resolved(alloc: Global, chars: &[char]) -> Result<Kind, AllocError>
     ensures { IfOk result (λ k. (a : At) → kind_view k a ≡ scalar a (spec.resolved chars.now)) }
 {
+    if chars.len() > LONGEST_WORD {
+        return number_or_text(alloc, chars);
+    }
     if is_null(chars) {
         Ok(Kind::Null)
     } else if is_true(chars) {
         Ok(Kind::Truth(true))
     } else if is_false(chars) {
         Ok(Kind::Truth(false))
-    } else if let Some(number) = whole(chars) {
-        Ok(Kind::Whole(number))
     } else {
-        Ok(Kind::Text(text_of(alloc, chars)?))
+        number_or_text(alloc, chars)
+    }
+}
+
+fn number_or_text(alloc: Global, chars: &[char]) -> Result<Kind, AllocError>
+    ensures { IfOk result (λ k. (a : At) → kind_view k a ≡ scalar a (spec.number_or_text chars.now (spec.whole_of chars.now))) }
+{
+    match whole(chars) {
+        Some(number) => Ok(Kind::Whole(number)),
+        None => Ok(Kind::Text(Text::from_chars(alloc, chars)?)),
     }
 }
 
@@ -58,17 +71,6 @@ fn is_word(word: &[char], chars: &[char]) -> bool
     ensures { result ≡ bytes_eq word.now chars.now }
 {
     word == chars
-}
-
-/// A text of these characters.
-pub fn text_of(alloc: Global, chars: &[char]) -> Result<Text, AllocError>
-    ensures { IfOk result (λ t. t ≡ chars.now) }
-{
-    let mut content = Text::new(alloc);
-    for c in chars {
-        content.push(*c)?;
-    }
-    Ok(content)
 }
 
 /// The whole number of 64 bits that these characters are.

@@ -265,7 +265,7 @@ knows_grown s us vs m known grown = subst (λ (ks : List (List ℕ)). Knows s ks
 
 -- ---- what begins at a node
 
-node_is : (d : ℕ) (may : Bool) (m : ℕ) (l : Line) (cs : List ℕ) (ls : List Line) → node_in d may m l cs ls ≡ node_with (list_in d) (mapping_in d) d may m l cs ls
+pub node_is : (d : ℕ) (may : Bool) (m : ℕ) (l : Line) (cs : List ℕ) (ls : List Line) → node_in d may m l cs ls ≡ node_with (list_in d) (mapping_in d) d may m l cs ls
 unfolding node_in
 node_is zero may m l cs ls = refl
 node_is (suc d) may m l cs ls = refl

@@ -9,9 +9,9 @@ ghost use Rattle.yaml_blocks.specs.Reading as reading;
 ghost use Rattle.yaml_blocks.specs.Views.{lines_view};
 ghost use Rattle.yaml_nodes.specs.Items.{IsContent};
 
-use yaml_blocks::lines::{body, indent, is_void};
+use yaml_blocks::lines::{indent, is_void};
 use yaml_lines::Line;
-use yaml_lines::scan::{carries_nothing, count_blanks, is_dash, skip_blanks};
+use yaml_lines::scan::{behind, carries_nothing, count_blanks, is_dash, skip_blanks};
 
 /// How many lines that carry nothing come first.
 #[tactic(auto, using(yaml_blocks::proofs::Fronts::front_more, yaml_blocks::proofs::Fronts::front_stop, yaml_blocks::proofs::Fronts::front_end))]
@@ -28,10 +28,15 @@ pub fn count_void(lines: &[Line<'_>]) -> usize
 }
 
 /// Whether a line stands inside the item above it, of a block at this indentation.
+#[tactic(auto, unfolding(yaml_lines::specs::Line::indent, yaml_lines::specs::Line::body), using(crate::proofs::Inner::deeper))]
 fn is_inside(in_map: bool, level: usize, line: &Line<'_>) -> bool
     ensures { result ≡ spec.inside in_map level (line_view line.now) }
 {
-    is_void(line) || level < indent(line) || in_map && indent(line) == level && is_dash(body(line))
+    let indent = indent(line);
+    if level < indent {
+        return true;
+    }
+    is_void(line) || in_map && indent == level && is_dash(behind(line.text, indent))
 }
 
 /// How many of the lines behind an item stand inside it.

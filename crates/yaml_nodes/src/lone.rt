@@ -17,7 +17,7 @@ use sig_base::{Code, Text};
 use std::alloc::{AllocError, Global};
 use yaml_blocks::content::block_scalar;
 use yaml_blocks::lines::nothing_in;
-use yaml_blocks::plain::plain_text;
+use yaml_blocks::plain::{plain_text, whole_plain};
 use yaml_lines::flow::{flow_node, is_bracket, is_quote, no_reading, quoted, refused};
 use yaml_lines::scan::{begins, ends_line, is_left_out, spot, starts_plain};
 use yaml_lines::word::resolved;
@@ -60,7 +60,7 @@ pub fn lone(
 }
 
 /// A node that ends its line and its block.
-fn alone(line: &Line<'_>, after: &[char], lines: &[Line<'_>], node: Node) -> Result<Node, Halt>
+pub fn alone(line: &Line<'_>, after: &[char], lines: &[Line<'_>], node: Node) -> Result<Node, Halt>
     ensures { Gives node_view result (blocks.alone (line_view line.now) after.now (lines_view lines.now) (node_view node)) }
 {
     if !ends_line(after) {
@@ -81,12 +81,14 @@ fn plain(
     requires { length rest.now ≤ length line.now.text.now }
     ensures { Gives node_view result (spec.plain_in least (line_view line.now) rest.now (lines_view lines.now)) }
 {
+    let place = spot(line, rest);
+    if let Some(front) = whole_plain(rest, lines) {
+        let kind = resolved(alloc, front)?;
+        return Ok(Node { place, kind });
+    }
     let content = plain_text(alloc, least, line, rest, lines)?;
     let kind = meant(alloc, &content)?;
-    Ok(Node {
-        place: spot(line, rest),
-        kind,
-    })
+    Ok(Node { place, kind })
 }
 
 /// What the text of a plain scalar is.

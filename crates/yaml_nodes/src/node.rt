@@ -3,6 +3,7 @@
 ghost use Rattle.std.specs.Prelude.{◌≡◌, ℕ, List, ◌<◌, ◌≤◌, ◌++◌, ◌∷◌, [], true, false, length, IfOk};
 ghost use Rattle.yaml_tree.specs.View.{place_view, node_view, entry_view};
 ghost use Rattle.yaml_lines.specs.File as file;
+ghost use Rattle.yaml_lines.specs.Flow as flow;
 ghost use Rattle.yaml_lines.specs.Line.{is_dash};
 ghost use Rattle.yaml_lines.specs.SeenKeys.{Knows};
 ghost use Rattle.yaml_lines.specs.View.{line_view, text_front, Gives};
@@ -11,13 +12,13 @@ ghost use Rattle.yaml_blocks.specs.Views.{lines_view};
 ghost use Rattle.yaml_nodes.specs.Items as spec;
 
 use crate::inside::{after_spaces, content_of, count_void, lines_inside, offset};
-use crate::lone::lone;
+use crate::lone::{alone, lone};
 use sig_base::{Code, Place, Text};
 use std::alloc::Global;
 use yaml_blocks::lines::{body, is_barred, lines_behind, stray};
-use yaml_lines::flow::{no_reading, refused};
-use yaml_lines::key::key_at;
-use yaml_lines::scan::{behind, is_dash, spot};
+use yaml_lines::flow::{is_quote, no_reading, quoted, refused};
+use yaml_lines::key::{key_at, past_colon, plain_key_at};
+use yaml_lines::scan::{behind, is_dash, skip_blanks, spot};
 use yaml_lines::{Halt, Line, Seen};
 use yaml_tree::{Entry, Node};
 
@@ -76,10 +77,33 @@ fn node(
     if is_dash(rest) {
         return sequence(alloc, depth, line, rest, lines);
     }
-    let Some(_) = key_at(alloc, line, rest)? else {
+    if is_quote(rest) {
+        return quoted_node(alloc, depth, line, rest, lines);
+    }
+    let Some(_) = plain_key_at(line, rest)? else {
         return lone(alloc, depth, least, line, rest, lines);
     };
     map(alloc, depth, line, rest, lines)
+}
+
+/// The node that begins here with a quote: a map where its first key stands in quotes, or a text.
+#[cycle(node)]
+fn quoted_node(
+    alloc: Global,
+    depth: usize,
+    line: &Line<'_>,
+    rest: &[char],
+    lines: &[Line<'_>],
+) -> Result<Node, Halt>
+    requires within { length rest.now ≤ length line.now.text.now }
+    requires quote { flow.is_quote rest.now ≡ true }
+    ensures { (m : ℕ) → Gives node_view result (reading.node_in depth true m (line_view line.now) rest.now (lines_view lines.now)) }
+{
+    let (content, after) = quoted(alloc, line, rest)?;
+    match past_colon(skip_blanks(after)) {
+        Some(_) => map(alloc, depth, line, rest, lines),
+        None => alone(line, after, lines, Node::text(spot(line, rest), content)),
+    }
 }
 
 /// The sequence that begins here, with collections at most so deep, itself counted.

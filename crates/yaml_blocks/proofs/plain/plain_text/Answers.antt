@@ -16,7 +16,7 @@ returns-then-is_empty c =
     let l = line_view c.args.line.now in
     let cs = c.args.rest.now in
     let ls = lines_view c.args.lines.now in
-    let front : c.in_ok-first.first ≡ plain_front false cs = c.in_ok-first.ensures ∙ c.plain_front.ensures.front in
+    let front : c.in_ok-first.first ≡ plain_front false cs = c.in_ok-first.ensures ∙ c.plain_parts.ensures.front in
     let over : is_empty (plain_rest false cs) ≡ true = grind (arith, common_steps) in
     subst (λ r. Gives text_given c.more_plain.result r) (sym (text_goes_on c.args.least l cs c.in_ok-first.first ls over front)) c.more_plain.ensures
 

@@ -1,19 +1,22 @@
-use Rattle.std.proofs.Common.{◌≡◌, ℕ, ◌+◌, List, [], ◌∷◌, ◌++◌, drop, true, false, sym, ap, ◌∙◌, subst, rules}
-use Rattle.yaml_tree.specs.Tree.{At, Tree}
+use Rattle.std.proofs.Common.{◌≡◌, ℕ, ◌+◌, Bool, List, [], ◌∷◌, ◌++◌, drop, true, false, sym, ap, ◌∙◌, subst, rules}
+use Rattle.yaml_tree.specs.Tree.{At, Tree, scalar, text}
 use Rattle.yaml_tree.specs.View.{place_view, node_view, entry_view, nodes_view, entries_view}
 use Rattle.yaml_lines.specs.File.{blank_or_end, carries_nothing}
 use Rattle.yaml_lines.specs.Line.{Read, spot}
-use Rattle.yaml_lines.specs.Key.{key_at}
-use Rattle.yaml_lines.specs.Keys.{key_view}
+use Rattle.yaml_lines.specs.Flow.{quoted}
+use Rattle.yaml_lines.specs.Key.{colon_then, key_at}
+use Rattle.yaml_lines.specs.Keys.{parts_view}
 use Rattle.yaml_lines.specs.View.{line_view, Gives}
 use Rattle.yaml_lines.proofs.Failing.{fails_more, gives_err}
 use Rattle.yaml_lines.proofs.Flows.{keys_of, map_push}
 use Rattle.yaml_lines.proofs.SeenLemmas.{knows_none}
+use Rattle.yaml_blocks.specs.Blocks.{alone}
 use Rattle.yaml_blocks.specs.Reading.{Item, items_of, offset, after_spaces, node_in, block_with}
 use Rattle.yaml_blocks.specs.Views.{lines_view}
 use Rattle.yaml_nodes.specs.Items.{item, dashed_in, keyed_in, elements_at, entries_at, elements_given, entries_given, IsContent}
 use Rattle.yaml_nodes.proofs.Contents.{body_solid}
 use Rattle.yaml_nodes.proofs.Turns.{first_item, next_item, outside_rest, outside_next, elements_first, elements_more, elements_stop_first, elements_stop, elements_end, entries_first, entries_more, entries_stop_first, entries_stop, entries_end, knows_grown, node_no, node_list, node_map, node_lone, node_stop, key_fails, dashed_is, behind_block, behind_node, first_solid}
+use Rattle.yaml_nodes.proofs.QuotedNodes.{quoted_stop, quoted_map, quoted_text}
 use Rattle.yaml_nodes.proofs.node.+node.Goals as goal
 
 pub block-node-requires : goal.block-node-requires
@@ -203,24 +206,61 @@ node-returns-then-is_dash t c =
     subst (λ (r : Read Tree). Gives node_view c.sequence.result r)
     (sym (node_list c.args.depth c.args.may c.args.least (line_view c.args.line.now) c.args.rest.now (lines_view c.args.lines.now) c.if-not-may.false (sym c.is_dash.ensures ∙ c.if-is_dash.true))) c.sequence.ensures
 
-pub node-returns-in_err-key_at : goal.node-returns-in_err-key_at
-node-returns-in_err-key_at t c =
+pub node-returns-in_err-plain_key_at : goal.node-returns-in_err-plain_key_at
+node-returns-in_err-plain_key_at t c =
     let whole = node_in c.args.depth c.args.may c.args.least (line_view c.args.line.now) c.args.rest.now (lines_view c.args.lines.now) in
-    let e = c.in_err-key_at.field-0.0 in
+    let e = c.in_err-plain_key_at.field-0.0 in
     gives_err node_view c.from_residual.result whole e _ c.from_residual.ensures.1 (λ y p. p)
-    (key_fails e (key_at (line_view c.args.line.now) c.args.rest.now) whole c.in_err-key_at.ensures.key
+    (key_fails e (key_at (line_view c.args.line.now) c.args.rest.now) whole c.in_err-plain_key_at.ensures.key
     (λ s p. node_stop c.args.depth c.args.may c.args.least (line_view c.args.line.now) c.args.rest.now (lines_view c.args.lines.now) s c.if-not-may.false (sym c.is_dash.ensures ∙ c.if-is_dash.false) p))
 
 pub node-returns-in_default : goal.node-returns-in_default
 node-returns-in_default t c =
-    let key = c.in_ok-key_at.ensures.key ∙ ap key_view c.in_default.is in
+    let key = c.in_ok-plain_key_at.ensures.key ∙ ap parts_view c.in_default.is in
     subst (λ (r : Read Tree). Gives node_view c.lone-in_default.result r)
     (sym (node_lone c.args.depth c.args.may c.args.least (line_view c.args.line.now) c.args.rest.now (lines_view c.args.lines.now) c.if-not-may.false (sym c.is_dash.ensures ∙ c.if-is_dash.false) key))
     c.lone-in_default.ensures
 
 pub node-returns : goal.node-returns
 node-returns t c =
-    let key = c.in_ok-key_at.ensures.key ∙ ap key_view c.in-Some.is in
+    let key = c.in_ok-plain_key_at.ensures.key ∙ ap parts_view c.in-Some.is in
     subst (λ (r : Read Tree). Gives node_view c.map.result r)
     (sym (node_map c.args.depth c.args.may c.args.least (line_view c.args.line.now) c.args.rest.now (lines_view c.args.lines.now) _ _ c.if-not-may.false (sym c.is_dash.ensures ∙ c.if-is_dash.false) key))
     c.map.ensures
+
+pub node-returns-then-is_quote : goal.node-returns-then-is_quote
+node-returns-then-is_quote t c =
+    let may : c.args.may ≡ true = c.if-not-may.false in
+    subst (λ (b : Bool). Gives node_view c.quoted_node.result (node_in c.args.depth b c.args.least (line_view c.args.line.now) c.args.rest.now (lines_view c.args.lines.now))) (sym may) (c.quoted_node.ensures c.args.least)
+
+pub quoted_node-returns-in_err-content : goal.quoted_node-returns-in_err-content
+quoted_node-returns-in_err-content t c = λ m.
+    let l = line_view c.args.line.now in
+    let cs = c.args.rest.now in
+    let ls = lines_view c.args.lines.now in
+    let whole = node_in c.args.depth true m l cs ls in
+    let e = c.in_err-content.field-0.0 in
+    gives_err node_view c.from_residual.result whole e _ c.from_residual.ensures.1 (λ y p. p)
+    (fails_more e (quoted l cs) whole c.in_err-content.ensures.text (λ s p. quoted_stop c.args.depth m l cs ls s c.requires.quote p))
+
+pub quoted_node-returns-in-Some : goal.quoted_node-returns-in-Some
+quoted_node-returns-in-Some t c = λ m.
+    let l = line_view c.args.line.now in
+    let cs = c.args.rest.now in
+    let ls = lines_view c.args.lines.now in
+    let k = c.in_ok-content.content in
+    let after = c.in_ok-content.after.now in
+    let key = c.in-Some.ensures.key k ∙ ap (colon_then k) c.skip_blanks.ensures.rest in
+    subst (λ (r : Read Tree). Gives node_view c.map.result r) (sym (quoted_map c.args.depth m l cs ls k after _ c.requires.quote c.in_ok-content.ensures.text key)) c.map.ensures
+
+pub quoted_node-returns-in-None : goal.quoted_node-returns-in-None
+quoted_node-returns-in-None t c = λ m.
+    let l = line_view c.args.line.now in
+    let cs = c.args.rest.now in
+    let ls = lines_view c.args.lines.now in
+    let k = c.in_ok-content.content in
+    let after = c.in_ok-content.after.now in
+    let key = c.in-None.ensures.key k ∙ ap (colon_then k) c.skip_blanks.ensures.rest in
+    let node = c.text.ensures ∙ ap (λ (a : At). scalar a (text k)) c.spot.ensures in
+    let whole = quoted_text c.args.depth m l cs ls k after c.requires.quote c.in_ok-content.ensures.text key ∙ ap (alone l after ls) (sym node) in
+    subst (λ (r : Read Tree). Gives node_view c.alone.result r) (sym whole) c.alone.ensures

@@ -15,26 +15,29 @@ decreases-sequence l = 8 * l.depth
 abbrev pub decreases-map : goal.decreases-map
 decreases-map l = 8 * l.depth
 
+abbrev pub decreases-quoted_node : goal.decreases-quoted_node
+decreases-quoted_node l = 8 * l.depth + 1
+
 abbrev pub decreases-node : goal.decreases-node
-decreases-node l = 8 * l.depth + 1
+decreases-node l = 8 * l.depth + 2
 
 abbrev pub decreases-block : goal.decreases-block
-decreases-block l = 8 * l.depth + 2
+decreases-block l = 8 * l.depth + 3
 
 abbrev pub decreases-element : goal.decreases-element
-decreases-element l = 8 * l.depth + 3
+decreases-element l = 8 * l.depth + 4
 
 abbrev pub decreases-value : goal.decreases-value
-decreases-value l = 8 * l.depth + 3
+decreases-value l = 8 * l.depth + 4
 
 abbrev pub decreases-entry : goal.decreases-entry
-decreases-entry l = 8 * l.depth + 4
+decreases-entry l = 8 * l.depth + 5
 
 abbrev pub decreases-elements : goal.decreases-elements
-decreases-elements l = 8 * l.depth + 5
+decreases-elements l = 8 * l.depth + 6
 
 abbrev pub decreases-entries : goal.decreases-entries
-decreases-entries l = 8 * l.depth + 5
+decreases-entries l = 8 * l.depth + 6
 
 -- what is left begins outside, and what is built before what is read of it is all
 abbrev pub invariant-elements-loop-at : goal.invariant-elements-loop-at
