@@ -1,6 +1,6 @@
 //! Reading the conditions of a rule.
 
-ghost use Rattle.std.specs.Prelude.{◌≡◌, not, map, filter, codes, length, IfOk, IfErr};
+ghost use Rattle.std.specs.Prelude.{◌≡◌, ◌<◌, ◌+◌, ◌*◌, not, map, filter, codes, length, IfOk, IfErr};
 ghost use Rattle.std.specs.List.{AllZip};
 ghost use Rattle.sig_conditions.specs.Formulas.{form_view, forms_view};
 ghost use Rattle.sig_modifiers.specs.Judged.{Judged};
@@ -18,6 +18,9 @@ use sig_conditions::{Formula, Names, read_condition, resolve_condition};
 use std::alloc::Global;
 use yaml_tree::{Entry, Node};
 
+#[cfg(test)]
+mod tests;
+
 /// The names of the detections, which are all keys but `condition`.
 fn copy_names(alloc: Global, entries: &[Entry]) -> Result<Texts, Fault>
     ensures ok { IfOk result (λ names. names ≡ map (λ e. e.key) (filter (λ e. not (is_key (codes "condition") e)) (entries_view entries.now))) }
@@ -32,11 +35,31 @@ fn copy_names(alloc: Global, entries: &[Entry]) -> Result<Texts, Fault>
     Ok(names)
 }
 
-/// One condition over detections of these names.
+/// How often selectors may be compared with names, for all conditions of a rule together: each selector is compared with
+/// each name, and may write each into the formula, so that without a bound a rule of some kilobytes could take all memory.
+const MOST_COMPARED: usize = 1 << 21;
+
+/// The comparisons that are left behind those of selectors with names. Where too few are left, want of memory is answered.
+fn pay(left: usize, selectors: usize, names: usize) -> Result<usize, Fault>
+    ensures paid { IfOk result (λ rest. rest + selectors * names ≡ left) }
+    ensures short { IfErr result (λ e. left < selectors * names) }
+    ensures err { IfErr result (λ e. e ≡ Fault.Memory) }
+{
+    let Some(cost) = selectors.checked_mul(names) else {
+        return Err(Fault::Memory);
+    };
+    if cost > left {
+        return Err(Fault::Memory);
+    }
+    Ok(left - cost)
+}
+
+/// One condition over detections of these names, where enough comparisons are left for its selectors.
 fn read_formula(
     alloc: Global,
     limits: &Limits,
     names: &Names,
+    left: &mut usize,
     node: &Node,
 ) -> Result<Formula, Fault>
     ensures { Judged (λ f. spec.IsFormula names.now (node_view node.now) (form_view f))
@@ -47,6 +70,7 @@ fn read_formula(
         return Err(refused(Code::WRONG_SHAPE, place));
     };
     let condition = read_condition(alloc, limits, text.as_str(), place)?;
+    *left = pay(*left, condition.count_selectors(), names.len())?;
     resolve_condition(alloc, &condition, names, place)
 }
 
@@ -62,9 +86,10 @@ fn read_listed(
 {
     let parts = parts_of(node);
     must(Code::EMPTY_LIST, place_of(node), !is_empty(parts))?;
+    let mut left = MOST_COMPARED;
     let mut formulas = Vec::new(alloc);
     for part in parts {
-        let formula = read_formula(alloc, limits, names, part)?;
+        let formula = read_formula(alloc, limits, names, &mut left, part)?;
         formulas.push(formula)?;
     }
     Ok(formulas)
@@ -73,7 +98,8 @@ fn read_listed(
 /// Reads the conditions of a rule, of which `node` is the map of its detections. A map without `condition` is refused
 /// 70. Of one condition, or each of a list, what is no text is refused 71, one with a `|` 61, one with too many words
 /// that nest 62, one without a reading 60, and one with a name or selector that takes no detection 63 or 64; an empty
-/// list is refused 78.
+/// list is refused 78. Where the selectors of all conditions, times the detections, are more than 2^21, want of memory is
+/// answered.
 pub fn read_conditions(alloc: Global, limits: &Limits, node: &Node) -> Result<Vec<Formula>, Fault>
     ensures judged { Judged (λ fs. spec.AreConditions (node_view node.now) (forms_view fs.items))
         (spec.conditions_refusal limits.now (node_view node.now)) result }

@@ -35,7 +35,7 @@ pub fn copy_rest(alloc: Global, entries: &[Entry]) -> Result<Vec<Entry>, Fault>
     ensures ok { IfOk result (λ es. entries_view es.items ≡ filter (λ e. not (heads.is_checked e)) (entries_view entries.now)) }
     ensures err { IfErr result (λ e. e ≡ Fault.Memory) }
 {
-    let mut rest = Vec::new(alloc);
+    let mut rest = Vec::with_capacity(alloc, entries.len())?;
     for entry in entries {
         if !is_checked(entry) {
             rest.push(entry.copy(alloc)?)?;

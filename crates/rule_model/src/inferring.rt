@@ -46,7 +46,7 @@ fn folded_text(alloc: Global, text: &Text) -> Result<Text, AllocError>
     ensures { IfOk result (λ t. t ≡ folded text.now) }
 {
     let characters = characters(alloc, text)?;
-    let mut folded = Text::new(alloc);
+    let mut folded = Text::with_capacity(alloc, characters.len())?;
     push_folded(&mut folded, &characters)?;
     Ok(folded)
 }

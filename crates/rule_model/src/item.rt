@@ -1,6 +1,6 @@
 //! Items of detections: fields with the tests of their values.
 
-ghost use Rattle.std.specs.Prelude.{◌≡◌, ◌++◌, ◌∷◌, [], OnOk, OnErr};
+ghost use Rattle.std.specs.Prelude.{◌≡◌, ◌++◌, ◌∷◌, [], IfOk, OnOk, OnErr};
 
 use sig_base::{Place, Texts};
 use sig_modifiers::{Joined, Tests};
@@ -30,6 +30,15 @@ impl Values {
         Values {
             items: Vec::new(alloc),
         }
+    }
+
+    /// No value, with memory for so many.
+    pub(crate) fn with_capacity(alloc: Global, capacity: usize) -> Result<Values, AllocError>
+        ensures { IfOk result (λ values. values ≡ []) }
+    {
+        Ok(Values {
+            items: Vec::with_capacity(alloc, capacity)?,
+        })
     }
 
     /// Adds a value at the end, and leaves the list as it was where memory is missing.

@@ -48,7 +48,7 @@ fn read_values(
         (first (list_map (value_refusal limits.now.value_chars chain.now) (nodes_view values.now))) result }
     ensures plain { IfOk result (λ all. EachOf ArePlainTests all) }
 {
-    let mut all = Values::new(alloc);
+    let mut all = Values::with_capacity(alloc, values.len())?;
     for value in values {
         let tests = resolve(alloc, limits, chain, value)?;
         all.push(tests)?;

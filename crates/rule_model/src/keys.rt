@@ -20,6 +20,14 @@ pub struct Key {
     pub keyword: bool,
 }
 
+/// How many bytes stand before the first `|`.
+fn piece_len(text: &str) -> usize {
+    text.as_bytes()
+        .iter()
+        .position(|byte| *byte == b'|')
+        .unwrap_or(text.len())
+}
+
 /// The text up to the first `|`, and what stands behind it.
 fn read_piece(alloc: Global, text: &str) -> Result<(Text, Option<&str>), Fault>
     ensures piece { IfOk result (λ p. p.0 ≡ spec.name_in (chars text.now)) }
@@ -27,7 +35,7 @@ fn read_piece(alloc: Global, text: &str) -> Result<(Text, Option<&str>), Fault>
     ensures shorter { IfOk result (λ p. IfSome p.1 (λ rest. length rest.now < length text.now)) }
     ensures err { IfErr result (λ e. e ≡ Fault.Memory) }
 {
-    let mut piece = Text::new(alloc);
+    let mut piece = Text::with_capacity(alloc, piece_len(text))?;
     let mut left = text;
     loop {
         let Some((c, rest)) = first_char(left) else {
