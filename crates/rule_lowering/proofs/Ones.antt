@@ -1,23 +1,21 @@
 -- A list of one joined tree is joined to that tree: no joined tree has one part alone.
-use Rattle.std.proofs.Common.{ℕ, zero, suc, ◌≡◌, ◌+◌, ◌<◌, ◌≤◌, refl, sym, ap, ◌∙◌, List, [], ◌∷◌, ◌++◌, length, get_or, map, append-nil, subst, arith}
+use Rattle.std.proofs.Common.{ℕ, ◌≡◌, ◌<◌, ◌≤◌, refl, sym, ap, ◌∙◌, List, [], ◌∷◌, ◌++◌, length, get_or, map, append-nil, subst, arith}
 use Rattle.std.specs.Prelude.{⊤, IfOk, Result}
 use Rattle.std.specs.List.{flat_map}
 use Rattle.backend_core.specs.Trees.{Plain, all, any, negated, leaf, Plains, no_parts, a_part}
 use Rattle.backend_core.specs.View.{tree_view}
 use Rattle.backend_core.specs.declared.tree.Tree.{Tree}
 use Rattle.event_schema.specs.declared.schema.Field.{Field}
-use Rattle.rule_model.specs.Lists.{EachOf}
 use Rattle.rule_model.specs.declared.detection.Detection.{Detection}
 use Rattle.rule_model.specs.declared.item.Fields.{Fields}
 use Rattle.rule_model.specs.declared.item.Fields.TheVariants.{Keyword, Names}
 use Rattle.rule_model.specs.declared.item.Item.{Item}
 use Rattle.sig_base.specs.declared.refusal.Place.{Place}
-use Rattle.sig_conditions.specs.Formulas.{Form, FDetection, FNot, FAnd, FOr, Forms, no_forms, form}
 use Rattle.sig_modifiers.specs.declared.modifier.Joined.{Joined}
 use Rattle.sig_modifiers.specs.declared.modifier.Joined.TheVariants.{All, Any}
 use Rattle.sig_modifiers.specs.declared.test.Test.{Test}
-use Rattle.rule_lowering.specs.Joining.{plains, listed, parts_of, tree_with, closed, join}
-use Rattle.rule_lowering.specs.TreeOf.{test_tree, value_tree, values_tree, number_of, searched, keyword_tree, fields_tree, item_tree, alternative_tree, detection_tree, numbered_tree, form_tree, form_trees}
+use Rattle.rule_lowering.specs.Joining.{plains, listed, parts_of, closed, join}
+use Rattle.rule_lowering.specs.TreeOf.{test_tree, value_tree, values_tree, number_of, searched, keyword_tree, fields_tree, item_tree, alternative_tree, detection_tree}
 
 abbrev AreNotOne : Plains → Type 0
 AreNotOne no_parts = ⊤

@@ -1,4 +1,4 @@
-use Rattle.std.proofs.Common.{◌≡◌, subst, List, ℕ}
+use Rattle.std.proofs.Common.{◌≡◌, subst, List}
 use Rattle.std.specs.Prelude.{IfOk}
 use Rattle.backend_core.specs.View.{tree_view}
 use Rattle.sig_modifiers.specs.declared.test.Test.{Test}
