@@ -5,6 +5,7 @@ pub mod Found
 pub mod Soundness
 pub mod ViewLemmas
 pub mod Levels
+pub mod Ones
 pub mod LeafCounts
 pub mod RuleLemmas
 pub mod Indexing

@@ -69,6 +69,9 @@ fn lower_value(alloc: Global, place: Place, field: u32, tests: &[Test]) -> Resul
     ensures ok { IfOk result (λ t. tree_view t ≡ spec.value_tree place field tests.now) }
     ensures err { IfErr result (λ e. e ≡ Fault.Memory) }
 {
+    if let [test] = tests {
+        return lower_leaf(alloc, place, field, test);
+    }
     let mut parts = Vec::new(alloc);
     for test in tests {
         let part = lower_leaf(alloc, place, field, test)?;
@@ -88,6 +91,9 @@ fn lower_values(
     ensures ok { IfOk result (λ t. tree_view t ≡ spec.values_tree place joined values.now field) }
     ensures err { IfErr result (λ e. e ≡ Fault.Memory) }
 {
+    if let [value] = values {
+        return lower_value(alloc, place, field, value.as_slice());
+    }
     let mut parts = Vec::new(alloc);
     for value in values {
         let part = lower_value(alloc, place, field, value.as_slice())?;
@@ -114,6 +120,22 @@ fn lower_keyword(
     Ok(close_parts(Joined::Any, parts))
 }
 
+/// The values of an item at this name's field.
+fn lower_name(
+    alloc: Global,
+    fields: &[Field],
+    numbers: &Numbers,
+    item: &Item,
+    name: &Text,
+) -> Result<Tree, Fault>
+    requires { Numbered fields.now numbers.now }
+    ensures ok { IfOk result (λ t. tree_view t ≡ spec.values_tree item.now.place item.now.joined item.now.tests (spec.number_of fields.now name.now)) }
+    ensures err { IfErr result (λ e. e ≡ Fault.Memory) }
+{
+    let field = numbers.find(fields, name);
+    lower_values(alloc, item.place, item.joined, item.tests.as_slice(), field)
+}
+
 /// The values of an item at some one of these names' fields.
 fn lower_names(
     alloc: Global,
@@ -126,10 +148,12 @@ fn lower_names(
     ensures ok { IfOk result (λ t. tree_view t ≡ spec.fields_tree fields.now item.now.place item.now.joined item.now.tests (Names names.now)) }
     ensures err { IfErr result (λ e. e ≡ Fault.Memory) }
 {
+    if let [name] = names {
+        return lower_name(alloc, fields, numbers, item, name);
+    }
     let mut parts = Vec::new(alloc);
     for name in names {
-        let field = numbers.find(fields, name);
-        let part = lower_values(alloc, item.place, item.joined, item.tests.as_slice(), field)?;
+        let part = lower_name(alloc, fields, numbers, item, name)?;
         add_part(Joined::Any, &mut parts, part)?;
     }
     Ok(close_parts(Joined::Any, parts))
@@ -181,6 +205,9 @@ fn lower_alternative(
     ensures ok { IfOk result (λ t. tree_view t ≡ spec.alternative_tree fields.now items.now) }
     ensures err { IfErr result (λ e. e ≡ Fault.Memory) }
 {
+    if let [item] = items {
+        return lower_item(alloc, fields, numbers, item);
+    }
     let mut parts = Vec::new(alloc);
     for item in items {
         let part = lower_item(alloc, fields, numbers, item)?;
