@@ -37,12 +37,6 @@ fn detection(alloc: Global, value: Node) -> Result<Node, Fail> {
     Ok(Node::map(at(6, 5), entries))
 }
 
-/// .. whose `sel` is a map of this one entry at line 7.
-fn with_item(alloc: Global, key: &str, value: Node) -> Result<Node, Fail> {
-    let items = map(alloc, at(7, 9), key, value)?;
-    detection(alloc, items)
-}
-
 /// The code, the place and the word of what refuses the value of `detection`.
 fn refusal_within(alloc: Global, limits: &Limits, node: &Node) -> Result<String, Fail> {
     let mut shown = String::new(alloc);
@@ -60,8 +54,16 @@ fn refusal_within(alloc: Global, limits: &Limits, node: &Node) -> Result<String,
     Ok(shown)
 }
 
-fn refusal(alloc: Global, node: &Node) -> Result<String, Fail> {
-    refusal_within(alloc, &Limits::standard(), node)
+/// What refuses the value of `detection` whose `sel` is this value.
+fn refusal(alloc: Global, limits: &Limits, value: Node) -> Result<String, Fail> {
+    let node = detection(alloc, value)?;
+    refusal_within(alloc, limits, &node)
+}
+
+/// .. whose `sel` is a map of this one entry at line 7.
+fn item_refusal(alloc: Global, limits: &Limits, key: &str, value: Node) -> Result<String, Fail> {
+    let items = map(alloc, at(7, 9), key, value)?;
+    refusal(alloc, limits, items)
 }
 
 /// Within which an item has two values, and a value three characters.
@@ -72,15 +74,15 @@ fn small_limits() -> Limits {
     limits
 }
 
+fn name_refusal(alloc: Global, key: &str) -> Result<String, Fail> {
+    let value = text(alloc, at(7, 30), "x")?;
+    item_refusal(alloc, &Limits::standard(), key, value)
+}
+
 #[test]
 fn names_are_refused(rt: HostRuntime) -> Result<(), Fail> {
-    let alloc = rt.alloc();
-    let long = "abcdefghijklmnopqrstuvwxyz012345".repeat(alloc, 4)?;
-    let longer = format!(in alloc; "{long}6")?;
     for (key, want) in [
         ("Image", ""),
-        (long.as_str(), ""),
-        (longer.as_str(), "71 7:9"),
         ("", "71 7:9"),
         ("a\u{1f}", "71 7:9"),
         ("a\u{7f}", "71 7:9"),
@@ -93,16 +95,35 @@ fn names_are_refused(rt: HostRuntime) -> Result<(), Fail> {
         ("|exists", "41 7:9"),
         ("|near", "40 7:9 near"),
     ] {
-        let node = with_item(alloc, key, text(alloc, at(7, 30), "x")?)?;
-        assert_eq!(rt; refusal(alloc, &node)?.as_str(), want, "{key}");
+        assert_eq!(rt; name_refusal(rt.alloc(), key)?.as_str(), want, "{key}");
     }
     Ok(())
 }
 
+/// What refuses a name of four times 32 characters, and then these.
+fn long_refusal(alloc: Global, more: &str) -> Result<String, Fail> {
+    let mut name = "abcdefghijklmnopqrstuvwxyz012345".repeat(alloc, 4)?;
+    name.push_str(more)?;
+    name_refusal(alloc, name.as_str())
+}
+
+#[test]
+fn names_have_at_most_128_characters(rt: HostRuntime) -> Result<(), Fail> {
+    for (more, want) in [("", ""), ("6", "71 7:9")] {
+        assert_eq!(rt; long_refusal(rt.alloc(), more)?.as_str(), want);
+    }
+    Ok(())
+}
+
+/// What refuses an item whose value is a list of this one text.
+fn value_refusal(alloc: Global, key: &str, value: &str) -> Result<String, Fail> {
+    let elements = vec![in alloc; text(alloc, at(8, 13), value)?]?;
+    let list = Node::list(at(8, 11), elements);
+    item_refusal(alloc, &small_limits(), key, list)
+}
+
 #[test]
 fn values_are_refused(rt: HostRuntime) -> Result<(), Fail> {
-    let alloc = rt.alloc();
-    let limits = small_limits();
     for (key, value, want) in [
         ("Image", "abcd", "49 8:13"),
         ("Image", "abc", ""),
@@ -111,16 +132,12 @@ fn values_are_refused(rt: HostRuntime) -> Result<(), Fail> {
         ("", "abcd", "71 7:9"),
         ("Image|near", "abcd", "40 7:9 near"),
     ] {
-        let elements = vec![in alloc; text(alloc, at(8, 13), value)?]?;
-        let node = with_item(alloc, key, Node::list(at(8, 11), elements))?;
         assert_eq!(rt;
-            refusal_within(alloc, &limits, &node)?.as_str(),
+            value_refusal(rt.alloc(), key, value)?.as_str(),
             want,
             "{value}"
         );
     }
-    let null = with_item(alloc, "Image|contains", Node::null(at(7, 9)))?;
-    assert_eq!(rt; refusal(alloc, &null)?.as_str(), "42 7:9");
     Ok(())
 }
 
@@ -134,79 +151,110 @@ fn many(alloc: Global, count: usize) -> Result<Node, Fail> {
     Ok(Node::list(at(8, 11), elements))
 }
 
+/// A list of a list.
+fn nested(alloc: Global, place: Place) -> Result<Node, Fail> {
+    let elements = vec![in alloc; many(alloc, 0)?]?;
+    Ok(Node::list(place, elements))
+}
+
 #[test]
-fn lists_are_refused(rt: HostRuntime) -> Result<(), Fail> {
+fn shapes_of_values_are_refused(rt: HostRuntime) -> Result<(), Fail> {
     let alloc = rt.alloc();
+    let limits = Limits::standard();
+    let null = Node::null(at(7, 9));
+    assert_eq!(rt;
+        item_refusal(alloc, &limits, "Image|contains", null)?.as_str(),
+        "42 7:9"
+    );
     let empty = Node::list(at(7, 16), Vec::new(alloc));
     assert_eq!(rt;
-        refusal(alloc, &with_item(alloc, "Image", empty)?)?.as_str(),
+        item_refusal(alloc, &limits, "Image", empty)?.as_str(),
         "78 7:16"
     );
-    let inner = vec![in alloc; many(alloc, 0)?]?;
-    let nested = with_item(alloc, "Image", Node::list(at(7, 16), inner))?;
-    assert_eq!(rt; refusal(alloc, &nested)?.as_str(), "71 8:11");
+    let lists = nested(alloc, at(7, 16))?;
+    assert_eq!(rt;
+        item_refusal(alloc, &limits, "Image", lists)?.as_str(),
+        "71 8:11"
+    );
     let inner = map(alloc, at(8, 11), "a", Node::null(at(8, 11)))?;
-    let mapped = with_item(alloc, "Image", inner)?;
-    assert_eq!(rt; refusal(alloc, &mapped)?.as_str(), "71 8:11");
-
-    // The count comes before what is wrong with a value.
-    let limits = small_limits();
-    let few = with_item(alloc, "Image|cased|contains", many(alloc, 1)?)?;
-    assert_eq!(rt; refusal_within(alloc, &limits, &few)?.as_str(), "42 8:15");
-    let more = with_item(alloc, "Image|cased|contains", many(alloc, 2)?)?;
-    assert_eq!(rt; refusal_within(alloc, &limits, &more)?.as_str(), "79 7:9");
-    let most = with_item(alloc, "Image|contains", many(alloc, 4095)?)?;
-    assert_eq!(rt; refusal(alloc, &most)?.as_str(), "42 8:15");
-    let too_many = with_item(alloc, "Image|contains", many(alloc, 4096)?)?;
-    assert_eq!(rt; refusal(alloc, &too_many)?.as_str(), "79 7:9");
+    assert_eq!(rt;
+        item_refusal(alloc, &limits, "Image", inner)?.as_str(),
+        "71 8:11"
+    );
     Ok(())
+}
+
+fn many_refusal(alloc: Global, limits: &Limits, key: &str, count: usize) -> Result<String, Fail> {
+    let values = many(alloc, count)?;
+    item_refusal(alloc, limits, key, values)
+}
+
+#[test]
+fn counts_come_before_values(rt: HostRuntime) -> Result<(), Fail> {
+    for (limits, key, count, want) in [
+        (small_limits(), "Image|cased|contains", 1, "42 8:15"),
+        (small_limits(), "Image|cased|contains", 2, "79 7:9"),
+        (Limits::standard(), "Image|contains", 4095, "42 8:15"),
+        (Limits::standard(), "Image|contains", 4096, "79 7:9"),
+    ] {
+        let shown = many_refusal(rt.alloc(), &limits, key, count)?;
+        assert_eq!(rt; shown.as_str(), want, "{count}");
+    }
+    Ok(())
+}
+
+/// A keyword, and then a map without keys.
+fn text_and_map(alloc: Global) -> Result<Node, Fail> {
+    let elements = vec![in alloc;
+        text(alloc, at(7, 9), "a")?,
+        Node::map(at(8, 9), Vec::new(alloc)),
+    ]?;
+    Ok(Node::list(at(7, 7), elements))
 }
 
 #[test]
 fn detections_are_refused(rt: HostRuntime) -> Result<(), Fail> {
     let alloc = rt.alloc();
-    let node = detection(alloc, Node::null(at(6, 5)))?;
-    assert_eq!(rt; refusal(alloc, &node)?.as_str(), "77 6:5");
-    let node = detection(alloc, Node::map(at(6, 10), Vec::new(alloc)))?;
-    assert_eq!(rt; refusal(alloc, &node)?.as_str(), "77 6:10");
-    let elements = vec![in alloc;
-        text(alloc, at(7, 9), "a")?,
-        Node::map(at(8, 9), Vec::new(alloc)),
-    ]?;
-    let node = detection(alloc, Node::list(at(7, 7), elements))?;
-    assert_eq!(rt; refusal(alloc, &node)?.as_str(), "77 8:9");
-    let elements = vec![in alloc; many(alloc, 0)?]?;
-    let node = detection(alloc, Node::list(at(7, 7), elements))?;
-    assert_eq!(rt; refusal(alloc, &node)?.as_str(), "71 8:11");
-    let node = detection(alloc, Node::list(at(6, 10), Vec::new(alloc)))?;
-    assert_eq!(rt; refusal(alloc, &node)?.as_str(), "78 6:10");
-
-    // A keyword is never null, and the count comes first.
-    let node = detection(alloc, many(alloc, 1)?)?;
-    assert_eq!(rt;
-        refusal_within(alloc, &small_limits(), &node)?.as_str(),
-        "42 8:15"
-    );
-    let node = detection(alloc, many(alloc, 2)?)?;
-    assert_eq!(rt;
-        refusal_within(alloc, &small_limits(), &node)?.as_str(),
-        "79 6:5"
-    );
+    let limits = Limits::standard();
+    let null = Node::null(at(6, 5));
+    assert_eq!(rt; refusal(alloc, &limits, null)?.as_str(), "77 6:5");
+    let map = Node::map(at(6, 10), Vec::new(alloc));
+    assert_eq!(rt; refusal(alloc, &limits, map)?.as_str(), "77 6:10");
+    let list = Node::list(at(6, 10), Vec::new(alloc));
+    assert_eq!(rt; refusal(alloc, &limits, list)?.as_str(), "78 6:10");
+    let elements = text_and_map(alloc)?;
+    assert_eq!(rt; refusal(alloc, &limits, elements)?.as_str(), "77 8:9");
+    let lists = nested(alloc, at(7, 7))?;
+    assert_eq!(rt; refusal(alloc, &limits, lists)?.as_str(), "71 8:11");
     Ok(())
 }
 
-/// A map of these two keys, one in line 6 and one in line 7, with texts.
-fn two(alloc: Global, first: &str, second: &str) -> Result<Node, Fail> {
+fn keywords_refusal(alloc: Global, count: usize) -> Result<String, Fail> {
+    let values = many(alloc, count)?;
+    refusal(alloc, &small_limits(), values)
+}
+
+/// A keyword is never null, and the count comes first.
+#[test]
+fn keywords_are_refused(rt: HostRuntime) -> Result<(), Fail> {
+    for (count, want) in [(1, "42 8:15"), (2, "79 6:5")] {
+        assert_eq!(rt; keywords_refusal(rt.alloc(), count)?.as_str(), want);
+    }
+    Ok(())
+}
+
+/// What refuses a map of these two keys, one in line 6 and one in line 7, with texts.
+fn keys_refusal(alloc: Global, first: &str, second: &str) -> Result<String, Fail> {
     let entries = vec![in alloc;
         entry(alloc, at(6, 5), first, text(alloc, at(6, 20), "a")?)?,
         entry(alloc, at(7, 5), second, text(alloc, at(7, 20), "b")?)?,
     ]?;
-    Ok(Node::map(at(6, 5), entries))
+    let node = Node::map(at(6, 5), entries);
+    refusal_within(alloc, &Limits::standard(), &node)
 }
 
 #[test]
 fn keys_of_detections_are_refused(rt: HostRuntime) -> Result<(), Fail> {
-    let alloc = rt.alloc();
     for (first, second, want) in [
         ("sel", "condition", ""),
         ("condition", "sel", ""),
@@ -218,13 +266,26 @@ fn keys_of_detections_are_refused(rt: HostRuntime) -> Result<(), Fail> {
         ("timeframe", "condition", "71 6:5"),
         ("condition", "timeframe", "77 6:5"),
     ] {
-        let node = two(alloc, first, second)?;
-        assert_eq!(rt; refusal(alloc, &node)?.as_str(), want, "{first} {second}");
+        assert_eq!(rt;
+            keys_refusal(rt.alloc(), first, second)?.as_str(),
+            want,
+            "{first} {second}"
+        );
     }
-    let node = Node::map(at(5, 12), Vec::new(alloc));
-    assert_eq!(rt; refusal(alloc, &node)?.as_str(), "77 5:12");
-    let node = text(alloc, at(5, 12), "sel")?;
-    assert_eq!(rt; refusal(alloc, &node)?.as_str(), "71 5:12");
+    Ok(())
+}
+
+fn whole_refusal(alloc: Global, node: Node) -> Result<String, Fail> {
+    refusal_within(alloc, &Limits::standard(), &node)
+}
+
+#[test]
+fn what_has_no_detection_is_refused(rt: HostRuntime) -> Result<(), Fail> {
+    let alloc = rt.alloc();
+    let map = Node::map(at(5, 12), Vec::new(alloc));
+    assert_eq!(rt; whole_refusal(alloc, map)?.as_str(), "77 5:12");
+    let text = text(alloc, at(5, 12), "sel")?;
+    assert_eq!(rt; whole_refusal(alloc, text)?.as_str(), "71 5:12");
     Ok(())
 }
 
@@ -274,16 +335,28 @@ fn shown(alloc: Global, node: &Node) -> Result<String, Fail> {
     Ok(shown)
 }
 
+/// .. of the value of `detection` whose `sel` is this value.
+fn shown_of(alloc: Global, value: Node) -> Result<String, Fail> {
+    let node = detection(alloc, value)?;
+    shown(alloc, &node)
+}
+
 #[test]
-fn detections_are_read(rt: HostRuntime) -> Result<(), Fail> {
+fn keywords_are_read(rt: HostRuntime) -> Result<(), Fail> {
     let alloc = rt.alloc();
-    let node = detection(alloc, text(alloc, at(6, 10), "evil")?)?;
-    assert_eq!(rt; shown(alloc, &node)?.as_str(), "sel@6:5 = @6:10|*evil*");
+    let value = text(alloc, at(6, 10), "evil")?;
+    assert_eq!(rt; shown_of(alloc, value)?.as_str(), "sel@6:5 = @6:10|*evil*");
+    Ok(())
+}
 
+/// A map of keywords that all have to stand in a field.
+fn both_keywords(alloc: Global) -> Result<Node, Fail> {
     let values = vec![in alloc; text(alloc, at(8, 13), "a")?, text(alloc, at(9, 13), "b")?]?;
-    let node = with_item(alloc, "|all", Node::list(at(8, 11), values))?;
-    assert_eq!(rt; shown(alloc, &node)?.as_str(), "sel@6:5 = @7:9&*a*&*b*");
+    map(alloc, at(7, 9), "|all", Node::list(at(8, 11), values))
+}
 
+/// A map of two fields, a keyword and a map of one field.
+fn alternatives(alloc: Global) -> Result<Node, Fail> {
     let entries = vec![in alloc;
         entry(
             alloc,
@@ -298,9 +371,17 @@ fn detections_are_read(rt: HostRuntime) -> Result<(), Fail> {
         text(alloc, at(9, 9), "evil")?,
         map(alloc, at(10, 9), "Image", text(alloc, at(10, 16), "c")?)?,
     ]?;
-    let node = detection(alloc, Node::list(at(7, 7), elements))?;
+    Ok(Node::list(at(7, 7), elements))
+}
+
+#[test]
+fn detections_are_read(rt: HostRuntime) -> Result<(), Fail> {
+    let alloc = rt.alloc();
+    let both = both_keywords(alloc)?;
+    assert_eq!(rt; shown_of(alloc, both)?.as_str(), "sel@6:5 = @7:9&*a*&*b*");
+    let value = alternatives(alloc)?;
     assert_eq!(rt;
-        shown(alloc, &node)?.as_str(),
+        shown_of(alloc, value)?.as_str(),
         r"sel@6:5 = Image@7:9|*\\x.exe User@8:9|a? = @9:9|*evil* = Image@10:9|c"
     );
     Ok(())
