@@ -1,6 +1,6 @@
 -- The first keyword among items, and what names have in the schema that is made of them.
 use Rattle.std.proofs.Common.{ℕ, ◌+◌, ◌<◌, ◌≡◌, Bool, true, false, not, ◌&&◌, ◌||◌, ◌⊎◌, inl, inr, List, [], ◌∷◌, ◌++◌, length, get_or, drop, Option, Some, None, refl, sym, subst, ap, ◌∙◌, map}
-use Rattle.std.specs.Prelude.{filter, if◌then◌else◌}
+use Rattle.std.specs.Prelude.{filter}
 use Rattle.std.specs.List.{list_any, list_all, flat_map}
 use Rattle.std.specs.Str.{bytes_eq}
 use Rattle.std.proofs.lemmas.List.{drop_more, map-append, append_assoc}
@@ -9,9 +9,9 @@ use Rattle.event_schema.specs.Inferred.{text_field}
 use Rattle.event_schema.specs.declared.schema.Field.{Field}
 use Rattle.sig_base.specs.declared.refusal.Place.{Place}
 use Rattle.sig_base.specs.declared.refusal.Refusal.{Refusal}
-use Rattle.sig_modifiers.specs.Judged.{first, must}
+use Rattle.sig_modifiers.specs.Judged.{first}
 use Rattle.rule_model.specs.Fitting.{keyword_at, keyword_line}
-use Rattle.rule_model.specs.Inferred.{distinct, uses_of, items_of, names_in, is_field, fields_refusal, fit_refusal, inferred_schema, rule_names}
+use Rattle.rule_model.specs.Inferred.{distinct, uses_of, items_of, names_in, is_field, fields_refusal, fit_refusal, inferred_schema}
 use Rattle.rule_model.specs.Plain.{PlainRule}
 use Rattle.rule_model.specs.declared.item.Fields.{Fields}
 use Rattle.rule_model.specs.declared.item.Fields.TheVariants.{Keyword, Names}

@@ -35,11 +35,13 @@ fn copy_names(alloc: Global, entries: &[Entry]) -> Result<Texts, Fault>
     Ok(names)
 }
 
-/// How often selectors may be compared with names, for all conditions of a rule together: each selector is compared with
-/// each name, and may write each into the formula, so that without a bound a rule of some kilobytes could take all memory.
-const MOST_COMPARED: usize = 1 << 21;
+/// The size of all selectors of a rule times the size of its detections' names may be this at most. About so many steps are
+/// taken to compare them, and at most a quarter of it is written into formulas, so that without a bound a rule of some
+/// hundred kilobytes could take all memory, or many minutes.
+const MOST_COMPARED: usize = 1 << 24;
 
-/// The comparisons that are left behind those of selectors with names. Where too few are left, want of memory is answered.
+/// What is left of the bound behind comparing selectors with names of these sizes. Where too little is left, want of memory
+/// is answered.
 fn pay(left: usize, selectors: usize, names: usize) -> Result<usize, Fault>
     ensures paid { IfOk result (λ rest. rest + selectors * names ≡ left) }
     ensures short { IfErr result (λ e. left < selectors * names) }
@@ -54,7 +56,7 @@ fn pay(left: usize, selectors: usize, names: usize) -> Result<usize, Fault>
     Ok(left - cost)
 }
 
-/// One condition over detections of these names, where enough comparisons are left for its selectors.
+/// One condition over detections of these names, where enough of the bound is left for its selectors.
 fn read_formula(
     alloc: Global,
     limits: &Limits,
@@ -70,7 +72,7 @@ fn read_formula(
         return Err(refused(Code::WRONG_SHAPE, place));
     };
     let condition = read_condition(alloc, limits, text.as_str(), place)?;
-    *left = pay(*left, condition.count_selectors(), names.len())?;
+    *left = pay(*left, condition.selectors_size(), names.size())?;
     resolve_condition(alloc, &condition, names, place)
 }
 
@@ -98,8 +100,8 @@ fn read_listed(
 /// Reads the conditions of a rule, of which `node` is the map of its detections. A map without `condition` is refused
 /// 70. Of one condition, or each of a list, what is no text is refused 71, one with a `|` 61, one with too many words
 /// that nest 62, one without a reading 60, and one with a name or selector that takes no detection 63 or 64; an empty
-/// list is refused 78. Where the selectors of all conditions, times the detections, are more than 2^21, want of memory is
-/// answered.
+/// list is refused 78. Where the size of the selectors of all conditions, times that of the detections' names, is more than
+/// 2^24, want of memory is answered; a text has the size of its bytes, and one more.
 pub fn read_conditions(alloc: Global, limits: &Limits, node: &Node) -> Result<Vec<Formula>, Fault>
     ensures judged { Judged (λ fs. spec.AreConditions (node_view node.now) (forms_view fs.items))
         (spec.conditions_refusal limits.now (node_view node.now)) result }

@@ -1,11 +1,13 @@
 //! The names that conditions are over.
 
-ghost use Rattle.std.specs.Prelude.{◌≡◌, length, IfOk, IfErr};
+ghost use Rattle.std.specs.Prelude.{◌≡◌, ◌-◌, ◌^◌, min, IfOk, IfErr};
 ghost use Rattle.sig_conditions.specs.Conditions.{cond_view};
 ghost use Rattle.sig_conditions.specs.Formulas.{faults, form_view, formula_of};
 ghost use Rattle.sig_conditions.specs.Resolved.{Resolves};
+ghost use Rattle.sig_conditions.specs.Selectors.{names_size};
 
 use crate::condition::Condition;
+use crate::counting::names_size;
 use crate::formula::Formula;
 use crate::index::index_names;
 use crate::resolver::resolve;
@@ -49,11 +51,11 @@ impl Names {
         Ok(Names { texts, numbers })
     }
 
-    /// How many names there are.
-    pub fn len(&self) -> usize
-        ensures { result ≡ length self.now }
+    /// How large the names are together, or 2^64 - 1 where they are larger: each counts its bytes, and one more.
+    pub fn size(&self) -> usize
+        ensures { result ≡ min (names_size self.now) (2 ^ 64 - 1) }
     {
-        self.texts.as_slice().len()
+        names_size(self.texts.as_slice())
     }
 
     /// The formula of a condition over these names.

@@ -222,14 +222,17 @@ fn identifiers_are_no_keywords(rt: HostRuntime) -> Result<(), Fail> {
 }
 
 #[test]
-fn selectors_are_counted(rt: HostRuntime) -> Result<(), Fail> {
+fn selectors_have_the_sizes_of_their_words(rt: HostRuntime) -> Result<(), Fail> {
     for (text, want) in [
         ("selection_a", 0),
-        ("1 of q*", 1),
-        ("not (all of them or any of q) and not not 1 of them", 3),
+        ("1 of q*", 3),
+        (
+            "not (all of them or any of q) and not not 1 of *_a",
+            5 + 2 + 4,
+        ),
     ] {
         let condition = read_condition(rt.alloc(), &Limits::standard(), text, HERE)?;
-        assert_eq!(rt; condition.count_selectors(), want, "{text}");
+        assert_eq!(rt; condition.selectors_size(), want, "{text}");
     }
     Ok(())
 }

@@ -50,11 +50,13 @@ fn answer(alloc: Global, node: &Node) -> &'static str {
 
 #[test]
 fn comparisons_are_bounded(rt: HostRuntime) -> Result<(), Fail> {
+    // `first` and each `other` have the size 6, 6 * 2,048 = 12,288 in all, and each selector has 6: the bound, 16,777,216,
+    // takes 227 of them.
     for (others, count, selectors, want) in [
-        (2047, 1, 1024, "read"),
-        (2047, 1, 1025, "memory"),
-        (2047, 2, 512, "read"),
-        (2047, 2, 513, "memory"),
+        (2047, 1, 227, "read"),
+        (2047, 1, 228, "memory"),
+        (2047, 2, 113, "read"),
+        (2047, 2, 114, "memory"),
     ] {
         let node = detections(rt.alloc(), others, count, selectors)?;
         assert_eq!(rt; answer(rt.alloc(), &node), want, "{count} {selectors}");

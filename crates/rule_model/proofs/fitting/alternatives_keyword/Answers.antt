@@ -1,8 +1,4 @@
-use Rattle.std.proofs.Common.{◌∙◌, sym, ap}
-use Rattle.std.proofs.Common.{map}
-use Rattle.sig_modifiers.specs.Judged.{first}
-use Rattle.rule_model.specs.Fitting.{keyword_line}
-use Rattle.rule_model.specs.declared.item.Item.{Item}
+use Rattle.std.proofs.Common.{sym}
 use Rattle.rule_model.proofs.Keywords.{part_here}
 use Rattle.rule_model.proofs.fitting.alternatives_keyword.Goals as goal
 

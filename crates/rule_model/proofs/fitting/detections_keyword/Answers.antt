@@ -1,4 +1,4 @@
-use Rattle.std.proofs.Common.{◌∙◌, sym}
+use Rattle.std.proofs.Common.{sym}
 use Rattle.std.specs.List.{flat_map}
 use Rattle.rule_model.proofs.Keywords.{part_here}
 use Rattle.rule_model.proofs.fitting.detections_keyword.Goals as goal

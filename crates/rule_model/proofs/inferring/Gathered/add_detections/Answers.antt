@@ -1,5 +1,5 @@
 use Rattle.rule_model.specs.Gathered.{detection_uses}
-use Rattle.rule_model.proofs.Gathering.{turn, stop, hands_on}
+use Rattle.rule_model.proofs.Gathering.{stop, hands_on}
 use Rattle.rule_model.proofs.inferring.Gathered.add_detections.Goals as goal
 
 pub returns-in_err-add_alternatives-clause-gathers : goal.returns-in_err-add_alternatives-clause-gathers

@@ -1,6 +1,5 @@
 use Rattle.std.proofs.Common.{◌≡◌, drop, map}
 use Rattle.rule_model.specs.Gathered.{IsGathered, gathered}
-use Rattle.rule_model.specs.Inferred.{Use}
 use Rattle.rule_model.proofs.inferring.Gathered.add_names.Given as goal
 
 abbrev pub invariant-loop-name : goal.invariant-loop-name

@@ -1,4 +1,4 @@
-use Rattle.std.proofs.Common.{◌∙◌, sym, ap, ◌≡◌, true, None}
+use Rattle.std.proofs.Common.{◌∙◌, ap, ◌≡◌, true, None}
 use Rattle.std.specs.Prelude.{encode_utf8_all, find}
 use Rattle.std.specs.Str.{all_scalars}
 use Rattle.std.proofs.lemmas.Map.Text.{btree_map_updates_text}

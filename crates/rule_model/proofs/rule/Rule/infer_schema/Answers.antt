@@ -1,7 +1,6 @@
 use Rattle.std.proofs.Common.{◌≡◌, ◌∙◌, ap, refl, map}
 use Rattle.std.specs.Prelude.{codes, None}
 use Rattle.event_schema.specs.Inferred.{text_field}
-use Rattle.event_schema.specs.declared.schema.Schema.{Schema}
 use Rattle.sig_base.proofs.TextLemmas.{ascii_chars}
 use Rattle.rule_model.specs.Inferred.{rule_names}
 use Rattle.rule_model.specs.Plain.{rule_view}
