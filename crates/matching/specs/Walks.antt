@@ -16,11 +16,6 @@ pub record ReachesRun {C : Type 0} (holds : C → List ℕ → Type 0) (left : C
   -- and wherever in the text the pattern begins to match, the rest has such a suffix
   pub needed : SuffixHolds (holds start) (chars text) → SuffixHolds (holds later) (chars rest)
 
--- what the text begins with
-abbrev pub FrontIs : List ℕ → Option (ℕ × Bor (List ℕ)) → Type 0
-FrontIs text None = text ≡ []
-FrontIs text (Some front) = (chars text ≡ front.0 ∷ chars front.1.now) × (length front.1.now < length text)
-
 abbrev pub WalkTells : {C : Type 0} → (C → List ℕ → Type 0) → (C → ℕ) → C → List ℕ → Walk C → Type 0
 WalkTells holds left start text Ends = holds start (chars text)
 WalkTells holds left start text Misses = holds start (chars text) → ⊥

@@ -8,7 +8,6 @@
 #![tactic(auto)]
 
 mod cursor;
-mod first;
 mod seeking;
 mod step;
 mod taking;
@@ -17,6 +16,5 @@ mod walking;
 mod whole;
 
 pub use cursor::Cursor;
-pub use first::first_char;
 pub use step::{Step, Taker};
 pub use whole::matches_whole;

@@ -3,9 +3,9 @@ ghost use Rattle.std.specs.Str.{chars};
 ghost use Rattle.matching.specs.Suffixes.{SuffixHolds};
 
 use crate::cursor::Cursor;
-use crate::first::first_char;
 use crate::walk::Walk;
 use crate::walking::walk;
+use sig_base::first_char;
 
 /// Whether the pattern matches some suffix of the text, which is what stands behind a run. A run that is
 /// reached makes the run before it needless: the pattern is sought from there on alone.

@@ -2,9 +2,9 @@ ghost use Rattle.std.specs.Prelude.{ℕ};
 ghost use Rattle.matching.specs.Walks.{WalkTells};
 
 use crate::cursor::Cursor;
-use crate::first::first_char;
 use crate::step::Step;
 use crate::walk::Walk;
+use sig_base::first_char;
 
 /// Follows the pattern along the text, a character a step, up to its next run.
 pub fn walk<'a, C: Cursor>(start: C, text: &'a str) -> Walk<'a, C>

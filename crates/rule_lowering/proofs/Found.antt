@@ -12,7 +12,7 @@ use Rattle.rule_model.specs.Lists.{EachOf}
 use Rattle.rule_model.specs.Whole.{IsSome}
 use Rattle.sig_base.specs.declared.refusal.Place.{Place}
 use Rattle.sig_base.specs.declared.refusal.Refusal.{Refusal}
-use Rattle.sig_modifiers.specs.Judged.{must, first}
+use Rattle.sig_base.specs.Judged.{must, first}
 use Rattle.rule_lowering.specs.TreeOf.{number_of, searched}
 
 -- ---- numbers

@@ -16,7 +16,7 @@ use Rattle.sig_base.specs.declared.refusal.Place.{Place}
 use Rattle.sig_base.specs.declared.refusal.Refusal.{Refusal}
 use Rattle.sig_conditions.specs.Formulas.{forms_of, forms_view}
 use Rattle.sig_conditions.specs.declared.formula.Formula.{Formula}
-use Rattle.sig_modifiers.specs.Judged.{Judged}
+use Rattle.sig_base.specs.Judged.{Judged}
 use Rattle.sig_modifiers.specs.declared.modifier.Joined.TheVariants.{Any}
 use Rattle.rule_lowering.specs.Counts.{rule_count}
 use Rattle.rule_lowering.specs.Joining.{join}

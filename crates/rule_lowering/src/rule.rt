@@ -12,7 +12,7 @@ ghost use Rattle.rule_model.specs.Inferred.{fit_refusal};
 ghost use Rattle.rule_model.specs.Matching.{Matches};
 ghost use Rattle.rule_model.specs.Plain.{rule_view};
 ghost use Rattle.rule_model.specs.Whole.{IsWhole};
-ghost use Rattle.sig_modifiers.specs.Judged.{Judged};
+ghost use Rattle.sig_base.specs.Judged.{Judged};
 
 use crate::counting::count_rule;
 use crate::formula::lower_formulas;

@@ -5,12 +5,12 @@ use Rattle.std.specs.List.{AllZip}
 use Rattle.sig_base.specs.declared.limits.Limits.{Limits}
 use Rattle.sig_base.specs.declared.refusal.Fault.{Fault}
 use Rattle.sig_base.specs.declared.refusal.Place.{Place}
-use Rattle.sig_modifiers.specs.Judged.{Judged}
-use Rattle.sig_modifiers.specs.TestsOf.{place_of}
+use Rattle.sig_base.specs.Judged.{Judged}
+use Rattle.yaml_tree.specs.Nodes.{place_of}
 use Rattle.yaml_tree.specs.Tree.{Tree, scalar, list, map, Member}
 use Rattle.rule_model.specs.Detections.{IsAlternative, IsKeywordAlone, alternative_refusal, items_refusal}
 use Rattle.rule_model.specs.Items.{IsItem, keyword_refusal}
-use Rattle.rule_model.specs.Nodes.{is_map, is_scalar, entries_in}
+use Rattle.yaml_tree.specs.Nodes.{is_map, is_scalar, entries_in}
 use Rattle.rule_model.specs.declared.item.Item.{Item}
 
 abbrev ItemsJudged : Limits → Result (List Item) Fault → Place → List Member → Type 0

@@ -8,8 +8,8 @@ use Rattle.sig_base.specs.declared.refusal.Fault.{Fault}
 use Rattle.sig_base.specs.declared.refusal.Place.{Place}
 use Rattle.sig_conditions.specs.Formulas.{Form, form_view, forms_view}
 use Rattle.sig_conditions.specs.declared.formula.Formula.{Formula}
-use Rattle.sig_modifiers.specs.Judged.{must, first, Judged}
-use Rattle.sig_modifiers.specs.TestsOf.{place_of}
+use Rattle.sig_base.specs.Judged.{must, first, Judged}
+use Rattle.yaml_tree.specs.Nodes.{place_of}
 use Rattle.yaml_tree.specs.Tree.{Tree}
 use Rattle.yaml_tree.specs.View.{nodes_view}
 use Rattle.yaml_tree.specs.declared.tree.Node.{Node}
@@ -19,8 +19,8 @@ use Rattle.rule_model.proofs.Firsts.{behind, judged_as}
 use Rattle.rule_model.proofs.Lines.{first_one, first_holds, must_holds, must_same, not_holds}
 use Rattle.rule_model.proofs.Zips.{zip_some}
 use Rattle.rule_model.specs.Conditions.{names_of, IsFormula, listed_refusal, conditions_refusal, conditions_in, AreConditions}
-use Rattle.rule_model.specs.Keys.{is_empty}
-use Rattle.rule_model.specs.Nodes.{parts_in, value_in, entries_in, refused_by, text_in}
+use Rattle.yaml_tree.specs.Nodes.{is_empty}
+use Rattle.yaml_tree.specs.Nodes.{parts_in, value_in, entries_in, refused_by, text_in}
 use Rattle.rule_model.specs.Lists.{EachOf}
 use Rattle.rule_model.specs.Whole.{IsSome, IsWholeForm}
 

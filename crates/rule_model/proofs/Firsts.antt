@@ -7,7 +7,7 @@ use Rattle.std.proofs.lemmas.List.{drop_more, take_more, map-append}
 use Rattle.sig_base.specs.declared.refusal.Refusal.{Refusal}
 use Rattle.sig_base.specs.declared.refusal.Fault.{Fault}
 use Rattle.sig_base.specs.declared.refusal.Fault.TheVariants.{Memory, Refused}
-use Rattle.sig_modifiers.specs.Judged.{first, Judged}
+use Rattle.sig_base.specs.Judged.{first, Judged}
 use Rattle.rule_model.proofs.Lines.{first_one}
 
 pub first_none : (a b : List (Option Refusal)) → first a ≡ None → first (a ++ b) ≡ first b

@@ -9,7 +9,7 @@ use Rattle.sig_base.specs.declared.refusal.Refusal.{Refusal}
 use Rattle.sig_base.specs.declared.refusal.Fault.{Fault}
 use Rattle.sig_base.specs.declared.refusal.Fault.TheVariants.{Memory, Refused}
 use Rattle.std.specs.Result.{IsErrAnd}
-use Rattle.sig_modifiers.specs.Judged.{refusal, Judged}
+use Rattle.sig_base.specs.Judged.{refusal, Judged}
 use Rattle.rule_model.specs.Gathered.{Gathers, with_name, gathered, item_uses, alternative_uses, detection_uses}
 use Rattle.rule_model.specs.Inferred.{Use, clashes, clash_behind, distinct, uses_of, items_of}
 use Rattle.rule_model.specs.declared.detection.Detection.{Detection}

@@ -6,7 +6,7 @@ use Rattle.std.specs.Prelude.{String}
 use Rattle.std.specs.BTreeMap.{BTreeMap, get_by_text}
 use Rattle.std.proofs.lemmas.List.Folds.{find-append}
 use Rattle.sig_base.specs.declared.refusal.Place.{Place}
-use Rattle.sig_modifiers.specs.Judged.{refusal}
+use Rattle.sig_base.specs.Judged.{refusal}
 use Rattle.std.specs.List.{list_any, flat_map}
 use Rattle.std.specs.declared.result.Result.{Result}
 use Rattle.std.proofs.lemmas.List.{drop_more}

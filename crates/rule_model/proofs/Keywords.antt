@@ -9,7 +9,7 @@ use Rattle.event_schema.specs.Inferred.{text_field}
 use Rattle.event_schema.specs.declared.schema.Field.{Field}
 use Rattle.sig_base.specs.declared.refusal.Place.{Place}
 use Rattle.sig_base.specs.declared.refusal.Refusal.{Refusal}
-use Rattle.sig_modifiers.specs.Judged.{first}
+use Rattle.sig_base.specs.Judged.{first}
 use Rattle.rule_model.specs.Fitting.{keyword_at, keyword_line}
 use Rattle.rule_model.specs.Inferred.{distinct, uses_of, items_of, names_in, is_field, fields_refusal, fit_refusal, inferred_schema}
 use Rattle.rule_model.specs.Plain.{PlainRule}

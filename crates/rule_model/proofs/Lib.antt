@@ -3,13 +3,11 @@ pub mod ConditionLists
 pub mod Days
 pub mod Faultless
 pub mod Firsts
-pub mod Found
 pub mod Lines
 pub mod OneRule
 pub mod RuleLemmas
 pub mod SomeRule
 pub mod Texts
-pub mod Views
 pub mod WholeItems
 pub mod WholeRule
 pub mod Zips

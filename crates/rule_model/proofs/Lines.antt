@@ -4,7 +4,7 @@ use Rattle.std.specs.Prelude.{Option, Some, None, Result}
 use Rattle.sig_base.specs.declared.refusal.Fault.{Fault}
 use Rattle.sig_base.specs.declared.refusal.Place.{Place}
 use Rattle.sig_base.specs.declared.refusal.Refusal.{Refusal}
-use Rattle.sig_modifiers.specs.Judged.{first, must, Judged}
+use Rattle.sig_base.specs.Judged.{first, must, Judged}
 
 -- a line that holds lets the next one judge
 pub skips : (line : Option Refusal) (checks : List (Option Refusal)) → line ≡ None → first (line ∷ checks) ≡ first checks

@@ -17,7 +17,7 @@ use Rattle.rule_model.specs.Conditions.{names_of, IsFormula, conditions_in, AreC
 use Rattle.rule_model.specs.Detections.{IsAlternative, IsDetection, detection_entries, AreDetections}
 use Rattle.rule_model.specs.Heads.{IsHead}
 use Rattle.rule_model.specs.Items.{key_chain, IsItem, bare_chain, IsKeyword}
-use Rattle.rule_model.specs.Nodes.{entered, entries_in, parts_in, text_in, value_in}
+use Rattle.yaml_tree.specs.Nodes.{entered, entries_in, parts_in, text_in, value_in}
 use Rattle.rule_model.specs.Plain.{PlainHead, PlainRule}
 use Rattle.rule_model.specs.Rules.{IsRule}
 use Rattle.rule_model.specs.Sources.{source_of}

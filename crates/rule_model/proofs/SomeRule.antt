@@ -11,8 +11,9 @@ use Rattle.sig_conditions.specs.Taken.{number_of, taken}
 use Rattle.sig_conditions.specs.Words.{has_bar, nesting, words}
 use Rattle.sig_conditions.proofs.Sound.{is_condition}
 use Rattle.sig_modifiers.specs.Chains.{chain_refusal, joined_of}
-use Rattle.sig_modifiers.specs.Judged.{must, first}
-use Rattle.sig_modifiers.specs.TestsOf.{TestsOf, place_of, value_refusal}
+use Rattle.sig_base.specs.Judged.{must, first}
+use Rattle.sig_modifiers.specs.TestsOf.{TestsOf, value_refusal}
+use Rattle.yaml_tree.specs.Nodes.{place_of}
 use Rattle.sig_modifiers.specs.Written.{Written}
 use Rattle.sig_modifiers.specs.declared.test.Test.{Test}
 use Rattle.yaml_tree.specs.Tree.{Tree, scalar, list, map as tree_map, Member}
@@ -20,8 +21,9 @@ use Rattle.rule_model.specs.Conditions.{condition_of, first_fault, unresolved, c
 use Rattle.rule_model.specs.Detections.{alternative_refusal, IsAlternative, content_refusal, is_detection_key, detection_refusal, IsDetection, detection_entries, is_identified, begins_with_timeframe, detections_refusal, AreDetections}
 use Rattle.rule_model.specs.Heads.{head_checks, rest_of, IsHead}
 use Rattle.rule_model.specs.Items.{key_chain, fields_of, shape_refusal, values_refusal, item_refusal, IsItem, bare_chain, keyword_refusal, IsKeyword}
-use Rattle.rule_model.specs.Keys.{words_in, is_keyword_key, is_item_key, is_empty}
-use Rattle.rule_model.specs.Nodes.{is_map, is_null, is_text, text_in, entered, entries_in, parts_in, key_place, value_in, refused_by, text_of, text_at}
+use Rattle.rule_model.specs.Keys.{words_in, is_keyword_key, is_item_key}
+use Rattle.yaml_tree.specs.Nodes.{is_empty}
+use Rattle.yaml_tree.specs.Nodes.{is_map, is_null, is_text, text_in, entered, entries_in, parts_in, key_place, value_in, refused_by, text_of, text_at}
 use Rattle.rule_model.specs.Plain.{PlainHead, PlainRule}
 use Rattle.rule_model.specs.Rules.{rule_refusal, IsRule}
 use Rattle.rule_model.specs.Sources.{source_refusal, source_of}

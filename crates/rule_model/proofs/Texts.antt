@@ -16,13 +16,13 @@ use Rattle.sig_conditions.specs.Words.{nesting, words}
 use Rattle.sig_conditions.specs.declared.formula.Formula.{Formula}
 use Rattle.sig_conditions.specs.declared.word.Word.{Word}
 use Rattle.sig_conditions.proofs.Sound.{is_condition, reads_condition}
-use Rattle.sig_modifiers.specs.Judged.{refusal, must, first, Judged}
-use Rattle.sig_modifiers.specs.TestsOf.{place_of}
+use Rattle.sig_base.specs.Judged.{refusal, must, first, Judged}
+use Rattle.yaml_tree.specs.Nodes.{place_of}
 use Rattle.yaml_tree.specs.Tree.{Tree}
 use Rattle.rule_model.proofs.Faultless.{no_faults}
 use Rattle.rule_model.proofs.Lines.{first_one}
 use Rattle.rule_model.specs.Conditions.{condition_refusal, first_fault, unresolved, IsFormula}
-use Rattle.rule_model.specs.Nodes.{is_text, text_in}
+use Rattle.yaml_tree.specs.Nodes.{is_text, text_in}
 
 -- ---- the table of a condition, by its tests
 

@@ -5,18 +5,20 @@ use Rattle.sig_base.specs.declared.limits.Limits.{Limits}
 use Rattle.sig_base.specs.declared.refusal.Place.{Place}
 use Rattle.sig_base.specs.declared.refusal.Refusal.{Refusal}
 use Rattle.sig_modifiers.specs.Chains.{chain_refusal}
-use Rattle.sig_modifiers.specs.Judged.{first, must}
+use Rattle.sig_base.specs.Judged.{first, must}
 use Rattle.std.specs.Str.{all_scalars}
 use Rattle.yaml_tree.specs.Tree.{Tree, scalar, list, map, null, truth, whole, text, Member}
 use Rattle.sig_modifiers.specs.PlainTests.{ArePlainTests}
-use Rattle.sig_modifiers.specs.TestsOf.{Use, unused, absent, existing, pattern, number, UseTests, TestsOf, use_of, form_use, field_form, place_of, value_refusal}
+use Rattle.sig_modifiers.specs.TestsOf.{Use, unused, absent, existing, pattern, number, UseTests, TestsOf, use_of, form_use, field_form, value_refusal}
+use Rattle.yaml_tree.specs.Nodes.{place_of}
 use Rattle.sig_modifiers.specs.Written.{Written}
 use Rattle.sig_modifiers.specs.declared.form.Form.TheVariants.{Texts}
 use Rattle.sig_modifiers.specs.declared.test.Test.{Test}
 use Rattle.rule_model.specs.Items.{IsItem, IsKeyword, bare_chain, key_chain, shape_refusal, values_refusal, item_refusal}
-use Rattle.rule_model.specs.Keys.{name_in, words_in, is_empty, is_legal, is_item_key, is_keyword_key}
+use Rattle.rule_model.specs.Keys.{name_in, words_in, is_legal, is_item_key, is_keyword_key}
+use Rattle.yaml_tree.specs.Nodes.{is_empty}
 use Rattle.rule_model.specs.Lists.{EachOf}
-use Rattle.rule_model.specs.Nodes.{parts_in, key_place}
+use Rattle.yaml_tree.specs.Nodes.{parts_in, key_place}
 use Rattle.rule_model.specs.Whole.{IsSome, IsPatternTest, IsWholeValue, IsWholeItem, AreWholeFields}
 use Rattle.rule_model.specs.declared.item.Fields.{Fields}
 use Rattle.rule_model.specs.declared.item.Fields.TheVariants.{Keyword, Names}

@@ -13,10 +13,11 @@ use Rattle.sig_base.specs.declared.refusal.Place.{Place}
 use Rattle.sig_base.specs.declared.refusal.Refusal.{Refusal}
 use Rattle.sig_base.proofs.TextLemmas.{ascii_scalars}
 use Rattle.sig_modifiers.specs.Chains.{chain_of, chain_refusal}
-use Rattle.sig_modifiers.specs.Judged.{must, first}
+use Rattle.sig_base.specs.Judged.{must, first}
 use Rattle.sig_modifiers.specs.Kinds.{is_plain}
 use Rattle.sig_modifiers.specs.PlainTests.{ArePlainTests}
-use Rattle.sig_modifiers.specs.TestsOf.{Use, unused, absent, existing, pattern, number, UseTests, TestsOf, use_of, form_of, form_use, scalar_use, truth_text, place_of, has_nul, use_refusal, value_refusal}
+use Rattle.sig_modifiers.specs.TestsOf.{Use, unused, absent, existing, pattern, number, UseTests, TestsOf, use_of, form_of, form_use, scalar_use, truth_text, has_nul, use_refusal, value_refusal}
+use Rattle.yaml_tree.specs.Nodes.{place_of}
 use Rattle.sig_modifiers.specs.Written.{Written}
 use Rattle.sig_modifiers.specs.declared.form.Form as forms
 use Rattle.sig_modifiers.specs.declared.form.Form.TheVariants.{Bare, Presence, Texts}
@@ -32,9 +33,10 @@ use Rattle.rule_model.specs.Conditions.{conditions_refusal}
 use Rattle.rule_model.specs.Detections.{alternative_refusal, IsAlternative, content_refusal, is_detection_key, is_no_condition, detection_refusal, IsDetection, detection_entries, is_identified, begins_with_timeframe, detections_refusal, AreDetections}
 use Rattle.rule_model.specs.Heads.{head_checks}
 use Rattle.rule_model.specs.Items.{key_chain, shape_refusal, values_refusal, item_refusal, IsItem, bare_chain, keyword_refusal, IsKeyword}
-use Rattle.rule_model.specs.Keys.{pieces, name_in, words_in, is_empty, is_keyword_key, is_item_key}
+use Rattle.rule_model.specs.Keys.{pieces, name_in, words_in, is_keyword_key, is_item_key}
+use Rattle.yaml_tree.specs.Nodes.{is_empty}
 use Rattle.rule_model.specs.Lists.{EachOf}
-use Rattle.rule_model.specs.Nodes.{is_map, is_null, listed, entered, entries_in, parts_in, key_place, value_in, refused_by}
+use Rattle.yaml_tree.specs.Nodes.{is_map, is_null, listed, entered, entries_in, parts_in, key_place, value_in, refused_by}
 use Rattle.rule_model.specs.Plain.{PlainRule}
 use Rattle.rule_model.specs.Rules.{rule_refusal, IsRule}
 use Rattle.rule_model.specs.Sources.{source_refusal}

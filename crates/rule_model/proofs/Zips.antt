@@ -4,8 +4,8 @@ use Rattle.std.specs.Prelude.{Option, Some, None, filter}
 use Rattle.std.specs.List.{AllZip, list_any}
 use Rattle.std.proofs.lemmas.List.Elements.{filter-append}
 use Rattle.sig_base.specs.declared.refusal.Refusal.{Refusal}
-use Rattle.sig_modifiers.specs.Judged.{first}
-use Rattle.rule_model.specs.Keys.{is_empty}
+use Rattle.sig_base.specs.Judged.{first}
+use Rattle.yaml_tree.specs.Nodes.{is_empty}
 use Rattle.rule_model.specs.Lists.{EachOf}
 use Rattle.rule_model.specs.Whole.{IsSome}
 use Rattle.rule_model.proofs.Firsts.{list_at, taken_at, zip_push}

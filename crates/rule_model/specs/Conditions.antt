@@ -11,12 +11,12 @@ use Rattle.sig_conditions.specs.Grammar.{ConditionReads}
 use Rattle.sig_conditions.specs.Reader.{condition_in}
 use Rattle.sig_conditions.specs.Refusals.{refusal_of}
 use Rattle.sig_conditions.specs.Words.{has_bar, nesting, words}
-use Rattle.sig_modifiers.specs.Judged.{must, first}
-use Rattle.sig_modifiers.specs.TestsOf.{place_of}
+use Rattle.sig_base.specs.Judged.{must, first}
+use Rattle.yaml_tree.specs.Nodes.{place_of}
 use Rattle.yaml_tree.specs.Tree.{Tree}
 use Rattle.rule_model.specs.Detections.{detection_entries}
-use Rattle.rule_model.specs.Keys.{is_empty}
-use Rattle.rule_model.specs.Nodes.{is_text, text_in, parts_in, required, refused_at, value_in, entries_in}
+use Rattle.yaml_tree.specs.Nodes.{is_empty}
+use Rattle.yaml_tree.specs.Nodes.{is_text, text_in, parts_in, required, refused_at, value_in, entries_in}
 
 -- the condition that a text is, of at most so many words that nest; there is one where the grammar has one
 abbrev pub condition_of : ℕ → List ℕ → Option Cond

@@ -7,12 +7,12 @@ use Rattle.sig_base.specs.declared.limits.Limits.{Limits}
 use Rattle.sig_base.specs.declared.refusal.Place.{Place}
 use Rattle.sig_base.specs.declared.refusal.Refusal.{Refusal}
 use Rattle.sig_conditions.specs.Words.{is_identifier}
-use Rattle.sig_modifiers.specs.Judged.{must, first}
-use Rattle.sig_modifiers.specs.TestsOf.{place_of}
+use Rattle.sig_base.specs.Judged.{must, first}
+use Rattle.yaml_tree.specs.Nodes.{place_of}
 use Rattle.yaml_tree.specs.Tree.{Tree, scalar, list, map, Member}
 use Rattle.rule_model.specs.Items.{item_refusal, IsItem, keyword_refusal, IsKeyword}
-use Rattle.rule_model.specs.Keys.{is_empty}
-use Rattle.rule_model.specs.Nodes.{is_map, is_null, entries_in, entered, parts_in, key_place}
+use Rattle.yaml_tree.specs.Nodes.{is_empty}
+use Rattle.yaml_tree.specs.Nodes.{is_map, is_null, entries_in, entered, parts_in, key_place}
 use Rattle.rule_model.specs.declared.detection.Detection.{Detection}
 use Rattle.rule_model.specs.declared.item.Item.{Item}
 

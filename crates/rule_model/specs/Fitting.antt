@@ -3,7 +3,7 @@ use Rattle.std.specs.Prelude.{None, Some}
 use Rattle.std.specs.declared.option.Option.{Option}
 use Rattle.sig_base.specs.declared.refusal.Place.{Place}
 use Rattle.sig_base.specs.declared.refusal.Refusal.{Refusal}
-use Rattle.sig_modifiers.specs.Judged.{refusal}
+use Rattle.sig_base.specs.Judged.{refusal}
 use Rattle.rule_model.specs.declared.item.Fields.{Fields}
 use Rattle.rule_model.specs.declared.item.Fields.TheVariants.{Keyword, Names}
 use Rattle.rule_model.specs.declared.item.Item.{Item}

@@ -2,7 +2,7 @@
 use Rattle.std.specs.Prelude.{ℕ, Bool}
 use Rattle.yaml_tree.specs.Tree.{Tree}
 use Rattle.rule_model.specs.Heads.{is_title, is_id, is_status, is_date, is_level}
-use Rattle.rule_model.specs.Nodes.{is_text}
+use Rattle.yaml_tree.specs.Nodes.{is_text}
 use Rattle.rule_model.specs.declared.forms.Form.{Form}
 use Rattle.rule_model.specs.declared.forms.Form.TheVariants.{Text, Title, Id, Status, Date, Level}
 

@@ -8,7 +8,7 @@ use Rattle.sig_base.specs.Folding.{folded}
 use Rattle.sig_base.specs.declared.refusal.Fault.{Fault}
 use Rattle.sig_base.specs.declared.refusal.Fault.TheVariants.{Memory, Refused}
 use Rattle.sig_base.specs.declared.refusal.Refusal.{Refusal}
-use Rattle.sig_modifiers.specs.Judged.{refusal}
+use Rattle.sig_base.specs.Judged.{refusal}
 use Rattle.rule_model.specs.Inferred.{Use, clashes, names_in}
 use Rattle.rule_model.specs.Lists.{EachOf}
 use Rattle.rule_model.specs.declared.detection.Detection.{Detection}

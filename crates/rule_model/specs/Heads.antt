@@ -5,11 +5,11 @@ use Rattle.std.specs.Str.{bytes_eq}
 use Rattle.std.specs.declared.option.Option.{Option}
 use Rattle.jiff.specs.Words.{days_in_month}
 use Rattle.sig_base.specs.declared.refusal.Refusal.{Refusal}
-use Rattle.sig_modifiers.specs.Judged.{must}
-use Rattle.sig_modifiers.specs.TestsOf.{place_of}
+use Rattle.sig_base.specs.Judged.{must}
+use Rattle.yaml_tree.specs.Nodes.{place_of}
 use Rattle.uuid.specs.Text.{parsed}
 use Rattle.yaml_tree.specs.Tree.{Tree, Member}
-use Rattle.rule_model.specs.Nodes.{is_map, is_text, text_in, entries_in, at_key, required, text_at}
+use Rattle.yaml_tree.specs.Nodes.{is_map, is_text, text_in, entries_in, at_key, required, text_at}
 use Rattle.rule_model.specs.Plain.{PlainHead}
 
 -- a text of 1 to 256 characters

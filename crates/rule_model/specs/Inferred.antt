@@ -9,7 +9,7 @@ use Rattle.event_schema.specs.declared.schema.Schema.{Schema}
 use Rattle.sig_base.specs.Folding.{folded}
 use Rattle.sig_base.specs.declared.refusal.Place.{Place}
 use Rattle.sig_base.specs.declared.refusal.Refusal.{Refusal}
-use Rattle.sig_modifiers.specs.Judged.{must, first, refusal}
+use Rattle.sig_base.specs.Judged.{must, first, refusal}
 use Rattle.rule_model.specs.Plain.{PlainRule}
 use Rattle.rule_model.specs.declared.detection.Detection.{Detection}
 use Rattle.rule_model.specs.declared.item.Fields.{Fields}

@@ -6,12 +6,14 @@ use Rattle.sig_base.specs.declared.limits.Limits.{Limits}
 use Rattle.sig_base.specs.declared.refusal.Place.{Place}
 use Rattle.sig_base.specs.declared.refusal.Refusal.{Refusal}
 use Rattle.sig_modifiers.specs.Chains.{chain_of, chain_refusal, joined_of}
-use Rattle.sig_modifiers.specs.Judged.{must, first}
-use Rattle.sig_modifiers.specs.TestsOf.{TestsOf, place_of, value_refusal}
+use Rattle.sig_base.specs.Judged.{must, first}
+use Rattle.sig_modifiers.specs.TestsOf.{TestsOf, value_refusal}
+use Rattle.yaml_tree.specs.Nodes.{place_of}
 use Rattle.sig_modifiers.specs.Written.{Written}
 use Rattle.yaml_tree.specs.Tree.{Tree, Member}
-use Rattle.rule_model.specs.Keys.{name_in, words_in, is_keyword_key, is_item_key, is_empty}
-use Rattle.rule_model.specs.Nodes.{is_scalar, parts_in, key_place}
+use Rattle.rule_model.specs.Keys.{name_in, words_in, is_keyword_key, is_item_key}
+use Rattle.yaml_tree.specs.Nodes.{is_empty}
+use Rattle.yaml_tree.specs.Nodes.{is_scalar, parts_in, key_place}
 use Rattle.rule_model.specs.declared.item.Fields.{Fields}
 use Rattle.rule_model.specs.declared.item.Fields.TheVariants.{Keyword, Names}
 use Rattle.rule_model.specs.declared.item.Item.{Item}

@@ -1,6 +1,7 @@
 -- The keys of items: a field's name and modifiers, each behind a `|` (Sigma specification 2.0, field names and modifiers).
 use Rattle.std.specs.Prelude.{ℕ, Bool, true, false, not, ◌&&◌, ◌||◌, ◌==◌, nat_lt, nat_le, if◌then◌else◌, List, [], ◌∷◌, length}
 use Rattle.std.specs.List.{list_all}
+use Rattle.yaml_tree.specs.Nodes.{is_empty}
 
 -- the text before the first `|`, and the texts behind each `|`
 abbrev pub pieces : List ℕ → List ℕ × List (List ℕ)
@@ -12,10 +13,6 @@ name_in key = (pieces key).0
 
 abbrev pub words_in : List ℕ → List (List ℕ)
 words_in key = (pieces key).1
-
-abbrev pub is_empty : {A : Type 0} → List A → Bool
-is_empty [] = true
-is_empty (x ∷ xs) = false
 
 -- a character that names may have: no control character below U+0020, not U+007F, and no `|`
 abbrev pub is_name_char : ℕ → Bool

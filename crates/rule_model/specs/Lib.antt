@@ -1,6 +1,4 @@
 pub mod Lists
-pub mod Nodes
-pub mod Found
 pub mod Plain
 pub mod Heads
 pub mod Bare

@@ -3,12 +3,12 @@ use Rattle.std.specs.Prelude.{◌≡◌, [], ◌∷◌, codes, Some}
 use Rattle.std.specs.declared.option.Option.{Option}
 use Rattle.sig_base.specs.declared.limits.Limits.{Limits}
 use Rattle.sig_base.specs.declared.refusal.Refusal.{Refusal}
-use Rattle.sig_modifiers.specs.Judged.{first}
+use Rattle.sig_base.specs.Judged.{first}
 use Rattle.yaml_tree.specs.Tree.{Tree}
 use Rattle.rule_model.specs.Conditions.{conditions_refusal, AreConditions}
 use Rattle.rule_model.specs.Detections.{detections_refusal, AreDetections}
 use Rattle.rule_model.specs.Heads.{head_checks, IsHead}
-use Rattle.rule_model.specs.Nodes.{entries_in, value_in, required, refused_at}
+use Rattle.yaml_tree.specs.Nodes.{entries_in, value_in, required, refused_at}
 use Rattle.rule_model.specs.Plain.{PlainRule}
 use Rattle.rule_model.specs.Sources.{source_refusal, source_of}
 

@@ -2,10 +2,10 @@
 use Rattle.std.specs.Prelude.{◌||◌, [], ◌∷◌, codes}
 use Rattle.std.specs.declared.option.Option.{Option}
 use Rattle.sig_base.specs.declared.refusal.Refusal.{Refusal}
-use Rattle.sig_modifiers.specs.Judged.{must, first}
-use Rattle.sig_modifiers.specs.TestsOf.{place_of}
+use Rattle.sig_base.specs.Judged.{must, first}
+use Rattle.yaml_tree.specs.Nodes.{place_of}
 use Rattle.yaml_tree.specs.Tree.{Tree}
-use Rattle.rule_model.specs.Nodes.{is_map, is_text, has_key, at_key, text_at}
+use Rattle.yaml_tree.specs.Nodes.{is_map, is_text, has_key, at_key, text_at}
 use Rattle.rule_model.specs.declared.source.LogSource.{LogSource}
 
 -- a map of which `category`, `product` and `service` are texts, and one of them is there; its other keys are passed over

@@ -3,20 +3,18 @@
 ghost use Rattle.std.specs.Prelude.{◌≡◌, ◌<◌, ◌+◌, ◌*◌, not, map, filter, codes, length, IfOk, IfErr};
 ghost use Rattle.std.specs.List.{AllZip};
 ghost use Rattle.sig_conditions.specs.Formulas.{form_view, forms_view};
-ghost use Rattle.sig_modifiers.specs.Judged.{Judged};
+ghost use Rattle.sig_base.specs.Judged.{Judged};
 ghost use Rattle.yaml_tree.specs.View.{node_view, entries_view};
 ghost use Rattle.rule_model.specs.Conditions as spec;
 ghost use Rattle.rule_model.specs.Detections.{is_key};
 ghost use Rattle.rule_model.specs.Lists.{EachOf};
-ghost use Rattle.rule_model.specs.Nodes.{parts_in};
+ghost use Rattle.yaml_tree.specs.Nodes.{parts_in};
 ghost use Rattle.rule_model.specs.Whole.{IsSome, IsWholeForm};
 
-use crate::nodes::{all_entries, is_empty, parts_of, place_of, text_of};
-use crate::tables::{must, refused, value_at};
-use sig_base::{Code, Fault, Limits, Text, Texts};
+use sig_base::{Code, Fault, Limits, Text, Texts, must, refused};
 use sig_conditions::{Formula, Names, read_condition, resolve_condition};
 use std::alloc::Global;
-use yaml_tree::{Entry, Node};
+use yaml_tree::{Entry, Node, all_entries, is_empty, parts_of, place_of, text_of, value_at};
 
 #[cfg(test)]
 mod tests;

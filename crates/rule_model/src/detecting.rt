@@ -2,25 +2,23 @@
 
 ghost use Rattle.std.specs.Prelude.{◌≡◌, ◌∷◌, [], filter, map as list_map, codes, IfOk};
 ghost use Rattle.std.specs.List.{AllZip, list_any};
-ghost use Rattle.sig_modifiers.specs.Judged.{Judged, first};
+ghost use Rattle.sig_base.specs.Judged.{Judged, first};
 ghost use Rattle.sig_modifiers.specs.Lists.{EachOf};
 ghost use Rattle.yaml_tree.specs.View.{node_view, nodes_view, entry_view, entries_view};
 ghost use Rattle.rule_model.specs.Detections as spec;
 ghost use Rattle.rule_model.specs.Items.{IsItem, item_refusal, keyword_refusal};
-ghost use Rattle.rule_model.specs.Keys.{is_empty as spec_is_empty};
-ghost use Rattle.rule_model.specs.Nodes.{parts_in};
+ghost use Rattle.yaml_tree.specs.Nodes.{is_empty as spec_is_empty};
+ghost use Rattle.yaml_tree.specs.Nodes.{parts_in};
 ghost use Rattle.rule_model.specs.Whole.{IsWholeItem, IsWholeAlternative, IsWholeDetection};
 
 use crate::detection::{Alternative, Alternatives, Detection, Detections};
 use crate::item::Item;
-use crate::nodes::{
-    all_entries, entries_of, is_empty, is_map, is_null, is_scalar, parts_of, place_of,
-};
-use crate::tables::{must, refused};
-use sig_base::{Code, Fault, Limits, Place, Text};
+use sig_base::{Code, Fault, Limits, Place, Text, must, refused};
 use sig_conditions::is_identifier;
 use std::alloc::Global;
-use yaml_tree::{Entry, Node};
+use yaml_tree::{
+    Entry, Node, all_entries, entries_of, is_empty, is_map, is_null, is_scalar, parts_of, place_of,
+};
 
 #[cfg(test)]
 mod tests;

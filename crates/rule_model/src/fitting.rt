@@ -2,7 +2,7 @@
 
 ghost use Rattle.std.specs.Prelude.{◌≡◌, map};
 ghost use Rattle.std.specs.List.{flat_map};
-ghost use Rattle.sig_modifiers.specs.Judged.{first};
+ghost use Rattle.sig_base.specs.Judged.{first};
 ghost use Rattle.rule_model.specs.Fitting.{keyword_line};
 ghost use Rattle.rule_model.specs.Inferred as spec;
 ghost use Rattle.rule_model.specs.Plain.{rule_view};

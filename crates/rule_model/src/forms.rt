@@ -4,20 +4,18 @@ ghost use Rattle.std.specs.Prelude.{◌≡◌, ◌&&◌, [], ◌∷◌, true, le
 ghost use Rattle.std.specs.List.{list_any};
 ghost use Rattle.std.specs.Str.{bytes_eq, chars};
 ghost use Rattle.sig_base.specs.Texts.{is_ascii};
-ghost use Rattle.sig_modifiers.specs.Judged.{Judged};
+ghost use Rattle.sig_base.specs.Judged.{Judged};
 ghost use Rattle.uuid.specs.Text.{parsed};
 ghost use Rattle.yaml_tree.specs.View.{node_view};
 ghost use Rattle.rule_model.specs.Forms as forms;
 ghost use Rattle.rule_model.specs.Heads as heads;
-ghost use Rattle.rule_model.specs.Nodes as spec;
+ghost use Rattle.yaml_tree.specs.Nodes as spec;
 
 use crate::dates::is_day;
-use crate::nodes::{place_of, text_of};
-use crate::tables::{must, value_at};
-use sig_base::{Code, Fault, Text};
+use sig_base::{Code, Fault, Text, count_of, must};
 use std::alloc::Global;
 use uuid::Uuid;
-use yaml_tree::Node;
+use yaml_tree::{Node, place_of, text_of, value_at};
 
 /// What is asked of a value: a text, or one of these texts.
 #[derive(Clone, Copy)]
@@ -61,13 +59,6 @@ impl Form {
             Form::Level => is_level(text),
         }
     }
-}
-
-/// How many characters a text has.
-fn count_of(text: &str) -> usize
-    ensures { result ≡ length (chars text.now) }
-{
-    text.chars().count()
 }
 
 /// Whether the text has 1 to 256 characters.

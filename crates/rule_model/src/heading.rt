@@ -1,20 +1,18 @@
 //! Reading the head of a rule.
 
 ghost use Rattle.std.specs.Prelude.{◌≡◌, not, filter, codes, Some, IfOk, IfErr};
-ghost use Rattle.sig_modifiers.specs.Judged.{Judged, first};
+ghost use Rattle.sig_base.specs.Judged.{Judged, first};
 ghost use Rattle.yaml_tree.specs.View.{node_view, entry_view, entries_view};
 ghost use Rattle.rule_model.specs.Bare.{head_with};
 ghost use Rattle.rule_model.specs.Heads as heads;
-ghost use Rattle.rule_model.specs.Nodes as spec;
+ghost use Rattle.yaml_tree.specs.Nodes as spec;
 ghost use Rattle.rule_model.specs.Plain.{head_view};
 
 use crate::forms::{Form, at_key, copy_at, copy_characters};
 use crate::head::Head;
-use crate::nodes::{all_entries, is_map, place_of};
-use crate::tables::{must, refused, value_at};
-use sig_base::{Code, Fault};
+use sig_base::{Code, Fault, must, refused};
 use std::alloc::Global;
-use yaml_tree::{Entry, Node};
+use yaml_tree::{Entry, Node, all_entries, is_map, place_of, value_at};
 
 /// Whether the head checks what stands at the entry's key.
 fn is_checked(entry: &Entry) -> bool

@@ -2,23 +2,21 @@
 
 ghost use Rattle.std.specs.Prelude.{◌≡◌, true, not, map as list_map, [], ◌∷◌, if◌then◌else◌, length, nat_le, IfOk, IfErr};
 ghost use Rattle.std.specs.List.{AllZip};
-ghost use Rattle.sig_modifiers.specs.Judged.{Judged, first, must};
+ghost use Rattle.sig_base.specs.Judged.{Judged, first, must};
 ghost use Rattle.sig_modifiers.specs.Lists.{EachOf};
 ghost use Rattle.sig_modifiers.specs.PlainTests.{ArePlainTests};
 ghost use Rattle.sig_modifiers.specs.TestsOf.{TestsOf, value_refusal};
 ghost use Rattle.yaml_tree.specs.View.{node_view, nodes_view, entry_view};
 ghost use Rattle.rule_model.specs.Items as spec;
-ghost use Rattle.rule_model.specs.Nodes.{parts_in};
+ghost use Rattle.yaml_tree.specs.Nodes.{parts_in};
 ghost use Rattle.rule_model.specs.Whole.{IsWholeItem};
 
 use crate::item::{Fields, Item, Values};
 use crate::keys::Key;
-use crate::nodes::{is_empty, is_scalar, parts_of, place_of};
-use crate::tables::must;
-use sig_base::{Code, Fault, Limits, Place, Text, Texts};
+use sig_base::{Code, Fault, Limits, Place, Text, Texts, must};
 use sig_modifiers::{Chain, resolve};
 use std::alloc::Global;
-use yaml_tree::{Entry, Node};
+use yaml_tree::{Entry, Node, is_empty, is_scalar, parts_of, place_of};
 
 /// Refuses a value that is no scalar.
 fn check_shape(value: &Node) -> Result<(), Fault>

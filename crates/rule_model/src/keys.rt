@@ -4,12 +4,10 @@ ghost use Rattle.std.specs.Prelude.{◌≡◌, ◌<◌, ◌&&◌, not, true, len
 ghost use Rattle.std.specs.List.{list_all};
 ghost use Rattle.std.specs.Str.{chars, all_scalars};
 ghost use Rattle.rule_model.specs.Keys as spec;
-ghost use Rattle.sig_modifiers.specs.Judged.{Judged, must};
+ghost use Rattle.sig_base.specs.Judged.{Judged, must};
 ghost use Rattle.rule_model.specs.Pieces.{IsKey, pieces_behind};
 
-use crate::tables::must;
-use matching::first_char;
-use sig_base::{Code, Fault, Place, Text, Texts};
+use sig_base::{Code, Fault, Place, Text, Texts, count_of, first_char, must};
 use std::alloc::Global;
 
 /// A field's name, the words of its modifiers, and whether there is no name, so that the values are keywords.
@@ -60,12 +58,6 @@ fn has_name_chars(name: &str) -> bool
     ensures { result ≡ list_all spec.is_name_char (chars name.now) }
 {
     name.chars().all(is_name_char)
-}
-
-fn count_of(text: &str) -> usize
-    ensures { result ≡ length (chars text.now) }
-{
-    text.chars().count()
 }
 
 /// Whether this may be the name of a field.

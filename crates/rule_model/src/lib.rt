@@ -22,11 +22,9 @@ mod item;
 mod itemizing;
 mod keys;
 mod law;
-mod nodes;
 mod reading;
 mod rule;
 #[cfg(test)]
 mod rule_tests;
 mod source;
 mod sourcing;
-mod tables;

@@ -1,7 +1,7 @@
 //! Reading a rule.
 
 ghost use Rattle.std.specs.Prelude.{◌≡◌, IfOk};
-ghost use Rattle.sig_modifiers.specs.Judged.{Judged};
+ghost use Rattle.sig_base.specs.Judged.{Judged};
 ghost use Rattle.yaml_tree.specs.View.{node_view};
 ghost use Rattle.rule_model.specs.Bare.{rule_with};
 ghost use Rattle.rule_model.specs.Heads.{rest_of};
@@ -13,13 +13,11 @@ use crate::conditioning::read_conditions;
 use crate::detecting::read_detections;
 use crate::head::Head;
 use crate::heading::copy_rest;
-use crate::nodes::{all_entries, place_of};
 use crate::rule::Rule;
 use crate::source::LogSource;
-use crate::tables::{refused, value_at};
-use sig_base::{Code, Fault, Limits};
+use sig_base::{Code, Fault, Limits, refused};
 use std::alloc::Global;
-use yaml_tree::Node;
+use yaml_tree::{Node, all_entries, place_of, value_at};
 
 impl Rule {
     /// Reads the rule that a document is. What is refused first is answered: the head's keys in their order, then

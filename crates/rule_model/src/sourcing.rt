@@ -1,17 +1,15 @@
 //! Reading the log source of a rule.
 
 ghost use Rattle.std.specs.Prelude.{◌≡◌};
-ghost use Rattle.sig_modifiers.specs.Judged.{Judged};
+ghost use Rattle.sig_base.specs.Judged.{Judged};
 ghost use Rattle.yaml_tree.specs.View.{node_view};
 ghost use Rattle.rule_model.specs.Sources.{source_of, source_refusal};
 
 use crate::forms::{Form, at_key, copy_at};
-use crate::nodes::{is_map, place_of};
 use crate::source::LogSource;
-use crate::tables::{has_key, must};
-use sig_base::{Code, Fault};
+use sig_base::{Code, Fault, must};
 use std::alloc::Global;
-use yaml_tree::Node;
+use yaml_tree::{Node, has_key, is_map, place_of};
 
 /// Checks the keys of a log source in their order.
 fn check_source(node: &Node) -> Result<(), Fault>

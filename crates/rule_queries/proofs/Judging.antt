@@ -16,7 +16,7 @@ use Rattle.rule_model.specs.Rules.{rule_refusal, IsRule}
 use Rattle.rule_queries.specs.Verdicts.{ConvertAnswers, no_query}
 use Rattle.yaml_tree.specs.Tree.{Tree, Member}
 use Rattle.rule_model.specs.Bare.{rule_with}
-use Rattle.sig_modifiers.specs.Judged.{first, Judged}
+use Rattle.sig_base.specs.Judged.{first, Judged}
 use Rattle.sql_lang.specs.Expression.{depth}
 use Rattle.sqlite_writer.specs.Queries.{query_expr, query_bytes}
 use Rattle.rule_lowering.specs.Leaves.{leaves}

@@ -7,7 +7,7 @@ use Rattle.std.proofs.lemmas.Slice.Eq.{bytes_eq-Decides}
 use Rattle.sig_base.specs.Folding.{folded}
 use Rattle.sig_base.specs.declared.refusal.Place.{Place}
 use Rattle.sig_base.specs.declared.refusal.Refusal.{Refusal}
-use Rattle.sig_modifiers.specs.Judged.{refusal}
+use Rattle.sig_base.specs.Judged.{refusal}
 use Rattle.sqlite_writer.specs.Schemas.{AreScalars, IsOther, AreApart}
 use Rattle.rule_model.specs.Inferred.{Use, clashes, clash_behind, distinct, uses_of, items_of, names_in, rule_names, schema_refusal}
 use Rattle.rule_model.specs.Lists.{EachOf}

@@ -14,7 +14,7 @@ use Rattle.sig_base.specs.declared.limits.Limits.{Limits}
 use Rattle.sig_base.specs.declared.refusal.Detail.TheVariants.{Numbers}
 use Rattle.sig_base.specs.declared.refusal.Place.{Place}
 use Rattle.sig_base.specs.declared.refusal.Refusal.{Refusal}
-use Rattle.sig_modifiers.specs.Judged.{first}
+use Rattle.sig_base.specs.Judged.{first}
 use Rattle.sql_lang.specs.Expression.{Expr, depth}
 use Rattle.sql_lang.specs.Meaning.{SqlSelects}
 use Rattle.sql_lang.specs.Reading.{Reads, ReadsWithin}

@@ -6,7 +6,7 @@ ghost use Rattle.rule_model.specs.Plain.{rule_view};
 ghost use Rattle.rule_model.specs.Whole.{IsWhole};
 ghost use Rattle.rule_queries.specs.Queries.{query_of, query_refusal, size_checks};
 ghost use Rattle.rule_queries.specs.Verdicts.{ConvertAnswers, CheckAnswers};
-ghost use Rattle.sig_modifiers.specs.Judged.{Judged, first};
+ghost use Rattle.sig_base.specs.Judged.{Judged, first};
 ghost use Rattle.yaml_tree.specs.View.{node_view};
 
 use event_schema::Schema;

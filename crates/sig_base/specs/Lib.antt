@@ -2,6 +2,8 @@ pub mod Causes
 pub mod Codes
 pub mod Files
 pub mod Folding
+pub mod Fronts
+pub mod Judged
 pub mod Memory
 pub mod Shelves
 pub mod Texts

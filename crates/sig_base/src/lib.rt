@@ -2,9 +2,11 @@
 #![tactic(auto)]
 
 pub use bytes::Bytes;
+pub use characters::{count_of, first_char};
 pub use code::Code;
 pub use faults::{Failed, LineFault, LineStep, ShelfFault};
 pub use folding::fold;
+pub use judging::{must, refused};
 pub use limits::Limits;
 pub use memory::{MemoryShelf, MemorySink, MemorySource};
 pub use put::put_all;
@@ -16,9 +18,11 @@ pub use text::Text;
 pub use texts::Texts;
 
 mod bytes;
+mod characters;
 mod code;
 mod faults;
 mod folding;
+mod judging;
 mod limits;
 mod memory;
 mod put;

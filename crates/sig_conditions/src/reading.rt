@@ -11,7 +11,7 @@ use crate::reader::read_words;
 use crate::scan::{has_character, scan};
 use crate::stop::Stop;
 use crate::word::Word;
-use sig_base::{Code, Detail, Fault, Limits, Place, Refusal};
+use sig_base::{Code, Fault, Limits, Place, refused};
 use std::alloc::Global;
 
 /// 1 at the words `(` and `not`, and 0 at the others.
@@ -35,17 +35,6 @@ fn count_nesting(words: &[Word]) -> usize
         count += weight(word);
     }
     count
-}
-
-/// A refusal of the condition's text.
-fn refused(code: Code, place: Place) -> Fault
-    ensures { result ≡ Fault.Refused (record { code = code; place = place; detail = Detail.None }) }
-{
-    Fault::Refused(Refusal {
-        code,
-        place,
-        detail: Detail::None,
-    })
 }
 
 /// Reads a condition, whose names may be any: `OldAggregation` at a `|`, `ConditionDepth` past so many words `(` and

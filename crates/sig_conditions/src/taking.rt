@@ -7,8 +7,8 @@ ghost use Rattle.sig_conditions.specs.Taken.{fits, is_hidden, taken, takes};
 
 use crate::formula::Formula;
 use crate::selector::Selector;
-use matching::{Cursor, Step, Taker, first_char, matches_whole};
-use sig_base::Text;
+use matching::{Cursor, Step, Taker, matches_whole};
+use sig_base::{Text, first_char};
 use std::alloc::{AllocError, Global};
 
 /// A word with stars, from some place on.

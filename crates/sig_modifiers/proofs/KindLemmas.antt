@@ -10,9 +10,10 @@ use Rattle.sig_strings.specs.Spells.{Spells, SpellsFront, star, question, escape
 use Rattle.sig_strings.specs.declared.part.Part.{Part}
 use Rattle.sig_strings.specs.declared.part.Part.TheVariants.{Run}
 use Rattle.yaml_tree.specs.Tree.{Tree, null, truth, whole, text, scalar, list, map}
-use Rattle.sig_modifiers.specs.Judged.{must, first}
+use Rattle.sig_base.specs.Judged.{must, first}
 use Rattle.sig_modifiers.specs.Kinds.{is_fits, is_plain}
-use Rattle.sig_modifiers.specs.TestsOf.{Use, unused, absent, existing, pattern, number, UseTests, TestsOf, use_of, form_use, form_of, use_refusal, value_refusal, pattern_of, all_edited, edited, place_of, has_nul}
+use Rattle.sig_modifiers.specs.TestsOf.{Use, unused, absent, existing, pattern, number, UseTests, TestsOf, use_of, form_use, form_of, use_refusal, value_refusal, pattern_of, all_edited, edited, has_nul}
+use Rattle.yaml_tree.specs.Nodes.{place_of}
 use Rattle.sig_modifiers.specs.Written.{Written}
 use Rattle.sig_modifiers.specs.declared.form.Form.TheVariants.{Texts}
 use Rattle.sig_modifiers.specs.declared.form.Form.{Form}

@@ -7,7 +7,8 @@ use Rattle.sig_strings.specs.declared.part.Part.{Part}
 use Rattle.sig_strings.specs.Spells.{Spells}
 use Rattle.yaml_tree.specs.Tree.{Tree}
 use Rattle.sig_modifiers.specs.Chains.{is_cased}
-use Rattle.sig_modifiers.specs.TestsOf.{Use, unused, absent, existing, pattern, number, UseTests, TestsOf, use_of, use_refusal, value_refusal, pattern_of, place_of}
+use Rattle.sig_modifiers.specs.TestsOf.{Use, unused, absent, existing, pattern, number, UseTests, TestsOf, use_of, use_refusal, value_refusal, pattern_of}
+use Rattle.yaml_tree.specs.Nodes.{place_of}
 use Rattle.sig_modifiers.specs.Written.{Written}
 use Rattle.sig_modifiers.specs.declared.test.Test.{Test}
 use Rattle.sig_modifiers.specs.declared.test.Test.TheVariants as tests

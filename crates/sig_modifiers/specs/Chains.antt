@@ -4,7 +4,7 @@ use Rattle.std.specs.List.{filter_map, list_all, list_any}
 use Rattle.sig_base.specs.declared.refusal.Place.{Place}
 use Rattle.sig_base.specs.declared.refusal.Refusal.{Refusal}
 use Rattle.sig_base.specs.declared.refusal.Detail.TheVariants as details
-use Rattle.sig_modifiers.specs.Judged.{must, first}
+use Rattle.sig_base.specs.Judged.{must, first}
 use Rattle.sig_modifiers.specs.Words.{modifier_of, is_unknown}
 use Rattle.sig_modifiers.specs.Written.{Written}
 use Rattle.sig_modifiers.specs.declared.modifier.Joined.{Joined}

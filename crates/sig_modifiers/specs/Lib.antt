@@ -1,6 +1,5 @@
 pub mod Chains
 pub mod Holds
-pub mod Judged
 pub mod Kinds
 pub mod Lists
 pub mod PlainTests

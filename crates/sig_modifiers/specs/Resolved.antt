@@ -3,7 +3,7 @@ use Rattle.std.specs.Prelude.{ℕ, List, Result}
 use Rattle.sig_base.specs.declared.refusal.Fault.{Fault}
 use Rattle.sig_base.specs.declared.refusal.Place.{Place}
 use Rattle.yaml_tree.specs.Tree.{Scalar}
-use Rattle.sig_modifiers.specs.Judged.{Judged}
+use Rattle.sig_base.specs.Judged.{Judged}
 use Rattle.sig_modifiers.specs.TestsOf.{Use, UseTests, use_refusal, scalar_use, form_of}
 use Rattle.sig_modifiers.specs.Written.{Written}
 use Rattle.sig_modifiers.specs.declared.test.Test.{Test}

@@ -8,7 +8,7 @@ use Rattle.sig_strings.specs.Spells.{Spells}
 use Rattle.sig_strings.specs.Edits.{with_run_before, with_run_after}
 use Rattle.sig_strings.specs.declared.part.Part.{Part}
 use Rattle.yaml_tree.specs.Tree.{At, Scalar, null, truth, whole, text, Tree, scalar, list, map}
-use Rattle.sig_modifiers.specs.Judged.{must, first}
+use Rattle.sig_base.specs.Judged.{must, first}
 use Rattle.sig_modifiers.specs.Chains.{is_position, is_cased, is_empty, is_presence}
 use Rattle.sig_modifiers.specs.Written.{Written}
 use Rattle.sig_modifiers.specs.declared.modifier.Modifier.{Modifier}
@@ -69,14 +69,6 @@ form_use form (map at parts) = unused
 
 abbrev pub use_of : Written → Tree → Use
 use_of chain value = form_use (form_of chain) value
-
-abbrev pub at_of : Tree → At
-at_of (scalar at s) = at
-at_of (list at parts) = at
-at_of (map at parts) = at
-
-abbrev pub place_of : Tree → Place
-place_of value = record { line = (at_of value).line; column = (at_of value).column }
 
 abbrev pub is_used : Use → Bool
 is_used unused = false

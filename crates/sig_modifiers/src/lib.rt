@@ -21,7 +21,6 @@ mod holding_checks;
 mod law;
 mod modifier;
 mod reading;
-mod refusing;
 mod resolving;
 mod test;
 mod test_list;

@@ -1,13 +1,12 @@
 ghost use Rattle.std.specs.Prelude.{◌≡◌, find};
 ghost use Rattle.sig_modifiers.specs.Chains as chains;
-ghost use Rattle.sig_modifiers.specs.Judged.{Judged};
+ghost use Rattle.sig_base.specs.Judged.{Judged};
 ghost use Rattle.sig_modifiers.specs.Words as names;
 
 use crate::chain::Chain;
 use crate::counting::is_chain;
 use crate::modifier::Modifier;
-use crate::refusing::refused;
-use sig_base::{Code, Detail, Fault, Place, Refusal, Text};
+use sig_base::{Code, Detail, Fault, Place, Refusal, Text, refused};
 use std::alloc::Global;
 
 /// The modifier that a word names.

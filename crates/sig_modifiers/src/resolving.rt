@@ -2,7 +2,7 @@
 
 ghost use Rattle.std.specs.Prelude.{◌≡◌, ◌∷◌, [], false, IfOk, IfErr};
 ghost use Rattle.std.specs.Str.{chars};
-ghost use Rattle.sig_modifiers.specs.Judged.{Judged};
+ghost use Rattle.sig_base.specs.Judged.{Judged};
 ghost use Rattle.sig_modifiers.specs.PlainTests.{IsPlainPattern, ArePlainTests};
 ghost use Rattle.sig_modifiers.specs.Resolved.{UseJudged, ScalarJudged};
 ghost use Rattle.sig_modifiers.specs.TestsOf as uses;
@@ -12,12 +12,11 @@ ghost use Rattle.yaml_tree.specs.View.{node_view};
 
 use crate::chain::Chain;
 use crate::form::Form;
-use crate::refusing::refused;
 use crate::test::Test;
 use crate::test_list::Tests;
 use event_schema::decimal_in;
 use itoa::Buffer;
-use sig_base::{Code, Fault, Limits, Place, Text};
+use sig_base::{Code, Fault, Limits, Place, Text, refused};
 use sig_strings::Pattern;
 use std::alloc::Global;
 use yaml_tree::{Kind, Node};

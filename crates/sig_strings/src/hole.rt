@@ -3,8 +3,7 @@ ghost use Rattle.std.specs.Str.{chars};
 ghost use Rattle.sig_strings.specs.Spells.{is_special as is_special_char, is_word_char};
 ghost use Rattle.sig_strings.specs.Signs as signs;
 
-use matching::first_char;
-use sig_base::{Fault, Text};
+use sig_base::{Fault, Text, first_char};
 use std::alloc::Global;
 
 /// Whether this is a character of `[A-Za-z0-9_]`.

@@ -9,8 +9,7 @@ use crate::hole::{hole_end, hole_name, is_special};
 use crate::part::Part;
 use crate::pattern::Pattern;
 use crate::sign::Sign;
-use matching::first_char;
-use sig_base::{Code, Detail, Fault, Limits, Place, Refusal};
+use sig_base::{Code, Detail, Fault, Limits, Place, Refusal, count_of, first_char};
 use std::alloc::Global;
 
 /// What stands at the front of a text behind its first backslash, and the rest.
@@ -112,13 +111,6 @@ fn read_parts(alloc: Global, text: &str, expand: bool) -> Result<Pattern, Fault>
         parts.push(part)?;
         left = rest;
     }
-}
-
-/// How many characters a text has.
-fn count_of(text: &str) -> usize
-    ensures { result ≡ length (chars text.now) }
-{
-    text.chars().count()
 }
 
 /// Whether a text has more characters than these.

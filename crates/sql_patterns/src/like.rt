@@ -4,7 +4,8 @@ ghost use Rattle.std.specs.Prelude.{◌≡◌, true, length};
 ghost use Rattle.std.specs.Str.{chars};
 ghost use Rattle.sql_lang.specs.Meaning.{like_fits, is_escape};
 
-use matching::{Cursor, Step, Taker, first_char, matches_whole};
+use matching::{Cursor, Step, Taker, matches_whole};
+use sig_base::first_char;
 
 /// What is left of a pattern.
 #[derive(Clone, Copy)]

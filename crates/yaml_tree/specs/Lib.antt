@@ -1,3 +1,5 @@
 pub mod Tree
 pub mod View
 pub mod Texts
+pub mod Nodes
+pub mod Found

@@ -1,6 +1,6 @@
 use Rattle.std.proofs.Common.{◌∙◌, sym, ap, subst, map, List, take, ◌+◌}
 use Rattle.std.specs.List.{AllZip}
-use Rattle.sig_modifiers.specs.Judged.{first}
+use Rattle.sig_base.specs.Judged.{first}
 use Rattle.sig_conditions.specs.Formulas.{Form, form_view, forms_view}
 use Rattle.sig_conditions.specs.declared.formula.Formula.{Formula}
 use Rattle.yaml_tree.specs.Tree.{Tree}

@@ -1,7 +1,7 @@
 use Rattle.std.proofs.Common.{◌≡◌, drop, take, map}
 use Rattle.std.specs.List.{AllZip}
 use Rattle.sig_conditions.specs.Formulas.{forms_view}
-use Rattle.sig_modifiers.specs.Judged.{first}
+use Rattle.sig_base.specs.Judged.{first}
 use Rattle.yaml_tree.specs.View.{nodes_view}
 use Rattle.rule_model.specs.Conditions.{IsFormula, condition_refusal}
 use Rattle.rule_model.proofs.conditioning.read_listed.Given as goal

@@ -1,6 +1,6 @@
 use Rattle.std.proofs.Common.{◌≡◌, drop, map, take}
 use Rattle.std.specs.List.{AllZip}
-use Rattle.sig_modifiers.specs.Judged.{first}
+use Rattle.sig_base.specs.Judged.{first}
 use Rattle.yaml_tree.specs.View.{entries_view}
 use Rattle.rule_model.specs.Items.{IsItem, item_refusal}
 use Rattle.rule_model.specs.Lists.{EachOf}

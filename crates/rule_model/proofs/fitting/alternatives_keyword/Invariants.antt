@@ -1,6 +1,6 @@
 use Rattle.std.proofs.Common.{◌≡◌, drop, map}
 use Rattle.std.specs.List.{flat_map}
-use Rattle.sig_modifiers.specs.Judged.{first}
+use Rattle.sig_base.specs.Judged.{first}
 use Rattle.rule_model.specs.Fitting.{keyword_line}
 use Rattle.rule_model.proofs.fitting.alternatives_keyword.Given as goal
 

@@ -1,5 +1,5 @@
 use Rattle.std.proofs.Common.{◌≡◌, drop, map}
-use Rattle.sig_modifiers.specs.Judged.{first}
+use Rattle.sig_base.specs.Judged.{first}
 use Rattle.rule_model.specs.Fitting.{keyword_line}
 use Rattle.rule_model.specs.Inferred.{items_of}
 use Rattle.rule_model.proofs.fitting.detections_keyword.Given as goal

@@ -1,5 +1,5 @@
 use Rattle.std.proofs.Common.{◌≡◌, drop, map}
-use Rattle.sig_modifiers.specs.Judged.{first}
+use Rattle.sig_base.specs.Judged.{first}
 use Rattle.yaml_tree.specs.View.{nodes_view}
 use Rattle.rule_model.specs.Items.{shape_refusal}
 use Rattle.rule_model.proofs.itemizing.check_shapes.Given as goal

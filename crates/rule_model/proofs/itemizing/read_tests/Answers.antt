@@ -2,13 +2,14 @@ use Rattle.std.proofs.Common.{ℕ, refl, ◌≡◌, ◌∙◌, List, length, map
 use Rattle.std.specs.Prelude.{None}
 use Rattle.std.specs.List.{AllZip}
 use Rattle.std.proofs.lemmas.List.{length-map}
-use Rattle.sig_modifiers.specs.Judged.{first, must, Judged}
-use Rattle.sig_modifiers.specs.TestsOf.{TestsOf, value_refusal, place_of}
+use Rattle.sig_base.specs.Judged.{first, must, Judged}
+use Rattle.sig_modifiers.specs.TestsOf.{TestsOf, value_refusal}
+use Rattle.yaml_tree.specs.Nodes.{place_of}
 use Rattle.yaml_tree.specs.Tree.{Tree}
 use Rattle.yaml_tree.specs.View.{node_view, nodes_view}
 use Rattle.rule_model.specs.Items.{shape_refusal, values_refusal}
-use Rattle.rule_model.specs.Keys.{is_empty}
-use Rattle.rule_model.specs.Nodes.{parts_in}
+use Rattle.yaml_tree.specs.Nodes.{is_empty}
+use Rattle.yaml_tree.specs.Nodes.{parts_in}
 use Rattle.rule_model.proofs.Lines.{skips, first_one, judged_last, must_same}
 use Rattle.rule_model.proofs.itemizing.read_tests.Goals as goal
 

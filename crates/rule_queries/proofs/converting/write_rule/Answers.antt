@@ -8,7 +8,7 @@ use Rattle.rule_model.specs.Plain.{rule_view}
 use Rattle.rule_model.proofs.Firsts.{hands_on}
 use Rattle.rule_queries.specs.Queries.{query_of, size_checks}
 use Rattle.rule_queries.proofs.Judging.{written, too_many}
-use Rattle.sig_modifiers.specs.Judged.{first}
+use Rattle.sig_base.specs.Judged.{first}
 use Rattle.rule_queries.proofs.converting.write_rule.Goals as goal
 
 pub returns : goal.returns

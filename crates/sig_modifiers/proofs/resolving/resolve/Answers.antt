@@ -2,7 +2,7 @@ use Rattle.std.proofs.Common.{ℕ, List, sym, subst}
 use Rattle.std.specs.Prelude.{Result}
 use Rattle.sig_base.specs.declared.refusal.Fault.{Fault}
 use Rattle.yaml_tree.specs.Tree.{Tree}
-use Rattle.sig_modifiers.specs.Judged.{Judged}
+use Rattle.sig_base.specs.Judged.{Judged}
 use Rattle.sig_modifiers.specs.TestsOf.{TestsOf, value_refusal}
 use Rattle.sig_modifiers.specs.Written.{Written}
 use Rattle.sig_modifiers.specs.declared.test.Test.{Test}

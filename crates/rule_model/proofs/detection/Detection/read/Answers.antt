@@ -3,15 +3,15 @@ use Rattle.std.specs.Prelude.{Result, None}
 use Rattle.std.specs.List.{AllZip}
 use Rattle.sig_base.specs.declared.limits.Limits.{Limits}
 use Rattle.sig_base.specs.declared.refusal.Fault.{Fault}
-use Rattle.sig_modifiers.specs.Judged.{Judged, must}
+use Rattle.sig_base.specs.Judged.{Judged, must}
 use Rattle.yaml_tree.specs.Tree.{Member}
 use Rattle.yaml_tree.specs.View.{node_view}
 use Rattle.rule_model.specs.Detections.{IsAlternative, IsDetection, content_refusal, detection_refusal, is_detection_key}
-use Rattle.rule_model.specs.Nodes.{parts_in}
+use Rattle.yaml_tree.specs.Nodes.{parts_in}
 use Rattle.rule_model.specs.declared.detection.Detection.{Detection}
 use Rattle.rule_model.proofs.Firsts.{hands_on}
 use Rattle.rule_model.proofs.Lines.{skips, stops, first_one}
-use Rattle.rule_model.proofs.Views.{member_of, view-Entry}
+use Rattle.yaml_tree.proofs.NodeViews.{member_of, view-Entry}
 use Rattle.rule_model.proofs.detection.Detection.read.Goals as goal
 
 abbrev Answered : Limits → Result Detection Fault → Member → Type 0

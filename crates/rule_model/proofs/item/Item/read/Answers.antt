@@ -6,20 +6,20 @@ use Rattle.sig_base.specs.declared.limits.Limits.{Limits}
 use Rattle.sig_base.specs.declared.refusal.Fault.{Fault}
 use Rattle.sig_base.specs.declared.refusal.Place.{Place}
 use Rattle.sig_modifiers.specs.Chains.{chain_of, chain_refusal, joined_of}
-use Rattle.sig_modifiers.specs.Judged.{Judged, must}
+use Rattle.sig_base.specs.Judged.{Judged, must}
 use Rattle.sig_modifiers.specs.Written.{Written}
 use Rattle.sig_modifiers.specs.TestsOf.{TestsOf}
 use Rattle.yaml_tree.specs.Tree.{Member}
 use Rattle.yaml_tree.specs.View.{node_view, entry_view}
 use Rattle.rule_model.specs.Items.{IsItem, item_refusal, values_refusal, key_chain}
 use Rattle.rule_model.specs.Keys.{is_item_key, is_keyword_key, name_in, words_in}
-use Rattle.rule_model.specs.Nodes.{parts_in}
+use Rattle.yaml_tree.specs.Nodes.{parts_in}
 use Rattle.rule_model.specs.Pieces.{IsKey}
 use Rattle.rule_model.specs.declared.item.Fields.TheVariants.{Keyword, Names}
 use Rattle.rule_model.specs.declared.item.Item.{Item}
 use Rattle.rule_model.proofs.Firsts.{hands_on}
 use Rattle.rule_model.proofs.Lines.{skips, stops, first_one}
-use Rattle.rule_model.proofs.Views.{member_of, view-Entry}
+use Rattle.yaml_tree.proofs.NodeViews.{member_of, view-Entry}
 use Rattle.rule_model.proofs.WholeItems.{whole_item}
 use Rattle.rule_model.proofs.item.Item.read.Goals as goal
 

@@ -4,7 +4,7 @@ use Rattle.std.proofs.Common.{refl, sym, ap, ◌∙◌, rules}
 use Rattle.std.specs.declared.alloc.Global.{Global}
 use Rattle.std.specs.declared.vec.Vec.{Vec}
 use Rattle.sig_base.specs.declared.refusal.Place.{Place}
-use Rattle.sig_modifiers.specs.TestsOf.{place_of}
+use Rattle.yaml_tree.specs.Nodes.{place_of}
 use Rattle.yaml_tree.specs.Tree.{Tree, list, map, Member}
 use Rattle.yaml_tree.specs.View.{node_view, kind_view, place_view, entry_view, nodes_view, entries_view, elements_of, members_of}
 use Rattle.yaml_tree.specs.declared.tree.Node.{Node}
@@ -14,7 +14,7 @@ use Rattle.yaml_tree.specs.View.{kind_step, entry_step, node_step}
 use Rattle.yaml_tree.specs.Tree.{At}
 use Rattle.yaml_tree.specs.declared.tree.Kind.TheOpen.{Kind-F}
 use Rattle.yaml_tree.specs.declared.tree.Kind.TheFolds.{fold_out-Kind, fold_out-Entry, fold_out-Node}
-use Rattle.rule_model.specs.Nodes.{entries_in, parts_in, listed, entered}
+use Rattle.yaml_tree.specs.Nodes.{entries_in, parts_in, listed, entered}
 
 pub listed_again : (ts : List Tree) → listed (elements_of ts) ≡ ts
 listed_again [] = refl

@@ -1,7 +1,7 @@
 use Rattle.std.proofs.Common.{◌∙◌, ap, sym}
 use Rattle.yaml_tree.specs.View.{nodes_view}
-use Rattle.rule_model.proofs.Views.{list_parts}
-use Rattle.rule_model.proofs.nodes.elements_of.Goals as goal
+use Rattle.yaml_tree.proofs.NodeViews.{list_parts}
+use Rattle.yaml_tree.proofs.nodes.elements_of.Goals as goal
 
 pub returns-in-List-clause-some : goal.returns-in-List-clause-some
 returns-in-List-clause-some c =

@@ -7,8 +7,8 @@ use Rattle.sig_base.specs.Texts.{is_ascii}
 use Rattle.sig_base.proofs.TextLemmas.{ascii_chars}
 use Rattle.yaml_tree.specs.Tree.{Tree, scalar, list, map, Member}
 use Rattle.yaml_tree.specs.declared.tree.Node.{Node}
-use Rattle.rule_model.specs.Found.{IsFound}
-use Rattle.rule_model.specs.Nodes.{value_in, is_map, entries_in}
+use Rattle.yaml_tree.specs.Found.{IsFound}
+use Rattle.yaml_tree.specs.Nodes.{value_in, is_map, entries_in}
 
 pub found_at : (key : List ℕ) (es fs : List Member) (r : Option (Bor Node)) → is_ascii key ≡ true → es ≡ fs
     → IsFound (value_in (chars key) fs) r → IsFound (value_in key es) r

@@ -1,19 +1,19 @@
-//! Looking into the trees of documents, and checks of what is found there.
+//! Looking into the trees of documents.
 
 ghost use Rattle.std.specs.Prelude.{◌≡◌, true, false, [], ◌∷◌, Some, None, IfSome, IfNone};
 ghost use Rattle.std.specs.Str.{chars};
-ghost use Rattle.sig_modifiers.specs.TestsOf.{place_of};
+ghost use Rattle.sig_base.specs.Texts.{is_ascii};
 ghost use Rattle.yaml_tree.specs.View.{node_view, nodes_view, entry_view, entries_view};
-ghost use Rattle.rule_model.specs.Found.{IsFound};
-ghost use Rattle.rule_model.specs.Keys.{is_empty};
-ghost use Rattle.rule_model.specs.Nodes as spec;
+ghost use Rattle.yaml_tree.specs.Found.{IsFound};
+ghost use Rattle.yaml_tree.specs.Nodes.{is_empty, place_of};
+ghost use Rattle.yaml_tree.specs.Nodes as spec;
 
+use crate::tree::{Entry, Kind, Node};
 use sig_base::{Place, Text};
 use std::slice;
-use yaml_tree::{Entry, Kind, Node};
 
 /// The place of a node.
-#[tactic(auto, using(crate::proofs::Views::node_place))]
+#[tactic(auto, using(crate::proofs::NodeViews::node_place))]
 pub fn place_of(node: &Node) -> Place
     ensures { result ≡ place_of (node_view node.now) }
 {
@@ -40,7 +40,7 @@ pub fn is_map(node: &Node) -> bool
 }
 
 /// The entries of a map, in their order; none of another node.
-#[tactic(auto, using(crate::proofs::Found::no_entries))]
+#[tactic(auto, using(crate::proofs::FoundValues::no_entries))]
 pub fn all_entries(node: &Node) -> &[Entry]
     ensures { spec.entries_in (node_view node.now) ≡ entries_view result.now }
 {
@@ -120,4 +120,21 @@ pub fn find_value<'a>(entries: &'a [Entry], key: &str) -> Option<&'a Node>
         }
     }
     None
+}
+
+/// The value at a key of a map; none where the node is no map.
+#[tactic(auto, using(crate::proofs::FoundValues::found_at))]
+pub fn value_at<'a>(node: &'a Node, key: &str) -> Option<&'a Node>
+    requires { is_ascii key.now ≡ true }
+    ensures { IsFound (spec.value_in key.now (spec.entries_in (node_view node.now))) result }
+{
+    find_value(all_entries(node), key)
+}
+
+/// Whether a map has the key.
+pub fn has_key(node: &Node, key: &str) -> bool
+    requires { is_ascii key.now ≡ true }
+    ensures { result ≡ spec.has_key key.now (node_view node.now) }
+{
+    value_at(node, key).is_some()
 }

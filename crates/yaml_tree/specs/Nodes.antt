@@ -3,9 +3,21 @@ use Rattle.std.specs.Prelude.{ℕ, Bool, true, false, List, [], ◌∷◌, if◌
 use Rattle.std.specs.Str.{bytes_eq}
 use Rattle.sig_base.specs.declared.refusal.Place.{Place}
 use Rattle.sig_base.specs.declared.refusal.Refusal.{Refusal}
-use Rattle.sig_modifiers.specs.Judged.{must}
-use Rattle.sig_modifiers.specs.TestsOf.{place_of}
-use Rattle.yaml_tree.specs.Tree.{Scalar, null, truth, whole, text, Tree, scalar, list, map, Elements, no_elements, element, Members, no_members, member, Member}
+use Rattle.sig_base.specs.Judged.{must}
+use Rattle.yaml_tree.specs.Tree.{At, Scalar, null, truth, whole, text, Tree, scalar, list, map, Elements, no_elements, element, Members, no_members, member, Member}
+
+abbrev pub at_of : Tree → At
+at_of (scalar at s) = at
+at_of (list at parts) = at
+at_of (map at parts) = at
+
+-- the place of a node
+abbrev pub place_of : Tree → Place
+place_of value = record { line = (at_of value).line; column = (at_of value).column }
+
+abbrev pub is_empty : {A : Type 0} → List A → Bool
+is_empty [] = true
+is_empty (x ∷ xs) = false
 
 abbrev pub is_map : Tree → Bool
 is_map (scalar a s) = false

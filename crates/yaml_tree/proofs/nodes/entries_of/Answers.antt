@@ -1,7 +1,7 @@
 use Rattle.std.proofs.Common.{◌∙◌, ap, sym}
 use Rattle.yaml_tree.specs.View.{entries_view}
-use Rattle.rule_model.proofs.Views.{map_entries}
-use Rattle.rule_model.proofs.nodes.entries_of.Goals as goal
+use Rattle.yaml_tree.proofs.NodeViews.{map_entries}
+use Rattle.yaml_tree.proofs.nodes.entries_of.Goals as goal
 
 pub returns-in-Map-clause-some : goal.returns-in-Map-clause-some
 returns-in-Map-clause-some c =

@@ -1,6 +1,6 @@
 use Rattle.std.proofs.Common.{rules}
 use Rattle.std.proofs.lemmas.Str.{chars_from_encodes}
-use Rattle.rule_model.proofs.keys.count_of.Goals as goal
+use Rattle.sig_base.proofs.characters.count_of.Goals as goal
 
 pub returns : goal.returns
 returns c = search (rules, chars_from_encodes)

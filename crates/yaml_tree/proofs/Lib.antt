@@ -1,0 +1,2 @@
+pub mod FoundValues
+pub mod NodeViews
