@@ -28,7 +28,7 @@ fn decimal_pattern(alloc: Global, number: i64) -> Result<Pattern, Fault>
 {
     let text = decimal(alloc, number)?;
     let parts = text.as_str().chars().map(|c| Part::Char(c)).collect(alloc)?;
-    Ok(Pattern::of_parts(parts))
+    Pattern::of_parts(parts)
 }
 
 /// What a leaf asks for a test.
@@ -40,7 +40,7 @@ fn lower_test(alloc: Global, test: &Test) -> Result<LeafTest, Fault>
         Test::Absent | Test::Exists(false) => Ok(LeafTest::Absent),
         Test::Exists(true) => Ok(LeafTest::Has),
         Test::Fits { pattern, cased } => {
-            let pattern = pattern.copy(alloc)?;
+            let pattern = pattern.copy()?;
             Ok(LeafTest::Fits {
                 pattern,
                 cased: *cased,
