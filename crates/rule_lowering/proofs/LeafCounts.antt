@@ -12,7 +12,7 @@ use Rattle.rule_model.specs.declared.item.Fields.{Fields}
 use Rattle.rule_model.specs.declared.item.Fields.TheVariants.{Keyword, Names}
 use Rattle.rule_model.specs.declared.item.Item.{Item}
 use Rattle.sig_base.specs.declared.refusal.Place.{Place}
-use Rattle.sig_conditions.specs.Formulas.{Form, FDetection, FNot, FAnd, FOr, Forms, no_forms, form, forms_of, form_view, forms_view}
+use Rattle.sig_conditions.specs.Formulas.{Form, FDetection, FNot, FAnd, FOr, Forms, no_forms, form, forms_of, form_view, forms_view, numbered}
 use Rattle.sig_conditions.specs.declared.formula.Formula.{Formula}
 use Rattle.sig_modifiers.specs.declared.modifier.Joined.{Joined}
 use Rattle.sig_modifiers.specs.declared.modifier.Joined.TheVariants.{All, Any}
@@ -179,3 +179,7 @@ pub formula_trees_are : (fields : List Field) (ds : List Detection) (fs : List F
     → form_trees fields ds (forms_of (forms_view fs)) ≡ map (λ f. form_tree fields ds (form_view f)) fs
 formula_trees_are fields ds [] = refl
 formula_trees_are fields ds (f ∷ fs) = ap (λ (ts : List Plain). form_tree fields ds (form_view f) ∷ ts) (formula_trees_are fields ds fs)
+
+pub taken_trees_are : (fields : List Field) (ds : List Detection) (ns : List ℕ) → form_trees fields ds (forms_of (numbered ns)) ≡ map (numbered_tree fields ds) ns
+taken_trees_are fields ds [] = refl
+taken_trees_are fields ds (n ∷ ns) = ap (λ (ts : List Plain). numbered_tree fields ds n ∷ ts) (taken_trees_are fields ds ns)

@@ -1,18 +1,15 @@
 -- The numbers of a schema's fields, as the code keeps them.
-use Rattle.std.specs.Prelude.{ℕ, ◌≡◌, ◌<◌, ◌^◌, true, List, length, encode_utf8_all, String}
-use Rattle.std.specs.BTreeMap.{BTreeMap, get_by_text}
-use Rattle.std.specs.Str.{all_scalars}
-use Rattle.event_schema.specs.Rows.{field_number}
+use Rattle.std.specs.Prelude.{ℕ, ◌≡◌, ◌<◌, ◌^◌, List, length, map}
 use Rattle.event_schema.specs.declared.schema.Field.{Field}
 use Rattle.rule_lowering.specs.TreeOf.{searched}
 use Rattle.rule_lowering.specs.declared.numbers.Numbers.{Numbers}
 
--- each name has the number of its first field, and others have none
-pub record Indexes {Y : Type 0} (fields : List Field) (index : BTreeMap (String Y) ℕ) : Type 0 where
-  pub finds : (name : List ℕ) → all_scalars name ≡ true → get_by_text index (encode_utf8_all name) ≡ field_number fields name
+-- the names of fields, in their order
+abbrev pub names_of : List Field → List (List ℕ)
+names_of fields = map (λ field. field.name) fields
 
--- an index of all fields, and the numbers of those that keywords search
+-- an index of all names, and the numbers of those that keywords search
 pub record Numbered (fields : List Field) (numbers : Numbers) : Type 0 where
   pub few : length fields < 2 ^ 32
-  pub index : Indexes fields numbers.index
+  pub index : numbers.index ≡ names_of fields
   pub searched : numbers.searched.items ≡ searched fields

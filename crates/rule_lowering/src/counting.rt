@@ -3,7 +3,7 @@
 ghost use Rattle.std.specs.Prelude.{◌≡◌, ◌+◌, ◌-◌, ◌*◌, ◌^◌, ◌≤◌, min, slice_index, IfOk, IfErr};
 ghost use Rattle.rule_lowering.specs.Counts as spec;
 ghost use Rattle.rule_model.specs.Plain.{rule_view};
-ghost use Rattle.sig_conditions.specs.Formulas.{form_view, forms_view, forms_of};
+ghost use Rattle.sig_conditions.specs.Formulas.{form_view, forms_view, forms_of, numbered};
 
 use rule_model::{Alternative, Detection, Fields, Item, Rule};
 use sig_base::Fault;
@@ -95,6 +95,18 @@ fn count_of(counts: &[u128], number: u32) -> u128
     }
 }
 
+/// The tests of the detections of some numbers.
+fn count_taken(counts: &[u128], taken: &[u32]) -> u128
+    ensures count { result ≡ spec.forms_count (2 ^ 127 - 1) counts.now (forms_of (numbered taken.now)) }
+    ensures most { result ≤ 2 ^ 127 - 1 }
+{
+    let mut count = 0;
+    for number in taken {
+        count = add(count, count_of(counts, *number));
+    }
+    count
+}
+
 /// The tests of a formula over detections that have so many.
 #[cycle(counter)]
 fn count_formula(counts: &[u128], formula: &Formula) -> u128
@@ -103,6 +115,8 @@ fn count_formula(counts: &[u128], formula: &Formula) -> u128
 {
     match formula {
         Formula::Detection(number) => count_of(counts, *number),
+        Formula::OneOf(taken) => count_taken(counts, taken.as_slice()),
+        Formula::AllOf(taken) => count_taken(counts, taken.as_slice()),
         Formula::Not(part) => count_formula(counts, part),
         Formula::And(parts) => count_formulas(counts, parts),
         Formula::Or(parts) => count_formulas(counts, parts),

@@ -5,7 +5,7 @@ ghost use Rattle.backend_core.specs.View.{tree_view};
 ghost use Rattle.rule_lowering.specs.Joining.{join};
 ghost use Rattle.rule_lowering.specs.Numbered.{Numbered};
 ghost use Rattle.rule_lowering.specs.TreeOf as spec;
-ghost use Rattle.sig_conditions.specs.Formulas.{form_view, forms_view, forms_of};
+ghost use Rattle.sig_conditions.specs.Formulas.{form_view, forms_view, forms_of, numbered};
 
 use crate::joining::{add_part, close_parts};
 use crate::lowering::lower_numbered;
@@ -17,6 +17,27 @@ use sig_base::Fault;
 use sig_conditions::Formula;
 use sig_modifiers::Joined;
 use std::alloc::Global;
+
+/// All of the detections of some numbers, or any of them.
+fn lower_taken(
+    alloc: Global,
+    fields: &[Field],
+    numbers: &Numbers,
+    detections: &[Detection],
+    joined: Joined,
+    taken: &[u32],
+) -> Result<Tree, Fault>
+    requires { Numbered fields.now numbers.now }
+    ensures ok { IfOk result (λ t. tree_view t ≡ join joined (spec.form_trees fields.now detections.now (forms_of (numbered taken.now)))) }
+    ensures err { IfErr result (λ e. e ≡ Fault.Memory) }
+{
+    let mut parts = Vec::new(alloc);
+    for number in taken {
+        let part = lower_numbered(alloc, fields, numbers, detections, *number)?;
+        add_part(joined, &mut parts, part)?;
+    }
+    Ok(close_parts(joined, parts))
+}
 
 #[cycle(formulas)]
 fn lower_formula(
@@ -32,6 +53,12 @@ fn lower_formula(
 {
     match formula {
         Formula::Detection(number) => lower_numbered(alloc, fields, numbers, detections, *number),
+        Formula::OneOf(taken) => {
+            lower_taken(alloc, fields, numbers, detections, Joined::Any, taken.as_slice())
+        }
+        Formula::AllOf(taken) => {
+            lower_taken(alloc, fields, numbers, detections, Joined::All, taken.as_slice())
+        }
         Formula::Not(part) => {
             let tree = lower_formula(alloc, fields, numbers, detections, part)?;
             Ok(Tree::Not(Box::new(alloc, tree)?))

@@ -1,45 +1,49 @@
 //! The numbers of a schema's fields.
 
 ghost use Rattle.std.specs.Prelude.{◌≡◌, ◌<◌, ◌^◌, length, IfOk, IfErr};
-ghost use Rattle.rule_lowering.specs.Numbered.{Indexes, Numbered};
+ghost use Rattle.event_schema.specs.Rows.{field_number};
+ghost use Rattle.rule_lowering.specs.Numbered.{Numbered, names_of};
 ghost use Rattle.rule_lowering.specs.TreeOf.{number_of, searched};
 
 use event_schema::Field;
-use sig_base::{Fault, Text};
+use sig_base::{Fault, Text, Texts};
 use std::alloc::Global;
-use std::collections::BTreeMap;
+use text_index::TextIndex;
 
 /// The number of each field by its name, and the numbers of those that keywords search, in the schema's order.
 #[derive(Drop)]
 pub struct Numbers {
-    index: BTreeMap<String, u32>,
+    index: TextIndex,
     searched: Vec<u32>,
 }
 
-/// The number of each name, from 0; of a name that two fields have the first.
-fn index_fields(alloc: Global, fields: &[Field]) -> Result<BTreeMap<String, u32>, Fault>
-    requires { length fields.now < 2 ^ 32 }
-    ensures ok { IfOk result (λ index. Indexes fields.now index) }
+fn copy_names(alloc: Global, fields: &[Field]) -> Result<Texts, Fault>
+    ensures ok { IfOk result (λ names. names ≡ names_of fields.now) }
     ensures err { IfErr result (λ e. e ≡ Fault.Memory) }
 {
-    let mut index = BTreeMap::new(alloc);
-    let mut at = fields.len();
-    while at > 0 {
-        at -= 1;
-        let name = String::from_str(alloc, fields[at].name.as_str())?;
-        index.insert(name, at as u32)?;
+    let mut names = Texts::new(alloc);
+    for field in fields {
+        names.push(Text::copy(alloc, field.name.as_str())?)?;
     }
-    Ok(index)
+    Ok(names)
+}
+
+/// The number of the field of this name; of a name that two fields have the first.
+fn find_field(index: &TextIndex, fields: &[Field], name: &Text) -> Option<u32>
+    requires { index.now ≡ names_of fields.now }
+    ensures { result ≡ field_number fields.now name.now }
+{
+    index.find(name)
 }
 
 /// The number of the field of this name, or the number behind the last field's.
-fn number_in(index: &BTreeMap<String, u32>, fields: &[Field], name: &Text) -> u32
+fn number_in(index: &TextIndex, fields: &[Field], name: &Text) -> u32
     requires few { length fields.now < 2 ^ 32 }
-    requires indexed { Indexes fields.now index.now }
+    requires indexed { index.now ≡ names_of fields.now }
     ensures { result ≡ number_of fields.now name.now }
 {
-    match index.get(name.as_str()) {
-        Some(number) => *number,
+    match find_field(index, fields, name) {
+        Some(number) => number,
         None => fields.len() as u32,
     }
 }
@@ -47,11 +51,11 @@ fn number_in(index: &BTreeMap<String, u32>, fields: &[Field], name: &Text) -> u3
 /// The numbers of the fields that keywords search.
 fn search_fields(
     alloc: Global,
-    index: &BTreeMap<String, u32>,
+    index: &TextIndex,
     fields: &[Field],
 ) -> Result<Vec<u32>, Fault>
     requires few { length fields.now < 2 ^ 32 }
-    requires indexed { Indexes fields.now index.now }
+    requires indexed { index.now ≡ names_of fields.now }
     ensures ok { IfOk result (λ numbers. numbers.items ≡ searched fields.now) }
     ensures err { IfErr result (λ e. e ≡ Fault.Memory) }
 {
@@ -73,7 +77,7 @@ impl Numbers {
         if fields.len() > u32::MAX as usize {
             return Err(Fault::Memory);
         }
-        let index = index_fields(alloc, fields)?;
+        let index = TextIndex::number(alloc, copy_names(alloc, fields)?)?;
         let searched = search_fields(alloc, &index, fields)?;
         Ok(Numbers { index, searched })
     }

@@ -9,7 +9,7 @@ use rule_model::{
     Alternative, Alternatives, Detection, Detections, Fields, Head, Item, LogSource, Rule, Values,
 };
 use sig_base::{Code, Detail, Fault, Limits, Place, Text, Texts};
-use sig_conditions::Formula;
+use sig_conditions::{Formula, Numbers};
 use sig_modifiers::{Joined, Test, Tests};
 use sig_strings::Pattern;
 use std::alloc::Global;
@@ -282,6 +282,14 @@ fn numbered(alloc: Global, numbers: &[u32]) -> Result<Vec<Formula>, Fail> {
     Ok(formulas)
 }
 
+fn taken(alloc: Global, numbers: &[u32]) -> Result<Numbers, Fail> {
+    let mut taken = Numbers::new(alloc);
+    for number in numbers {
+        taken.push(*number)?;
+    }
+    Ok(taken)
+}
+
 fn shown_conditions(alloc: Global, conditions: Vec<Formula>) -> Result<String, Fail> {
     let rule = rule(alloc, three(alloc)?, conditions)?;
     shown(
@@ -300,12 +308,12 @@ fn shown_condition(alloc: Global, condition: Formula) -> Result<String, Fail> {
 #[test]
 fn conditions(rt: HostRuntime) -> Result<(), Fail> {
     let alloc = rt.alloc();
-    let one_of = Formula::Or(numbered(alloc, [0, 1, 2].as_slice())?);
+    let one_of = Formula::OneOf(taken(alloc, [0, 1, 2].as_slice())?);
     assert_eq!(rt;
         shown_condition(alloc, one_of)?.as_str(),
         "(1~a|1~b|0~c|(2~x&2~y&)|)"
     );
-    let all_of = Formula::And(numbered(alloc, [0, 1, 2].as_slice())?);
+    let all_of = Formula::AllOf(taken(alloc, [0, 1, 2].as_slice())?);
     assert_eq!(rt;
         shown_condition(alloc, all_of)?.as_str(),
         "((1~a|1~b|)&0~c&2~x&2~y&)"
