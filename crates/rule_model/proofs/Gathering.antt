@@ -15,7 +15,7 @@ use Rattle.sig_base.specs.declared.refusal.Fault.{Fault}
 use Rattle.sig_base.specs.declared.refusal.Fault.TheVariants.{Memory, Refused}
 use Rattle.std.specs.Result.{IsErrAnd}
 use Rattle.std.specs.Str.{bytes_eq, all_scalars}
-use Rattle.sig_conditions.proofs.Indexing.{same_bytes}
+use Rattle.text_index.proofs.Indexing.{same_bytes}
 use Rattle.std.proofs.lemmas.Option.{none-some}
 use Rattle.std.proofs.lemmas.Slice.Eq.{bytes_eq-Decides}
 use Rattle.sig_base.specs.Folding.{folded}

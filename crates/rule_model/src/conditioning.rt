@@ -1,6 +1,6 @@
 //! Reading the conditions of a rule.
 
-ghost use Rattle.std.specs.Prelude.{◌≡◌, ◌<◌, ◌+◌, ◌*◌, not, map, filter, codes, length, IfOk, IfErr};
+ghost use Rattle.std.specs.Prelude.{◌≡◌, not, map, filter, codes, length, IfOk, IfErr, OnOk};
 ghost use Rattle.std.specs.List.{AllZip};
 ghost use Rattle.sig_conditions.specs.Formulas.{form_view, forms_view};
 ghost use Rattle.sig_base.specs.Judged.{Judged};
@@ -33,44 +33,22 @@ fn copy_names(alloc: Global, entries: &[Entry]) -> Result<Texts, Fault>
     Ok(names)
 }
 
-/// The size of all selectors of a rule times the size of its detections' names may be this at most. About so many steps are
-/// taken to compare them, and at most a quarter of it is written into formulas, so that without a bound a rule of some
-/// hundred kilobytes could take all memory, or many minutes.
-const MOST_COMPARED: usize = 1 << 24;
-
-/// What is left of the bound behind comparing selectors with names of these sizes. Where too little is left, want of memory
-/// is answered.
-fn pay(left: usize, selectors: usize, names: usize) -> Result<usize, Fault>
-    ensures paid { IfOk result (λ rest. rest + selectors * names ≡ left) }
-    ensures short { IfErr result (λ e. left < selectors * names) }
-    ensures err { IfErr result (λ e. e ≡ Fault.Memory) }
-{
-    let Some(cost) = selectors.checked_mul(names) else {
-        return Err(Fault::Memory);
-    };
-    if cost > left {
-        return Err(Fault::Memory);
-    }
-    Ok(left - cost)
-}
-
-/// One condition over detections of these names, where enough of the bound is left for its selectors.
+/// One condition over detections of these names.
 fn read_formula(
     alloc: Global,
     limits: &Limits,
-    names: &Names,
-    left: &mut usize,
+    names: &mut Names,
     node: &Node,
 ) -> Result<Formula, Fault>
-    ensures { Judged (λ f. spec.IsFormula names.now (node_view node.now) (form_view f))
-        (spec.condition_refusal limits.now names.now (node_view node.now)) result }
+    ensures judged { Judged (λ f. spec.IsFormula names.old.names (node_view node.now) (form_view f))
+        (spec.condition_refusal limits.now names.old.names (node_view node.now)) result }
+    ensures names { OnOk result (names.new.names ≡ names.old.names) }
 {
     let place = place_of(node);
     let Some(text) = text_of(node) else {
         return Err(refused(Code::WRONG_SHAPE, place));
     };
     let condition = read_condition(alloc, limits, text.as_str(), place)?;
-    *left = pay(*left, condition.selectors_size(), names.size())?;
     resolve_condition(alloc, &condition, names, place)
 }
 
@@ -78,18 +56,17 @@ fn read_formula(
 fn read_listed(
     alloc: Global,
     limits: &Limits,
-    names: &Names,
+    names: &mut Names,
     node: &Node,
 ) -> Result<Vec<Formula>, Fault>
-    ensures { Judged (λ fs. AllZip (spec.IsFormula names.now) (parts_in (node_view node.now)) (forms_view fs.items))
-        (spec.listed_refusal limits.now names.now (node_view node.now)) result }
+    ensures { Judged (λ fs. AllZip (spec.IsFormula names.old.names) (parts_in (node_view node.now)) (forms_view fs.items))
+        (spec.listed_refusal limits.now names.old.names (node_view node.now)) result }
 {
     let parts = parts_of(node);
     must(Code::EMPTY_LIST, place_of(node), !is_empty(parts))?;
-    let mut left = MOST_COMPARED;
     let mut formulas = Vec::new(alloc);
     for part in parts {
-        let formula = read_formula(alloc, limits, names, &mut left, part)?;
+        let formula = read_formula(alloc, limits, names, part)?;
         formulas.push(formula)?;
     }
     Ok(formulas)
@@ -98,8 +75,8 @@ fn read_listed(
 /// Reads the conditions of a rule, of which `node` is the map of its detections. A map without `condition` is refused
 /// 70. Of one condition, or each of a list, what is no text is refused 71, one with a `|` 61, one with too many words
 /// that nest 62, one without a reading 60, and one with a name or selector that takes no detection 63 or 64; an empty
-/// list is refused 78. Where the size of the selectors of all conditions, times that of the detections' names, is more than
-/// 2^24, want of memory is answered; a text has the size of its bytes, and one more.
+/// list is refused 78. Where the selectors of all conditions take more than 2^22 names, or would be compared with the names in
+/// more than 2^30 steps, want of memory is answered.
 pub fn read_conditions(alloc: Global, limits: &Limits, node: &Node) -> Result<Vec<Formula>, Fault>
     ensures judged { Judged (λ fs. spec.AreConditions (node_view node.now) (forms_view fs.items))
         (spec.conditions_refusal limits.now (node_view node.now)) result }
@@ -109,6 +86,6 @@ pub fn read_conditions(alloc: Global, limits: &Limits, node: &Node) -> Result<Ve
     let Some(value) = value_at(node, "condition") else {
         return Err(refused(Code::MISSING_KEY, place_of(node)));
     };
-    let names = Names::number(alloc, copy_names(alloc, all_entries(node))?)?;
-    read_listed(alloc, limits, &names, value)
+    let mut names = Names::number(alloc, copy_names(alloc, all_entries(node))?)?;
+    read_listed(alloc, limits, &mut names, value)
 }

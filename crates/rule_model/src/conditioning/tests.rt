@@ -27,12 +27,11 @@ fn conditions(alloc: Global, count: usize, selectors: usize) -> Result<Node, Fau
     Ok(Node::list(HERE, all))
 }
 
-/// The detection `first` and so many others, with so many conditions of so many selectors.
-fn detections(alloc: Global, others: usize, count: usize, selectors: usize) -> Result<Node, Fault> {
+/// So many detections of the name `first`, with so many conditions of so many selectors.
+fn detections(alloc: Global, names: usize, count: usize, selectors: usize) -> Result<Node, Fault> {
     let mut entries = Vec::new(alloc);
-    entries.push(entry(alloc, "first", Node::null(HERE))?)?;
-    for _ in 0..others {
-        entries.push(entry(alloc, "other", Node::null(HERE))?)?;
+    for _ in 0..names {
+        entries.push(entry(alloc, "first", Node::null(HERE))?)?;
     }
     let conditions = conditions(alloc, count, selectors)?;
     entries.push(entry(alloc, "condition", conditions)?)?;
@@ -49,16 +48,15 @@ fn answer(alloc: Global, node: &Node) -> &'static str {
 }
 
 #[test]
-fn comparisons_are_bounded(rt: HostRuntime) -> Result<(), Fail> {
-    // `first` and each `other` have the size 6, 6 * 2,048 = 12,288 in all, and each selector has 6: the bound, 16,777,216,
-    // takes 227 of them.
-    for (others, count, selectors, want) in [
-        (2047, 1, 227, "read"),
-        (2047, 1, 228, "memory"),
-        (2047, 2, 113, "read"),
-        (2047, 2, 114, "memory"),
+fn selectors_are_bounded(rt: HostRuntime) -> Result<(), Fail> {
+    // Each selector takes 2,048 names, and 2,048 of them take 4,194,304, which is the bound for all conditions together.
+    for (count, selectors, want) in [
+        (1, 2048, "read"),
+        (1, 2049, "memory"),
+        (2, 1024, "read"),
+        (2, 1025, "memory"),
     ] {
-        let node = detections(rt.alloc(), others, count, selectors)?;
+        let node = detections(rt.alloc(), 2048, count, selectors)?;
         assert_eq!(rt; answer(rt.alloc(), &node), want, "{count} {selectors}");
     }
     Ok(())

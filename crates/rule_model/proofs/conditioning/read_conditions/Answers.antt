@@ -1,5 +1,6 @@
 use Rattle.std.proofs.Common.{◌∙◌, sym, ap, map, List}
 use Rattle.std.specs.Prelude.{not, filter, codes}
+use Rattle.sig_conditions.specs.Named.{Named}
 use Rattle.yaml_tree.specs.Tree.{Member}
 use Rattle.yaml_tree.specs.View.{node_view}
 use Rattle.rule_model.specs.Detections.{is_key}
@@ -10,9 +11,9 @@ pub returns : goal.returns
 returns c =
     let limits = c.args.limits.now in
     let t = node_view c.args.node.now in
-    let judged : IsJudged limits t c.read_listed.result = listed_judged limits t (node_view c.in-Some.value.now) c.in_ok-names.names c.read_listed.result
+    let judged : IsJudged limits t c.read_listed.result = listed_judged limits t (node_view c.in-Some.value.now) c.in_ok-names.names.names c.read_listed.result
     c.in-Some.ensures
-    (c.in_ok-names.ensures.ok ∙ (c.in_ok-copy_names.ensures.ok ∙ ap (λ (es : List Member). map (λ e. e.key) (filter (λ e. not (is_key (codes "condition") e)) es)) (sym c.all_entries.ensures)))
+    (ap (λ (v : Named). v.names) c.in_ok-names.ensures.ok ∙ (c.in_ok-copy_names.ensures.ok ∙ ap (λ (es : List Member). map (λ e. e.key) (filter (λ e. not (is_key (codes "condition") e)) es)) (sym c.all_entries.ensures)))
     c.read_listed.ensures in
     record {
       judged = judged;

@@ -8,7 +8,8 @@ use Rattle.rule_model.proofs.conditioning.read_listed.Given as goal
 
 abbrev pub invariant-loop-part : goal.invariant-loop-part
 invariant-loop-part l = record {
-  unrefused : first (map (condition_refusal l.limits l.names) (nodes_view l.parts))
-      ≡ first (map (condition_refusal l.limits l.names) (nodes_view (drop l.part-index l.parts)));
-  read : AllZip (IsFormula l.names) (nodes_view (take l.part-index l.parts)) (forms_view l.formulas.items);
+  same : l.names.names ≡ l.fn.names.names;
+  unrefused : first (map (condition_refusal l.limits l.fn.names.names) (nodes_view l.parts))
+      ≡ first (map (condition_refusal l.limits l.fn.names.names) (nodes_view (drop l.part-index l.parts)));
+  read : AllZip (IsFormula l.fn.names.names) (nodes_view (take l.part-index l.parts)) (forms_view l.formulas.items);
 }
