@@ -7,3 +7,4 @@ mod Alive
 mod Judged
 mod Told
 mod Examples
+mod ExampleTables
