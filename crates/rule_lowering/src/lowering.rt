@@ -7,7 +7,7 @@ ghost use Rattle.backend_core.specs.View.{tree_view};
 ghost use Rattle.rule_lowering.specs.Joining.{join};
 ghost use Rattle.rule_lowering.specs.Numbered.{Numbered};
 ghost use Rattle.rule_lowering.specs.TreeOf as spec;
-ghost use Rattle.rule_model.specs.declared.item.Fields.TheVariants.{Keyword, Names};
+ghost use Rattle.rule_items.specs.declared.item.Fields.TheVariants.{Keyword, Names};
 ghost use Rattle.sig_modifiers.specs.declared.modifier.Joined.TheVariants.{Any};
 ghost use Rattle.sig_strings.specs.declared.part.Part.TheVariants.{Char};
 
@@ -15,7 +15,7 @@ use crate::joining::{add_part, close_parts};
 use crate::numbers::Numbers;
 use backend_core::{Leaf, LeafTest, Tree};
 use event_schema::{Field, decimal};
-use rule_model::{Detection, Fields, Item};
+use rule_items::{Detection, Fields, Item};
 use sig_base::{Fault, Place, Text};
 use sig_modifiers::{Joined, Test, Tests};
 use sig_strings::{Part, Pattern};

@@ -10,31 +10,33 @@ use Rattle.event_schema.specs.declared.value.Value.TheVariants as values
 use Rattle.sql_lang.specs.Tokens.{Eq, Ne, Lt, Gte, scan, tokens, is_number, run_sort, text_sort}
 use Rattle.sql_lang.specs.Grammar.{Collate, Unsaid, NoCase, Binary}
 use Rattle.sql_lang.specs.Expression.{Operand, Side, ColumnAt, Text, Whole, Constant, Compare, Like, Glob, OneOf, Between, Expr, Or, And, Not, Test, Exprs, no_exprs, an_expr}
-use Rattle.sql_lang.specs.Faults.{Fault, fault, is_bad_escape, is_bad_bracket}
+use Rattle.text_places.specs.Places.{Fault, fault}
+use Rattle.sql_lang.specs.Faults.{is_bad_escape, is_bad_bracket}
 use Rattle.sql_lang.specs.Reading.{opens_too_far, nots_too_many}
 use Rattle.sql_lang.specs.Meaning.{Truth, Yes, No, Unknown, sql_value, like_from, glob_from, fits_parts}
-use Rattle.sql_lang.specs.Leaves.{column_side, value_test, no_value_test, text_test, number_test, column_test, like_test, glob_test}
-use Rattle.sql_lang.proofs.Machine.{step, go_on}
-use Rattle.sql_lang.proofs.Judged.{verdict, verdict_is, IsVerdict}
+use Rattle.sql_lang.specs.ColumnTests.{column_side, value_test, no_value_test, text_test, number_test, column_test, like_test, glob_test}
+use Rattle.sql_lang.specs.Machine.{step, go_on}
+use Rattle.sql_lang.specs.Verdict.{verdict, IsVerdict}
+use Rattle.sql_lang.proofs.Judged.{verdict_is}
 
-abbrev field : List ℕ → FieldKind → Field
+abbrev pub field : List ℕ → FieldKind → Field
 field name kind = record { name = name; kind = kind; at = name ∷ []; search = false; cased = false }
 
-abbrev schema : Schema
+abbrev pub schema : Schema
 schema = record {
   table = codes "events";
   fields = field (codes "Image") kinds.Text ∷ field (codes "n") kinds.Whole ∷ field (codes "ip") kinds.Address ∷ [];
   time = None;
 }
 
-abbrev refused : ℕ → ℕ → ℕ → Result Expr Fault
+abbrev pub refused : ℕ → ℕ → ℕ → Result Expr Fault
 refused code line column = Err (fault code (record { line = line; column = column }))
 
-abbrev Cases : Type 0
+abbrev pub Cases : Type 0
 Cases = List (List ℕ × Result Expr Fault)
 
 -- behind WHERE, so from column 30 on
-abbrev where_text : List ℕ → List ℕ
+abbrev pub where_text : List ℕ → List ℕ
 where_text text = codes "SELECT * FROM \"events\" WHERE " ++ text
 
 -- ---- whole texts
@@ -107,7 +109,7 @@ fault_cases =
     ∷ (codes "\"zz\" GLOB '['", refused 122 1 30)
     ∷ []
 
-abbrev side : Collate → Operand → Side
+abbrev pub side : Collate → Operand → Side
 side c x = record { operand = x; collate = c }
 
 abbrev query_cases : Cases
@@ -151,10 +153,10 @@ depth_cases =
     ∷ (codes "\"Image\" NOT LIKE 'x'", Ok (Test (Like 0 true (codes "x") None)))
     ∷ []
 
-abbrev computed : ℕ → (List ℕ → List ℕ) → Cases → List (Result Expr Fault)
+abbrev pub computed : ℕ → (List ℕ → List ℕ) → Cases → List (Result Expr Fault)
 computed limit text cases = map (λ c. verdict limit schema (text c.0)) cases
 
-abbrev told : Cases → List (Result Expr Fault)
+abbrev pub told : Cases → List (Result Expr Fault)
 told cases = map (λ c. c.1) cases
 
 texts_verdicts : computed 1000 (λ text. text) texts ≡ told texts
@@ -169,12 +171,12 @@ depth_verdicts : computed 2 where_text depth_cases ≡ told depth_cases
 unfolding verdict tokens scan is_number run_sort text_sort step go_on is_bad_escape is_bad_bracket opens_too_far nots_too_many
 depth_verdicts = refl
 
-abbrev AreVerdicts : ℕ → (List ℕ → List ℕ) → Cases → Type 0
+abbrev pub AreVerdicts : ℕ → (List ℕ → List ℕ) → Cases → Type 0
 AreVerdicts limit text [] = Unit {0}
 AreVerdicts limit text (c ∷ cases) = IsVerdict limit schema (text c.0) c.1 × AreVerdicts limit text cases
 
 -- what is computed is so by the definitions
-are_so : (limit : ℕ) (text : List ℕ → List ℕ) (cases : Cases) → computed limit text cases ≡ told cases → AreVerdicts limit text cases
+pub are_so : (limit : ℕ) (text : List ℕ → List ℕ) (cases : Cases) → computed limit text cases ≡ told cases → AreVerdicts limit text cases
 are_so limit text [] same = tt
 are_so limit text (c ∷ cases) same =
     let here : verdict limit schema (text c.0) ≡ c.1 = cc in
@@ -193,13 +195,13 @@ example_depths = are_so 2 where_text depth_cases depth_verdicts
 -- ---- values
 
 -- Image is CMD.exe, n is 5, and ip has no value
-abbrev row : List (Option Value)
+abbrev pub row : List (Option Value)
 row = Some (values.Text (codes "CMD.exe")) ∷ Some (values.Whole (pos 5)) ∷ None ∷ []
 
-abbrev pair : Expr → Expr → Exprs
+abbrev pub pair : Expr → Expr → Exprs
 pair e f = an_expr e (an_expr f no_exprs)
 
-abbrev unknown : Expr
+abbrev pub unknown : Expr
 unknown = text_test 2 (codes "x") Unsaid
 
 abbrev like_value : List ℕ → List ℕ → Truth

@@ -31,7 +31,7 @@ at_a t = tree (map (at 1 1) (entry 1 1 (codes "a") t no_members)) ∷ []
 
 -- Each escape of a double-quoted scalar, and what is none (YAML 1.2, 5.7).
 escapes : told
-    ( codes "\"\\\\\""
+    (codes "\"\\\\\""
     ∷ codes "\"\\\"\""
     ∷ codes "\"\\/\""
     ∷ codes "\"\\n\""
@@ -59,7 +59,7 @@ escapes : told
     ∷ codes "''"
     ∷ codes "\"\""
     ∷ codes "'\"'" ∷ [])
-    ≡ ( (is_text (92 ∷ []))
+    ≡ ((is_text (92 ∷ []))
     ∷ (is_text (34 ∷ []))
     ∷ (is_text (47 ∷ []))
     ∷ (is_text (10 ∷ []))
@@ -92,7 +92,7 @@ escapes = refl
 
 -- Each word for null and for a truth value, and words that are texts (YAML 1.2, 10.3.2).
 words : told
-    ( codes "~"
+    (codes "~"
     ∷ codes "null"
     ∷ codes "Null"
     ∷ codes "NULL"
@@ -112,7 +112,7 @@ words : told
     ∷ codes "'true'"
     ∷ codes "\"null\""
     ∷ codes "'7'" ∷ [])
-    ≡ ( (is_scalar null)
+    ≡ ((is_scalar null)
     ∷ (is_scalar null)
     ∷ (is_scalar null)
     ∷ (is_scalar null)
@@ -137,7 +137,7 @@ words = refl
 
 -- Whole numbers fit 64 bits; all else is a text (YAML 1.2, 10.3.2).
 numbers : told
-    ( codes "0"
+    (codes "0"
     ∷ codes "-7"
     ∷ codes "9223372036854775807"
     ∷ codes "+9223372036854775807"
@@ -154,7 +154,7 @@ numbers : told
     ∷ codes "/0"
     ∷ codes "1:0"
     ∷ codes "0o7" ∷ [])
-    ≡ ( (is_scalar (whole (pos 0)))
+    ≡ ((is_scalar (whole (pos 0)))
     ∷ (is_scalar (whole (negsuc 6)))
     ∷ (is_scalar (whole (pos 9223372036854775807)))
     ∷ (is_scalar (whole (pos 9223372036854775807)))
@@ -176,7 +176,7 @@ numbers = refl
 
 -- Folded lines, lines that begin with a blank, empty ones, and what stays at the end (YAML 1.2, 8.1.1.2 and 8.1.3).
 folds : told
-    ( codes "a: >\n  b\n   c\n\n\n   d\n  e"
+    (codes "a: >\n  b\n   c\n\n\n   d\n  e"
     ∷ codes "a: >\n  b\n\n   c\n\n  d"
     ∷ codes "a: >\n  b\n  \tc\n  d"
     ∷ codes "a: >\n\n\n  b\n  c\n"
@@ -198,7 +198,7 @@ folds : told
     ∷ codes "a: b\n\n\n  c\n  d"
     ∷ codes "a: b \n  c # d"
     ∷ codes "a: b\n\n" ∷ [])
-    ≡ ( (at_a (text_at 1 4 (codes "b\n c\n\n\n d\ne\n")))
+    ≡ ((at_a (text_at 1 4 (codes "b\n c\n\n\n d\ne\n")))
     ∷ (at_a (text_at 1 4 (codes "b\n\n c\n\nd\n")))
     ∷ (at_a (text_at 1 4 (codes "b\n\tc\nd\n")))
     ∷ (at_a (text_at 1 4 (codes "\n\nb c\n")))
@@ -225,7 +225,7 @@ folds = refl
 
 -- Each place inside a flow collection where a reading stops (YAML 1.2, 7.4).
 flows : told
-    ( codes "["
+    (codes "["
     ∷ codes "[\n]"
     ∷ codes "[a"
     ∷ codes "[a,"
@@ -272,7 +272,7 @@ flows : told
     ∷ codes "{\"a\":b, c: , d: }"
     ∷ codes "[a , b\t]"
     ∷ codes "{a: {}, b: []}" ∷ [])
-    ≡ ( (is_refused 4 1 1)
+    ≡ ((is_refused 4 1 1)
     ∷ (is_refused 3 1 1)
     ∷ (is_refused 4 1 1)
     ∷ (is_refused 4 1 1)
@@ -324,7 +324,7 @@ flows = refl
 
 -- Where quotes, the heads of block scalars and lone scalars stop (YAML 1.2, 7.3 and 8.1.1).
 quotes_and_heads : told
-    ( codes "'a"
+    (codes "'a"
     ∷ codes "'a'b"
     ∷ codes "'a':b"
     ∷ codes "\"a\" b"
@@ -361,7 +361,7 @@ quotes_and_heads : told
     ∷ codes ":a"
     ∷ codes "a#b"
     ∷ codes "a #b" ∷ [])
-    ≡ ( (is_refused 4 1 1)
+    ≡ ((is_refused 4 1 1)
     ∷ (is_refused 4 1 1)
     ∷ (is_refused 4 1 1)
     ∷ (is_refused 4 1 1)
@@ -403,7 +403,7 @@ quotes_and_heads = refl
 
 -- Where blocks stop: another indentation, another kind of item, a tab, a line behind a value (YAML 1.2, 8.2).
 blocks : told
-    ( codes "a:\n  b: 1\n   c: 2"
+    (codes "a:\n  b: 1\n   c: 2"
     ∷ codes "a: 1\n  b: 2"
     ∷ codes "- a\nb: 1"
     ∷ codes "a: 1\n- b"
@@ -424,7 +424,7 @@ blocks : told
     ∷ codes "a:\n\n  # b\n  c"
     ∷ codes "a:\n- b"
     ∷ codes "- - - a" ∷ [])
-    ≡ ( (is_refused 4 3 1)
+    ≡ ((is_refused 4 3 1)
     ∷ (is_refused 4 2 1)
     ∷ (is_refused 4 2 1)
     ∷ (is_refused 4 2 1)
@@ -447,4 +447,3 @@ blocks : told
     ∷ (tree (list (at 1 1) (element (list (at 1 3) (element (list (at 1 5) (element (text_at 1 7 (codes "a")) no_elements)) no_elements)) no_elements)) ∷ []) ∷ [])
 unfolding line_texts lines_of documents_of parted is_parting is_marker skip_blanks carries_nothing ends_line indentation indent body is_void is_bare barred stray plain_len trimmed plain_front plain_rest value_within whole_of resolved single escape double block_text quoted behind_colon flow_key fresh_key after_element flow_element flow_elements flow_value flow_entry flow_members flow_scalar flow_node nothing_in key_at further more_plain plain_text scalar_lines block_scalar element_in value_in head_in lone_in node_in
 blocks = refl
-
