@@ -9,3 +9,5 @@ mod fit;
 mod law;
 mod names;
 mod schema;
+#[cfg(test)]
+mod tests;
