@@ -134,6 +134,7 @@ fn patterns_are_edited_and_written(rt: HostRuntime) -> Result<(), Fail> {
     assert!(rt; around.is_written());
     assert!(rt; around.fits("xa*y", true));
     assert!(rt; around.write_sigma(rt.alloc())?.is(r"*a\**"));
+    assert!(rt; !pattern.has_wildcard());
     Ok(())
 }
 

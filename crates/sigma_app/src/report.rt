@@ -67,18 +67,12 @@ fn spaced_text(alloc: Global, text: &Text) -> Result<String, AllocError>
 fn shown_text(alloc: Global, text: &Text) -> Result<Text, AllocError>
     ensures { IfOk result (λ t. t ≡ map reports.shown text.now) }
 {
-    let characters = characters_of(alloc, text)?;
-    let mut all = Text::new(alloc);
-    for c in characters.as_slice() {
-        all.push(shown(*c))?;
+    let text = text.as_str();
+    let mut all = Text::with_capacity(alloc, text.len())?;
+    for c in text.chars() {
+        all.push(shown(c))?;
     }
     Ok(all)
-}
-
-fn characters_of(alloc: Global, text: &Text) -> Result<Vec<char>, AllocError>
-    ensures { IfOk result (λ characters. characters.items ≡ text.now) }
-{
-    text.as_str().chars().collect(alloc)
 }
 
 fn shown(c: char) -> char
