@@ -9,6 +9,7 @@ mod Calm
 pub mod Signed
 mod Doubled
 mod Rows
+mod SizeLemmas
 mod Names
 mod Laws
 mod Whole

@@ -1,9 +1,10 @@
 -- The text of a tree, part by part, where it stands.
 use Rattle.std.specs.Prelude.{Bool, true, false, not, ◌&&◌, List, [], ◌∷◌, ◌++◌, codes, ℕ}
 use Rattle.event_schema.specs.declared.schema.Field.{Field}
+use Rattle.event_schema.specs.declared.schema.Schema.{Schema}
 use Rattle.sql_lang.specs.Grammar.{spell_test}
 use Rattle.sql_layout.specs.Leaves.{has_value}
-use Rattle.sql_layout.specs.Layout.{spaced}
+use Rattle.sql_layout.specs.Layout.{spaced, in_quotes}
 use Rattle.backend_core.specs.declared.tree.LeafTest.{LeafTest}
 use Rattle.backend_core.specs.declared.tree.Tree.{Tree}
 use Rattle.backend_core.specs.Trees.{Plain, Plains, no_parts, a_part, all, any, negated, leaf}
@@ -63,3 +64,12 @@ module _ (fields : List Field) where
   abbrev pub items_text : Bool → Standing → List ℕ → Bool → List Tree → List ℕ
   items_text odd at word behind [] = []
   items_text odd at word behind (t ∷ ts) = piece_if behind word ++ (tree_text odd at (tree_view t) ++ items_text odd at word true ts)
+
+-- ---- the whole query
+
+-- what stands before the condition
+abbrev pub head_text : List ℕ → List ℕ
+head_text table = codes "SELECT * FROM " ++ (in_quotes 34 table ++ codes " WHERE ")
+
+abbrev pub whole_text : Schema → Plain → List ℕ
+whole_text schema t = head_text schema.table ++ tree_text schema.fields false InOr t

@@ -7,6 +7,7 @@ mod law;
 mod patterns;
 mod place;
 mod putting;
+mod sizing;
 #[cfg(test)]
 mod tests;
 mod tests_of;

@@ -182,7 +182,8 @@ fn too_deep_and_too_long(rt: HostRuntime) -> Result<(), Fail> {
     let tree = fits(alloc, 0, "cmd.exe", false)?;
     let answer = Sqlite.write(alloc, &limits, &schema, &tree, PLACE);
     assert!(rt; is_refused(answer, Code::QUERY_TOO_LONG, 63, 10));
-    let text = Sqlite.text(alloc, &schema, &tree)?;
+    limits.query_bytes = 63;
+    let text = Sqlite.text(alloc, &limits, &schema, &tree, PLACE)?;
     assert_eq!(rt; text.as_slice().len(), 63);
     Ok(())
 }

@@ -33,7 +33,7 @@ fn name_of(fields: &[Field], field: u32) -> &str
     }
 }
 
-fn put_leaf(
+pub(crate) fn put_leaf(
     out: &mut Text,
     fields: &[Field],
     leaf: &Leaf,

@@ -1,10 +1,12 @@
 //! The query of a tree.
 
-ghost use Rattle.std.specs.Prelude.{◌≡◌, ◌≤◌, ◌^◌, ◌-◌, ℕ, length, min, pos, IfOk, IfErr};
+ghost use Rattle.std.specs.Prelude.{◌≡◌, ◌≤◌, ◌^◌, ◌-◌, ◌++◌, ℕ, length, min, pos, IfOk, IfErr, OnOk};
 ghost use Rattle.backend_core.specs.Sound.{IsSound};
 ghost use Rattle.backend_core.specs.View.{tree_view};
 ghost use Rattle.sql_lang.specs.Expression.{depth};
 ghost use Rattle.sqlite_writer.specs.Queries.{query_text, query_bytes, query_expr, IsQueryOf};
+ghost use Rattle.sqlite_writer.specs.Pieces.{head_text, whole_text};
+ghost use Rattle.sqlite_writer.specs.Sizes.{bytes_in};
 ghost use Rattle.sqlite_writer.specs.Refused.{refusal, IsUnwritten};
 ghost use Rattle.sqlite_writer.specs.Schemas.{IsTextSchema};
 
@@ -12,6 +14,7 @@ use crate::deep::tree_depth;
 use crate::law::tree_is_query;
 use crate::place::Standing;
 use crate::putting::{put, put_name};
+use crate::sizing::{with_text, with_tree};
 use crate::walk::put_tree;
 use backend_core::Tree;
 use event_schema::Schema;
@@ -22,16 +25,26 @@ use std::alloc::Global;
 #[derive(Clone, Copy, Debug)]
 pub struct Sqlite;
 
-/// The characters of a tree's query.
-fn query_of(alloc: Global, schema: &Schema, tree: &Tree) -> Result<Text, Fault>
-    ensures ok { IsSound schema.now.fields (tree_view tree.now)
+/// Adds what stands before the condition.
+fn put_head(out: &mut Text, schema: &Schema) -> Result<(), Fault>
+    ensures ok { OnOk result (out.new ≡ out.old ++ head_text schema.now.table) }
+    ensures err { IfErr result (λ e. e ≡ Fault.Memory) }
+{
+    put(out, "SELECT * FROM ")?;
+    put_name(out, schema.table.as_str())?;
+    put(out, " WHERE ")?;
+    Ok(())
+}
+
+/// The characters of a tree's query, which has so many bytes.
+fn query_of(alloc: Global, bytes: usize, schema: &Schema, tree: &Tree) -> Result<Text, Fault>
+    ensures ok { IfOk result (λ text. text ≡ whole_text schema.now (tree_view tree.now)) }
+    ensures sound { IsSound schema.now.fields (tree_view tree.now)
         → IfOk result (λ text. text ≡ query_text schema.now (tree_view tree.now)) }
     ensures err { IfErr result (λ e. e ≡ Fault.Memory) }
 {
-    let mut out = Text::new(alloc);
-    put(&mut out, "SELECT * FROM ")?;
-    put_name(&mut out, schema.table.as_str())?;
-    put(&mut out, " WHERE ")?;
+    let mut out = Text::with_capacity(alloc, bytes)?;
+    put_head(&mut out, schema)?;
     put_tree(
         &mut out,
         schema.fields.as_slice(),
@@ -40,6 +53,26 @@ fn query_of(alloc: Global, schema: &Schema, tree: &Tree) -> Result<Text, Fault>
         false,
     )?;
     Ok(out)
+}
+
+/// How many bytes the query of a tree has.
+fn query_size(alloc: Global, schema: &Schema, tree: &Tree) -> Result<usize, Fault>
+    ensures ok { IfOk result (λ n. n ≡ bytes_in (whole_text schema.now (tree_view tree.now))) }
+    ensures sound { IsSound schema.now.fields (tree_view tree.now)
+        → IfOk result (λ n. n ≡ length (query_bytes schema.now (tree_view tree.now))) }
+    ensures err { IfErr result (λ e. e ≡ Fault.Memory) }
+{
+    let mut head = Text::new(alloc);
+    put_head(&mut head, schema)?;
+    let size = with_text(0, head.as_str())?;
+    with_tree(
+        alloc,
+        size,
+        schema.fields.as_slice(),
+        tree,
+        Standing::InOr,
+        false,
+    )
 }
 
 /// The depth of a tree's query.
@@ -61,23 +94,42 @@ fn refused(code: Code, place: Place, count: usize, limit: usize) -> Fault
 }
 
 impl Sqlite {
-    /// The query of a sound tree, without a line feed, however deep and long it is.
-    pub fn text(&self, alloc: Global, schema: &Schema, tree: &Tree) -> Result<Bytes, Fault>
+    /// The query of a sound tree, without a line feed. It is refused at `place` where it's deeper than
+    /// `sql_depth` (112), or else longer than `query_bytes` (114), before it is made.
+    pub fn text(
+        &self,
+        alloc: Global,
+        limits: &Limits,
+        schema: &Schema,
+        tree: &Tree,
+        place: Place,
+    ) -> Result<Bytes, Fault>
         ensures bytes { IsSound schema.now.fields (tree_view tree.now)
             → IfOk result (λ bytes. bytes ≡ query_bytes schema.now (tree_view tree.now)) }
         ensures law { IsSound schema.now.fields (tree_view tree.now) → IsTextSchema schema.now
             → IfOk result (λ bytes. (limit : ℕ) → 1 ≤ limit
             → depth (query_expr schema.now (tree_view tree.now)) ≤ limit
             → IsQueryOf limit schema.now (tree_view tree.now) bytes) }
-        ensures err { IfErr result (λ e. e ≡ Fault.Memory) }
+        ensures deep { IsSound schema.now.fields (tree_view tree.now)
+            → IfOk result (λ bytes. depth (query_expr schema.now (tree_view tree.now)) ≤ limits.now.sql_depth) }
+        ensures long { IfOk result (λ bytes. length bytes ≤ limits.now.query_bytes) }
+        ensures refused { IsSound schema.now.fields (tree_view tree.now) → IfErr result (λ e. IsUnwritten limits.now.sql_depth limits.now.query_bytes place
+            (depth (query_expr schema.now (tree_view tree.now))) (length (query_bytes schema.now (tree_view tree.now))) e) }
     {
         tree_is_query();
-        let query = query_of(alloc, schema, tree)?;
+        let depth = query_depth(schema, tree);
+        if depth > limits.sql_depth {
+            return Err(refused(Code::QUERY_TOO_DEEP, place, depth, limits.sql_depth));
+        }
+        let size = query_size(alloc, schema, tree)?;
+        if size > limits.query_bytes {
+            return Err(refused(Code::QUERY_TOO_LONG, place, size, limits.query_bytes));
+        }
+        let query = query_of(alloc, size, schema, tree)?;
         Bytes::copy(alloc, query.as_str().as_bytes())
     }
 
-    /// The query of a sound tree, without a line feed. It is refused at `place` where it's deeper than
-    /// `sql_depth` (112), or else longer than `query_bytes` (114).
+    /// The same, as the backend's query.
     pub fn write(
         &self,
         alloc: Global,
@@ -96,15 +148,6 @@ impl Sqlite {
         ensures refused { IsSound schema.now.fields (tree_view tree.now) → IfErr result (λ e. IsUnwritten limits.now.sql_depth limits.now.query_bytes place
             (depth (query_expr schema.now (tree_view tree.now))) (length (query_bytes schema.now (tree_view tree.now))) e) }
     {
-        let depth = query_depth(schema, tree);
-        if depth > limits.sql_depth {
-            return Err(refused(Code::QUERY_TOO_DEEP, place, depth, limits.sql_depth));
-        }
-        let bytes = self.text(alloc, schema, tree)?;
-        let count = bytes.as_slice().len();
-        if count > limits.query_bytes {
-            return Err(refused(Code::QUERY_TOO_LONG, place, count, limits.query_bytes));
-        }
-        Ok(bytes)
+        self.text(alloc, limits, schema, tree, place)
     }
 }
