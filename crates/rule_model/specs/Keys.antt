@@ -1,7 +1,7 @@
 -- The keys of items: a field's name and modifiers, each behind a `|` (Sigma specification 2.0, field names and modifiers).
 use Rattle.std.specs.Prelude.{ℕ, Bool, true, false, not, ◌&&◌, ◌||◌, ◌==◌, nat_lt, nat_le, if◌then◌else◌, List, [], ◌∷◌, length}
 use Rattle.std.specs.List.{list_all}
-use Rattle.yaml_tree.specs.Nodes.{is_empty}
+pub use Rattle.yaml_tree.specs.Nodes.{is_empty}
 
 -- the text before the first `|`, and the texts behind each `|`
 abbrev pub pieces : List ℕ → List ℕ × List (List ℕ)

@@ -7,7 +7,8 @@ use Rattle.sig_base.specs.declared.refusal.Refusal.{Refusal}
 use Rattle.sig_strings.specs.Spells.{Spells}
 use Rattle.sig_strings.specs.Edits.{with_run_before, with_run_after}
 use Rattle.sig_strings.specs.declared.part.Part.{Part}
-use Rattle.yaml_tree.specs.Tree.{At, Scalar, null, truth, whole, text, Tree, scalar, list, map}
+use Rattle.yaml_tree.specs.Nodes.{place_of}
+use Rattle.yaml_tree.specs.Tree.{Scalar, null, truth, whole, text, Tree, scalar, list, map}
 use Rattle.sig_base.specs.Judged.{must, first}
 use Rattle.sig_modifiers.specs.Chains.{is_position, is_cased, is_empty, is_presence}
 use Rattle.sig_modifiers.specs.Written.{Written}

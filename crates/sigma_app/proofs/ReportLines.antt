@@ -4,7 +4,8 @@ use Rattle.std.specs.Fmt.{decimal}
 use Rattle.sig_base.specs.Codes.{code_name}
 use Rattle.sig_base.specs.declared.refusal.Place.{Place}
 use Rattle.sig_base.specs.declared.refusal.Refusal.{Refusal}
-use Rattle.sigma_app.specs.Reports.{line_of, ended, refusal_line, detail_text}
+use Rattle.answer_parts.specs.Lines.{ended}
+use Rattle.sigma_app.specs.Reports.{line_of, refusal_diagnostic, detail_text}
 
 regroup : (file line column number cause detail : List ℕ) →
     file ++ (58 ∷ (line ++ (58 ∷ (column ++ (58 ∷ 32 ∷ (number ++ (32 ∷ (cause ++ (detail ++ 10 ∷ [])))))))))
@@ -18,7 +19,7 @@ ended-line_of file place number cause detail = regroup file (decimal place.line)
 -- a line of a refusal's own pieces is its line
 pub refusal_lined : {T E : Type 0} (bytes : T → List ℕ) (r : Result T E) (name file cause detail : List ℕ) (number : ℕ) (refusal : Refusal)
     → file ≡ encode_utf8_all name → number ≡ refusal.code → cause ≡ code_name refusal.code → detail ≡ detail_text refusal.detail
-    → IfOk r (λ line. bytes line ≡ line_of file refusal.place number cause (detail ++ 10 ∷ [])) → IfOk r (λ line. bytes line ≡ ended (refusal_line name refusal))
+    → IfOk r (λ line. bytes line ≡ line_of file refusal.place number cause (detail ++ 10 ∷ [])) → IfOk r (λ line. bytes line ≡ ended (refusal_diagnostic name refusal))
 refusal_lined bytes (Err e) name file cause detail number refusal first second third fourth is = tt
 refusal_lined bytes (Ok line) name file cause detail number refusal first second third fourth is =
     is ∙ (rw (first, second, third, fourth) (ended-line_of (encode_utf8_all name) refusal.place refusal.code (code_name refusal.code) (detail_text refusal.detail)))

@@ -13,7 +13,7 @@ pub enum Status {
     Usage,
     /// A file couldn't be read.
     ReadFault,
-    /// A stream couldn't be written.
+    /// A stream couldn't be line_share.
     WriteFault,
     /// Memory is missing.
     Memory,
