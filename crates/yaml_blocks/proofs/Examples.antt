@@ -10,13 +10,13 @@ use Rattle.yaml_blocks.specs.Blocks.{nothing_in, further, more_plain, plain_text
 use Rattle.yaml_blocks.specs.Reading.{element_in, value_in, head_in, lone_in, node_in, block_in}
 use Rattle.yaml_blocks.specs.Documents.{home, is_alive, code_at}
 
-abbrev at : ℕ → ℕ → At
+abbrev pub at : ℕ → ℕ → At
 at l c = record { line = l; column = c }
 
-abbrev text_at : ℕ → ℕ → List ℕ → Tree
+abbrev pub text_at : ℕ → ℕ → List ℕ → Tree
 text_at l c t = scalar (at l c) (text t)
 
-abbrev entry : ℕ → ℕ → List ℕ → Tree → Members → Members
+abbrev pub entry : ℕ → ℕ → List ℕ → Tree → Members → Members
 entry l c k t ms = member k (at l c) t ms
 
 abbrev answer_read : Read Tree → Answer
@@ -33,7 +33,7 @@ abbrev answers_from : ℕ → List (List Line) → List Answer
 answers_from depth [] = []
 answers_from depth (d ∷ ds) = answer_from depth [] d ∷ answers_from depth ds
 
-abbrev answers : ℕ → List ℕ → List Answer
+abbrev pub answers : ℕ → List ℕ → List Answer
 answers depth cs = answers_from depth (documents_of cs)
 
 unclosed_quote : answers 32 (codes "title: \"cut") ≡ refusal (4, at 1 1) ∷ []
