@@ -3,16 +3,11 @@ use Rattle.std.proofs.Common.{◌≡◌, ℕ, ◌<◌, ◌^◌, Bool, true, fals
 use Rattle.std.specs.Prelude.{◌⊎◌, ◌&&◌, codes}
 use Rattle.std.specs.List.{list_all}
 use Rattle.std.specs.Str.{bytes_eq}
+use Rattle.std.proofs.lemmas.Bool.{lt-ltb, ltb-true}
 use Rattle.std.proofs.lemmas.Slice.Eq.{bytes_eq-Decides}
 use Rattle.sigma_app.specs.Words.{IsAccepted, IsUnaccepted, words_of, names_of, is_file, with_files, convert_of, request_of, read}
 use Rattle.sigma_app.specs.declared.request.Request.{Request}
 use Rattle.sigma_app.specs.declared.request.Request.TheVariants.{Check, Convert}
-
-below : (n m : ℕ) → n < m → nat_lt n m ≡ true
-below n m is = omega (arith, is)
-
-is_below : (n m : ℕ) → nat_lt n m ≡ true → n < m
-is_below n m is = omega (arith, is)
 
 -- ---- what is accepted is read
 
@@ -25,7 +20,7 @@ if_true true x y is = refl
 if_true false x y is = absurd cc
 
 pub accepted_read : (words : List (List ℕ)) (request : Request) → IsAccepted words request → read words ≡ Some request
-accepted_read words request accepted = if_true (nat_lt (length words) (2 ^ 20)) (request_of words) None (below (length words) (2 ^ 20) accepted.few) ∙ (ap request_of accepted.shape ∙ of request accepted.some accepted.files)
+accepted_read words request accepted = if_true (nat_lt (length words) (2 ^ 20)) (request_of words) None (lt-ltb (length words) (2 ^ 20) accepted.few) ∙ (ap request_of accepted.shape ∙ of request accepted.some accepted.files)
   where
     of : (r : Request) → 0 < length (names_of r) → list_all is_file (names_of r) ≡ true → request_of (words_of r) ≡ Some r
     of (Check rules) some files = files_read Check rules some files
@@ -90,7 +85,7 @@ read_shaped (command ∷ words) r is =
 
 pub read_accepted : (words : List (List ℕ)) (request : Request) → read words ≡ Some request → IsAccepted words request
 read_accepted words request is = elim (choose (nat_lt (length words) (2 ^ 20)) (request_of words) None (Some request) is) [
-  | inl h ↦ of (read_shaped words request h.1) (is_below (length words) (2 ^ 20) h.0)
+  | inl h ↦ of (read_shaped words request h.1) (ltb-true (length words) (2 ^ 20) h.0)
   | inr h ↦ absurd (none_some request h.1)
 ]
   where

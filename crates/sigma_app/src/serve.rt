@@ -59,6 +59,23 @@ pub fn serve<F: Shelf, S: Source, O: Sink, E: Sink>(
     // Events that the words' request doesn't read stay as they are, however the run ends.
     ensures apart { ReadsNoEvents words.now → (S.left events.new ≡ S.left events.old) × (S.faults events.new ≡ S.faults events.old) }
 {
+    serve_lent(alloc, words, limits, shelf, events, out, err)
+}
+
+/// The same, with all that is said of a run in one clause.
+fn serve_lent<F: Shelf, S: Source, O: Sink, E: Sink>(
+    alloc: Global,
+    words: &[Text],
+    limits: &Limits,
+    shelf: &mut F,
+    events: &mut S,
+    out: &mut O,
+    err: &mut E,
+) -> Status
+    ensures { Serves limits.now words.now result
+        (inputs_of F.files F.failed S.left S.faults shelf.old events.old) (inputs_of F.files F.failed S.left S.faults shelf.new events.new)
+        (streams_of O.taken O.faults E.taken E.faults out.old err.old) (streams_of O.taken O.faults E.taken E.faults out.new err.new) }
+{
     let mut outside = Lent {
         shelf,
         events,

@@ -2,7 +2,7 @@ use Rattle.sigma_app.proofs.serve.serve.Goals as goal
 
 pub returns : goal.returns
 returns g c =
-    let s = c.answer_words.ensures.serves in
+    let s = c.serve_lent.ensures in
     record {
       answer = s.answer;
       headline = s.headline;
