@@ -1,13 +1,17 @@
 #!/usr/bin/env python3
 """Tries converted rules in a real SQLite. Run by hand; it needs Python 3 with its `sqlite3` and a built program.
 
-    python3 bench/against_sqlite.py PROGRAM [--rules N] [--seed S]
+    python3 bench/against_sqlite.py PROGRAM [--rules N] [--seed S] [--indexes]
 
 PROGRAM is the built program, as crates/sigma_app/out/sigma_app. It makes N small rules of odd values (wildcards, escapes, quotes,
 signs of LIKE and GLOB, letters beyond ASCII, numbers, null, lists, each modifier, conditions that nest), has the program
 convert them, and runs each query over random events in a table of texts. The rows that SQLite selects have to be those
 that the rule matches by a plain reading of what was made, which shares no code with the program. It prints each rule that differs, and the
 numbers of rules last; the exit status is 1 where one differs.
+
+With --indexes each query runs on two more tables with the same events: with indexes COLLATE NOCASE on its columns, where the same
+rows are wanted, and with ordinary indexes, where SQLite 3.40.1 selects too few rows for a list of plain values; how many
+queries it gets wrong there is printed, and isn't counted as a difference.
 """
 import argparse
 import os
@@ -246,20 +250,48 @@ def converted(program, folder, rules):
     return [(None, lines[name]) if name in lines else (next(queries), None) for name in names]
 
 
-def tried(database, rng, rule, query, line):
+def tables(indexes):
+    """Databases with the table: without an index, and if so also with indexes that are good and with ordinary ones."""
+    databases = []
+    for collation in [None, " collate nocase", ""] if indexes else [None]:
+        database = sqlite3.connect(":memory:")
+        database.execute(f"create table events (number integer, {', '.join(f'{chr(34)}{field}{chr(34)} text' for field in FIELDS)})")
+        if collation is not None:
+            for number, field in enumerate(FIELDS):
+                database.execute(f'create index of_{number} on events ("{field}"{collation})')
+        databases.append(database)
+    return databases
+
+
+def selected(database, events, query):
+    database.execute("delete from events")
+    database.executemany(f"insert into events values ({', '.join('?' * (len(FIELDS) + 1))})",
+                         [(number, *event.values()) for number, event in enumerate(events)])
+    return {row[0] for row in database.execute(query)}
+
+
+def swapped(rng, detections):
+    """An event whose values are values of the rule, in another case."""
+    values = [value for alternatives in detections.values() for items in alternatives for _, _, values in items for value in values]
+    return {field: str(rng.choice(values + [""])).swapcase() for field in FIELDS}
+
+
+def tried(databases, rng, rule, query, line, wrong):
     """Whether the rule is refused rightly, and whether its query selects what it should; None where it was refused so."""
     _, detections, condition = rule
     events = [some_event(rng) for _ in range(12)]
+    if databases[1:]:
+        events += [swapped(rng, detections) for _ in range(12)]
     try:
         wanted = {number for number, event in enumerate(events) if matches(condition, detections, event)}
     except Nothing:
         return None if line and " 64 " in line else False
     if line:
         return False
-    database.execute("delete from events")
-    database.executemany(f"insert into events values ({', '.join('?' * (len(FIELDS) + 1))})",
-                         [(number, *event.values()) for number, event in enumerate(events)])
-    return {row[0] for row in database.execute(query)} == wanted
+    found = [selected(database, events, query) for database in databases]
+    if found[2:] and found[2] != wanted:
+        wrong.append((query, len(wanted), len(found[2])))
+    return all(rows == wanted for rows in found[:2])
 
 
 def main():
@@ -267,19 +299,23 @@ def main():
     parser.add_argument("program", help="the built program")
     parser.add_argument("--rules", type=int, default=5000, help="how many rules (5,000)")
     parser.add_argument("--seed", type=int, default=1, help="the seed of what is made (1)")
+    parser.add_argument("--indexes", action="store_true", help="run the queries with indexes too")
     told = parser.parse_args()
     rng, program = random.Random(told.seed), os.path.abspath(told.program)
-    database = sqlite3.connect(":memory:")
-    database.execute(f"create table events (number integer, {', '.join(f'{chr(34)}{field}{chr(34)} text' for field in FIELDS)})")
+    databases, wrong = tables(told.indexes), []
     counts = {True: 0, False: 0, None: 0}
     with tempfile.TemporaryDirectory() as folder:
         for start in range(0, told.rules, 200):
             rules = [some_rule(rng) for _ in range(min(200, told.rules - start))]
             for rule, (query, line) in zip(rules, converted(program, folder, rules)):
-                verdict = tried(database, rng, rule, query, line)
+                verdict = tried(databases, rng, rule, query, line, wrong)
                 counts[verdict] += 1
                 if verdict is False:
                     print(f"{rule[0]}{query or line}\n")
+    if told.indexes:
+        for query, wanted, found in sorted(wrong, key=lambda case: len(case[0]))[:3]:
+            print(f"ordinary indexes: {found} rows in place of {wanted} for {query}")
+        print(f"ordinary indexes: {len(wrong)} queries select other rows than they should")
     print(f"{counts[True]} as they should be, {counts[None]} refused as they should be, {counts[False]} not (SQLite {sqlite3.sqlite_version})")
     sys.exit(1 if counts[False] else 0)
 

@@ -17,7 +17,7 @@ impl LeafTest {
             LeafTest::Has => Ok(LeafTest::Has),
             LeafTest::Absent => Ok(LeafTest::Absent),
             LeafTest::Fits { pattern, cased } => {
-                let pattern = pattern.copy(alloc)?;
+                let pattern = pattern.copy()?;
                 Ok(LeafTest::Fits {
                     pattern,
                     cased: *cased,

@@ -6,10 +6,10 @@ use Rattle.backend_core.specs.Trees.{Plain, all, any, negated, leaf, Plains, no_
 use Rattle.backend_core.specs.View.{tree_view}
 use Rattle.backend_core.specs.declared.tree.Tree.{Tree}
 use Rattle.event_schema.specs.declared.schema.Field.{Field}
-use Rattle.rule_model.specs.declared.detection.Detection.{Detection}
-use Rattle.rule_model.specs.declared.item.Fields.{Fields}
-use Rattle.rule_model.specs.declared.item.Fields.TheVariants.{Keyword, Names}
-use Rattle.rule_model.specs.declared.item.Item.{Item}
+use Rattle.rule_items.specs.declared.detection.Detection.{Detection}
+use Rattle.rule_items.specs.declared.item.Fields.{Fields}
+use Rattle.rule_items.specs.declared.item.Fields.TheVariants.{Keyword, Names}
+use Rattle.rule_items.specs.declared.item.Item.{Item}
 use Rattle.sig_base.specs.declared.refusal.Place.{Place}
 use Rattle.sig_modifiers.specs.declared.modifier.Joined.{Joined}
 use Rattle.sig_modifiers.specs.declared.modifier.Joined.TheVariants.{All, Any}

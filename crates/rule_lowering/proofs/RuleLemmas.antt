@@ -8,7 +8,7 @@ use Rattle.backend_core.specs.declared.tree.Tree.{Tree}
 use Rattle.event_schema.specs.declared.schema.Field.{Field}
 use Rattle.event_schema.specs.declared.schema.Schema.{Schema}
 use Rattle.rule_model.specs.Plain.{PlainRule, rule_view}
-use Rattle.rule_model.specs.declared.detection.Detection.{Detection}
+use Rattle.rule_items.specs.declared.detection.Detection.{Detection}
 use Rattle.rule_model.specs.declared.rule.Rule.{Rule}
 use Rattle.sig_base.specs.declared.refusal.Fault.{Fault}
 use Rattle.sig_base.specs.declared.refusal.Fault.TheVariants.{Memory, Refused}

@@ -8,15 +8,16 @@ use Rattle.backend_core.specs.Trees.{Plain, all, any, negated, leaf, Plains, no_
 use Rattle.event_schema.specs.Events.{IsPlainText}
 use Rattle.event_schema.specs.declared.schema.Field.{Field}
 use Rattle.event_schema.specs.declared.schema.Schema.{Schema}
-use Rattle.rule_model.specs.Inferred.{fields_refusal, fit_refusal, items_of}
-use Rattle.rule_model.specs.Lists.{EachOf}
+use Rattle.rule_schema.specs.Inferred.{fields_refusal, fit_refusal, items_of}
+use Rattle.sig_modifiers.specs.Lists.{EachOf}
 use Rattle.rule_model.specs.Plain.{PlainRule}
 use Rattle.sig_modifiers.specs.PlainTests.{IsPlainTest}
-use Rattle.rule_model.specs.Whole.{IsSome, IsWholeValue, AreWholeFields, IsWholeItem, IsWholeAlternative, IsWholeDetection, IsWholeForm, AreSomeForms, AreWholeForms, IsWhole}
-use Rattle.rule_model.specs.declared.detection.Detection.{Detection}
-use Rattle.rule_model.specs.declared.item.Fields.{Fields}
-use Rattle.rule_model.specs.declared.item.Fields.TheVariants.{Keyword, Names}
-use Rattle.rule_model.specs.declared.item.Item.{Item}
+use Rattle.rule_items.specs.Whole.{IsSome, IsWholeValue, AreWholeFields, IsWholeItem, IsWholeAlternative, IsWholeDetection}
+use Rattle.rule_model.specs.Whole.{IsWholeForm, AreSomeForms, AreWholeForms, IsWhole}
+use Rattle.rule_items.specs.declared.detection.Detection.{Detection}
+use Rattle.rule_items.specs.declared.item.Fields.{Fields}
+use Rattle.rule_items.specs.declared.item.Fields.TheVariants.{Keyword, Names}
+use Rattle.rule_items.specs.declared.item.Item.{Item}
 use Rattle.sig_base.specs.declared.refusal.Place.{Place}
 use Rattle.sig_conditions.specs.Formulas.{Form, FDetection, FNot, FAnd, FOr, Forms, no_forms, form}
 use Rattle.sig_modifiers.specs.declared.modifier.Joined.{Joined}

@@ -1,10 +1,10 @@
 -- The code's own count of the tests of a rule's tree, made before the tree.
 use Rattle.std.specs.Prelude.{ℕ, ◌+◌, ◌*◌, min, List, length, map, sum_by, slice_index}
 use Rattle.rule_model.specs.Plain.{PlainRule}
-use Rattle.rule_model.specs.declared.detection.Detection.{Detection}
-use Rattle.rule_model.specs.declared.item.Fields.{Fields}
-use Rattle.rule_model.specs.declared.item.Fields.TheVariants.{Keyword, Names}
-use Rattle.rule_model.specs.declared.item.Item.{Item}
+use Rattle.rule_items.specs.declared.detection.Detection.{Detection}
+use Rattle.rule_items.specs.declared.item.Fields.{Fields}
+use Rattle.rule_items.specs.declared.item.Fields.TheVariants.{Keyword, Names}
+use Rattle.rule_items.specs.declared.item.Item.{Item}
 use Rattle.sig_conditions.specs.Formulas.{Form, FDetection, FNot, FAnd, FOr, Forms, no_forms, form, forms_of}
 use Rattle.sig_modifiers.specs.declared.test.Test.{Test}
 

@@ -9,10 +9,10 @@ use Rattle.event_schema.specs.Rows.{field_number}
 use Rattle.event_schema.specs.declared.schema.Field.{Field}
 use Rattle.event_schema.specs.declared.schema.Schema.{Schema}
 use Rattle.rule_model.specs.Plain.{PlainRule}
-use Rattle.rule_model.specs.declared.detection.Detection.{Detection}
-use Rattle.rule_model.specs.declared.item.Fields.{Fields}
-use Rattle.rule_model.specs.declared.item.Fields.TheVariants.{Keyword, Names}
-use Rattle.rule_model.specs.declared.item.Item.{Item}
+use Rattle.rule_items.specs.declared.detection.Detection.{Detection}
+use Rattle.rule_items.specs.declared.item.Fields.{Fields}
+use Rattle.rule_items.specs.declared.item.Fields.TheVariants.{Keyword, Names}
+use Rattle.rule_items.specs.declared.item.Item.{Item}
 use Rattle.sig_base.specs.declared.refusal.Place.{Place}
 use Rattle.sig_conditions.specs.Formulas.{Form, FDetection, FNot, FAnd, FOr, Forms, no_forms, form}
 use Rattle.sig_modifiers.specs.declared.modifier.Joined.{Joined}

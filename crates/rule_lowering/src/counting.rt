@@ -5,7 +5,8 @@ ghost use Rattle.rule_lowering.specs.Counts as spec;
 ghost use Rattle.rule_model.specs.Plain.{rule_view};
 ghost use Rattle.sig_conditions.specs.Formulas.{form_view, forms_view, forms_of};
 
-use rule_model::{Alternative, Detection, Fields, Item, Rule};
+use rule_items::{Alternative, Detection, Fields, Item};
+use rule_model::Rule;
 use sig_base::Fault;
 use sig_conditions::Formula;
 use sig_modifiers::Tests;

@@ -12,7 +12,7 @@ use crate::lowering::lower_numbered;
 use crate::numbers::Numbers;
 use backend_core::Tree;
 use event_schema::Field;
-use rule_model::Detection;
+use rule_items::Detection;
 use sig_base::Fault;
 use sig_conditions::Formula;
 use sig_modifiers::Joined;

@@ -7,7 +7,7 @@ ghost use Rattle.backend_core.specs.View.{tree_view};
 ghost use Rattle.rule_lowering.specs.Joining.{join};
 ghost use Rattle.rule_lowering.specs.Numbered.{Numbered};
 ghost use Rattle.rule_lowering.specs.TreeOf as spec;
-ghost use Rattle.rule_model.specs.declared.item.Fields.TheVariants.{Keyword, Names};
+ghost use Rattle.rule_items.specs.declared.item.Fields.TheVariants.{Keyword, Names};
 ghost use Rattle.sig_modifiers.specs.declared.modifier.Joined.TheVariants.{Any};
 ghost use Rattle.sig_strings.specs.declared.part.Part.TheVariants.{Char};
 
@@ -15,7 +15,7 @@ use crate::joining::{add_part, close_parts};
 use crate::numbers::Numbers;
 use backend_core::{Leaf, LeafTest, Tree};
 use event_schema::{Field, decimal};
-use rule_model::{Detection, Fields, Item};
+use rule_items::{Detection, Fields, Item};
 use sig_base::{Fault, Place, Text};
 use sig_modifiers::{Joined, Test, Tests};
 use sig_strings::{Part, Pattern};
@@ -28,7 +28,7 @@ fn decimal_pattern(alloc: Global, number: i64) -> Result<Pattern, Fault>
 {
     let text = decimal(alloc, number)?;
     let parts = text.as_str().chars().map(|c| Part::Char(c)).collect(alloc)?;
-    Ok(Pattern::of_parts(parts))
+    Pattern::of_parts(parts)
 }
 
 /// What a leaf asks for a test.
@@ -40,7 +40,7 @@ fn lower_test(alloc: Global, test: &Test) -> Result<LeafTest, Fault>
         Test::Absent | Test::Exists(false) => Ok(LeafTest::Absent),
         Test::Exists(true) => Ok(LeafTest::Has),
         Test::Fits { pattern, cased } => {
-            let pattern = pattern.copy(alloc)?;
+            let pattern = pattern.copy()?;
             Ok(LeafTest::Fits {
                 pattern,
                 cased: *cased,

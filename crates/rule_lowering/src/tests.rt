@@ -5,9 +5,9 @@ ghost use Rattle.std.specs.Prelude.{◌≤◌};
 use crate::lower;
 use backend_core::{Leaf, LeafTest, Tree};
 use event_schema::{Field, FieldKind, Schema};
-use rule_model::{
-    Alternative, Alternatives, Detection, Detections, Fields, Head, Item, LogSource, Rule, Values,
-};
+use rule_head::{Head, LogSource};
+use rule_items::{Alternative, Alternatives, Detection, Detections, Fields, Item, Values};
+use rule_model::Rule;
 use sig_base::{Code, Detail, Fault, Limits, Place, Text, Texts};
 use sig_conditions::Formula;
 use sig_modifiers::{Joined, Test, Tests};

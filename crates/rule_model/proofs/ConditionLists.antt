@@ -15,14 +15,15 @@ use Rattle.yaml_tree.specs.View.{nodes_view}
 use Rattle.yaml_tree.specs.declared.tree.Node.{Node}
 use Rattle.sig_conditions.specs.Words.{words}
 use Rattle.rule_model.proofs.Faultless.{whole_formula}
-use Rattle.rule_model.proofs.Firsts.{behind, judged_as}
-use Rattle.rule_model.proofs.Lines.{first_one, first_holds, must_holds, must_same, not_holds}
-use Rattle.rule_model.proofs.Zips.{zip_some}
+use Rattle.rule_items.proofs.Firsts.{behind, judged_as}
+use Rattle.rule_items.proofs.Lines.{first_one, first_holds, must_holds, must_same, not_holds}
+use Rattle.rule_items.proofs.Zips.{zip_some}
 use Rattle.rule_model.specs.Conditions.{names_of, IsFormula, listed_refusal, conditions_refusal, conditions_in, AreConditions}
 use Rattle.yaml_tree.specs.Nodes.{is_empty}
 use Rattle.yaml_tree.specs.Nodes.{parts_in, value_in, entries_in, refused_by, text_in}
-use Rattle.rule_model.specs.Lists.{EachOf}
-use Rattle.rule_model.specs.Whole.{IsSome, IsWholeForm}
+use Rattle.sig_modifiers.specs.Lists.{EachOf}
+use Rattle.rule_items.specs.Whole.{IsSome}
+use Rattle.rule_model.specs.Whole.{IsWholeForm}
 
 -- a list that isn't empty isn't refused as such
 pub unempty : (ns : List Node) (t : Tree) (place : Place) (b : Bool) → nodes_view ns ≡ parts_in t → place ≡ place_of t → b ≡ is_empty (nodes_view ns)

@@ -1,16 +1,7 @@
-pub mod ByKind
 pub mod ConditionLists
-pub mod Days
 pub mod Faultless
-pub mod Firsts
-pub mod Lines
 pub mod OneRule
 pub mod RuleLemmas
 pub mod SomeRule
 pub mod Texts
-pub mod WholeItems
 pub mod WholeRule
-pub mod Zips
-pub mod Gathering
-pub mod Gathered
-pub mod Keywords

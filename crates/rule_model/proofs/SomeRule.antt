@@ -18,19 +18,20 @@ use Rattle.sig_modifiers.specs.Written.{Written}
 use Rattle.sig_modifiers.specs.declared.test.Test.{Test}
 use Rattle.yaml_tree.specs.Tree.{Tree, scalar, list, map as tree_map, Member}
 use Rattle.rule_model.specs.Conditions.{condition_of, first_fault, unresolved, condition_refusal, IsFormula, names_of, listed_refusal, conditions_refusal, conditions_in, AreConditions}
-use Rattle.rule_model.specs.Detections.{alternative_refusal, IsAlternative, content_refusal, is_detection_key, detection_refusal, IsDetection, detection_entries, is_identified, begins_with_timeframe, detections_refusal, AreDetections}
-use Rattle.rule_model.specs.Heads.{head_checks, rest_of, IsHead}
-use Rattle.rule_model.specs.Items.{key_chain, fields_of, shape_refusal, values_refusal, item_refusal, IsItem, bare_chain, keyword_refusal, IsKeyword}
-use Rattle.rule_model.specs.Keys.{words_in, is_keyword_key, is_item_key}
+use Rattle.rule_items.specs.Detections.{alternative_refusal, IsAlternative, content_refusal, is_detection_key, detection_refusal, IsDetection, detection_entries, is_identified, begins_with_timeframe, detections_refusal, AreDetections}
+use Rattle.rule_head.specs.Heads.{head_checks, rest_of, IsHead}
+use Rattle.rule_items.specs.Items.{key_chain, fields_of, shape_refusal, values_refusal, item_refusal, IsItem, bare_chain, keyword_refusal, IsKeyword}
+use Rattle.rule_items.specs.Keys.{words_in, is_keyword_key, is_item_key}
 use Rattle.yaml_tree.specs.Nodes.{is_empty}
 use Rattle.yaml_tree.specs.Nodes.{is_map, is_null, is_text, text_in, entered, entries_in, parts_in, key_place, value_in, refused_by, text_of, text_at}
-use Rattle.rule_model.specs.Plain.{PlainHead, PlainRule}
+use Rattle.rule_head.specs.Plain.{PlainHead}
+use Rattle.rule_model.specs.Plain.{PlainRule}
 use Rattle.rule_model.specs.Rules.{rule_refusal, IsRule}
-use Rattle.rule_model.specs.Sources.{source_refusal, source_of}
-use Rattle.rule_model.specs.declared.detection.Detection.{Detection}
-use Rattle.rule_model.specs.declared.item.Fields.TheVariants.{Keyword}
-use Rattle.rule_model.specs.declared.item.Item.{Item}
-use Rattle.rule_model.proofs.Lines.{first_holds, must_holds}
+use Rattle.rule_head.specs.Sources.{source_refusal, source_of}
+use Rattle.rule_items.specs.declared.detection.Detection.{Detection}
+use Rattle.rule_items.specs.declared.item.Fields.TheVariants.{Keyword}
+use Rattle.rule_items.specs.declared.item.Item.{Item}
+use Rattle.rule_items.proofs.Lines.{first_holds, must_holds}
 
 -- where no element is refused, each has what it is read as
 pub zip_all : {A B : Type 0} (R : A → B → Type 0) (refusal : A → Option Refusal) → ((x : A) → refusal x ≡ None → (y : B) × R x y)

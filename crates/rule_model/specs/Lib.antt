@@ -1,17 +1,4 @@
-pub mod Lists
 pub mod Plain
-pub mod Heads
-pub mod Bare
-pub mod Forms
-pub mod Sources
-pub mod Keys
-pub mod Pieces
-pub mod Items
-pub mod Detections
 pub mod Conditions
 pub mod Rules
-pub mod Matching
 pub mod Whole
-pub mod Inferred
-pub mod Gathered
-pub mod Fitting

@@ -6,11 +6,11 @@ use Rattle.sig_base.specs.declared.refusal.Refusal.{Refusal}
 use Rattle.sig_base.specs.Judged.{first}
 use Rattle.yaml_tree.specs.Tree.{Tree}
 use Rattle.rule_model.specs.Conditions.{conditions_refusal, AreConditions}
-use Rattle.rule_model.specs.Detections.{detections_refusal, AreDetections}
-use Rattle.rule_model.specs.Heads.{head_checks, IsHead}
+use Rattle.rule_items.specs.Detections.{detections_refusal, AreDetections}
+use Rattle.rule_head.specs.Heads.{head_checks, IsHead}
 use Rattle.yaml_tree.specs.Nodes.{entries_in, value_in, required, refused_at}
 use Rattle.rule_model.specs.Plain.{PlainRule}
-use Rattle.rule_model.specs.Sources.{source_refusal, source_of}
+use Rattle.rule_head.specs.Sources.{source_refusal, source_of}
 
 -- the head, then the log source, then the detections by place, and then the condition
 abbrev pub rule_refusal : Limits → Tree → Option Refusal

@@ -1,16 +1,27 @@
 //! What follows from the definitions, for the proofs of callers: each function does nothing else than name laws that it
 //! stands on, and its clauses are laws.
 
-ghost use Rattle.std.specs.Prelude.{◌≡◌, None};
+ghost use Rattle.std.specs.Prelude.{◌≡◌, ◌≤◌, ℕ, List, Some, None};
+ghost use Rattle.sig_conditions.specs.Conditions.{Cond};
+ghost use Rattle.sig_conditions.specs.Grammar.{ConditionReads};
+ghost use Rattle.sig_conditions.specs.Words.{nesting, words};
 ghost use Rattle.sig_base.specs.declared.limits.Limits.{Limits};
 ghost use Rattle.yaml_tree.specs.Texts.{HasScalarTexts};
 ghost use Rattle.yaml_tree.specs.Tree.{Tree};
+ghost use Rattle.rule_model.specs.Conditions.{condition_of};
 ghost use Rattle.rule_model.specs.Plain.{PlainRule};
 ghost use Rattle.rule_model.specs.Rules.{rule_refusal, IsRule};
 ghost use Rattle.rule_model.specs.Whole.{IsWhole};
 
 use sig_conditions::one_condition;
 use sig_modifiers::{one_tests, plain_tests, tests_or_refusal};
+
+/// A text has a condition in the tables, of at most so many words that nest, exactly where the grammar has one.
+pub fn condition_of_text()
+    ensures sound { (most : ℕ) (text : List ℕ) (c : Cond) → condition_of most text ≡ Some c → ConditionReads (words text) c }
+    ensures complete { (most : ℕ) (text : List ℕ) (c : Cond)
+        → nesting (words text) ≤ most → ConditionReads (words text) c → condition_of most text ≡ Some c }
+{}
 
 /// A document is one rule, if any.
 pub fn one_rule()

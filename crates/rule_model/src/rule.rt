@@ -1,9 +1,21 @@
 //! Rules.
 
-use crate::detection::Detections;
-use crate::head::Head;
-use crate::source::LogSource;
+ghost use Rattle.std.specs.Prelude.{◌≡◌, [], IfOk};
+ghost use Rattle.sig_base.specs.Judged.{Judged};
+ghost use Rattle.yaml_tree.specs.View.{node_view};
+ghost use Rattle.rule_model.specs.Plain.{rule_with};
+ghost use Rattle.rule_head.specs.Heads.{rest_of};
+ghost use Rattle.rule_model.specs.Plain.{rule_view};
+ghost use Rattle.rule_model.specs.Rules.{IsRule, rule_refusal};
+ghost use Rattle.rule_model.specs.Whole.{IsWhole};
+
+use crate::conditions::read_conditions;
+use rule_head::{Head, LogSource, copy_rest};
+use rule_items::{Detections, read_detections};
+use sig_base::{Code, Fault, Limits, refused};
 use sig_conditions::Formula;
+use std::alloc::Global;
+use yaml_tree::{Node, all_entries, place_of, value_at};
 
 /// A rule matches an event where one of its conditions is true of its detections.
 #[derive(Drop)]
@@ -12,4 +24,44 @@ pub struct Rule {
     pub source: LogSource,
     pub detections: Detections,
     pub conditions: Vec<Formula>,
+}
+
+impl Rule {
+    /// Reads the rule that a document is. What is refused first is answered: the head's keys in their order, then
+    /// the log source, then the detections by place, and then the conditions. A missing `logsource` or `detection`
+    /// is refused 70 at the document's node.
+    pub fn read(alloc: Global, limits: &Limits, node: &Node) -> Result<Rule, Fault>
+        ensures judged { Judged (λ r. IsRule (node_view node.now) (rule_view r)) (rule_refusal limits.now (node_view node.now)) result }
+        ensures whole { IfOk result (λ r. IsWhole (rule_view r)) }
+    {
+        let mut rule = Rule::read_bare(alloc, limits, node)?;
+        rule.head.rest = copy_rest(alloc, all_entries(node))?;
+        Ok(rule)
+    }
+
+    /// Reads a rule as `read` does, but for the entries that its head keeps as they are: `rest` is empty. It takes no copy
+    /// of the document, and the rule has the same meaning and the same query.
+    pub fn read_bare(alloc: Global, limits: &Limits, node: &Node) -> Result<Rule, Fault>
+        ensures judged { Judged (λ r. IsRule (node_view node.now) (rule_with (rest_of (node_view node.now)) (rule_view r)))
+            (rule_refusal limits.now (node_view node.now)) result }
+        ensures bare { IfOk result (λ r. (rule_view r).head.rest ≡ []) }
+        ensures whole { IfOk result (λ r. IsWhole (rule_view r)) }
+    {
+        let head = Head::read_bare(alloc, node)?;
+        let Some(source) = value_at(node, "logsource") else {
+            return Err(refused(Code::MISSING_KEY, place_of(node)));
+        };
+        let source = LogSource::read(alloc, source)?;
+        let Some(detection) = value_at(node, "detection") else {
+            return Err(refused(Code::MISSING_KEY, place_of(node)));
+        };
+        let detections = read_detections(alloc, limits, detection)?;
+        let conditions = read_conditions(alloc, limits, detection)?;
+        Ok(Rule {
+            head,
+            source,
+            detections,
+            conditions,
+        })
+    }
 }

@@ -118,127 +118,65 @@ fn told(alloc: Global, refusal: &Refusal) -> Result<String, Fail> {
     Ok(text)
 }
 
-fn with_head(alloc: Global, head: &[(&str, &str)]) -> Result<String, Fail> {
+/// The title, how many entries the head keeps, the product, and how many detections and conditions there are.
+fn said(alloc: Global, rule: &Rule) -> Result<String, Fail> {
+    let title = rule.head.title.as_str();
+    let kept = rule.head.rest.len();
+    let product = match &rule.source.product {
+        Some(product) => product.as_str(),
+        None => "-",
+    };
+    let detections = rule.detections.as_slice().len();
+    let conditions = rule.conditions.len();
+    Ok(format!(in alloc; "{title} {kept} {product} {detections} {conditions}")?)
+}
+
+#[test]
+fn rules_are_read_and_copied(rt: HostRuntime) -> Result<(), Fail> {
+    let alloc = rt.alloc();
     let node = document(
         alloc,
-        head,
-        [("category", "c")].as_slice(),
-        [("s", "x"), ("condition", "s")].as_slice(),
+        [("author", "a"), ("title", "t"), ("tags", "[]")].as_slice(),
+        [("product", "p")].as_slice(),
+        [("s", "x"), ("condition", "not s"), ("r", "y")].as_slice(),
+    )?;
+    let bare = Rule::read_bare(alloc, &Limits::standard(), &node)?;
+    assert_eq!(rt; said(alloc, &bare)?.as_str(), "t 0 p 2 1");
+    let rule = Rule::read(alloc, &Limits::standard(), &node)?.copy(alloc)?;
+    assert_eq!(rt; said(alloc, &rule)?.as_str(), "t 4 p 2 1");
+    Ok(())
+}
+
+/// What refuses a rule with this title, this log source and this detection `s` of the condition `s s`.
+fn parts_refusal(
+    alloc: Global,
+    title: &str,
+    source: &[(&str, &str)],
+    value: &str,
+) -> Result<String, Fail> {
+    let node = document(
+        alloc,
+        [("title", title)].as_slice(),
+        source,
+        [("condition", "s s"), ("s", value)].as_slice(),
     )?;
     shown(alloc, &Limits::standard(), &node)
 }
 
 #[test]
-fn heads_are_refused(rt: HostRuntime) -> Result<(), Fail> {
-    let alloc = rt.alloc();
-    for (head, want) in [
-        ([("title", "t")].as_slice(), ""),
-        ([("name", "n")].as_slice(), "70 1 1"),
-        ([("id", "x")].as_slice(), "70 1 1"),
-        ([("title", "")].as_slice(), "72 1 8"),
-        ([("title", "~"), ("id", "x")].as_slice(), "72 1 8"),
-        ([("title", "t"), ("id", "x")].as_slice(), "73 2 5"),
-        (
-            [("id", "x"), ("name", "~"), ("title", "t")].as_slice(),
-            "73 1 5",
-        ),
-        ([("name", "[]"), ("title", "t")].as_slice(), "71 1 7"),
-        ([("title", "t"), ("status", "Test")].as_slice(), "75 2 9"),
-        ([("title", "t"), ("modified", "x")].as_slice(), "74 2 11"),
-        ([("title", "t"), ("level", "High")].as_slice(), "76 2 8"),
-        (
-            [("title", "t"), ("level", "x"), ("date", "y")].as_slice(),
-            "74 3 7",
-        ),
-        (
-            [("date", "~"), ("title", "t"), ("status", "~")].as_slice(),
-            "75 3 9",
-        ),
-        (
-            [
-                ("title", "t"),
-                ("id", "929a690e-bef0-4204-a928-ef5e620d6fcc"),
-                ("name", "n"),
-                ("status", "experimental"),
-                ("date", "2024-02-29"),
-                ("modified", "9999-12-31"),
-                ("level", "informational"),
-                ("author", "~"),
-            ]
-            .as_slice(),
-            "",
-        ),
+fn parts_are_judged_in_order(rt: HostRuntime) -> Result<(), Fail> {
+    let product = [("product", "p")].as_slice();
+    for (title, source, value, want) in [
+        ("", [].as_slice(), "~", "72 1 8"),
+        ("t", [].as_slice(), "~", "70 3 3"),
+        ("t", product, "~", "77 6 6"),
+        ("t", product, "x", "60 5 14"),
     ] {
-        assert_eq!(rt; with_head(alloc, head)?.as_str(), want);
+        assert_eq!(rt;
+            parts_refusal(rt.alloc(), title, source, value)?.as_str(),
+            want
+        );
     }
-    Ok(())
-}
-
-#[test]
-fn titles_have_1_to_256_characters(rt: HostRuntime) -> Result<(), Fail> {
-    let alloc = rt.alloc();
-    let mut title = String::new(alloc);
-    for _ in 0..256u32 {
-        title.push('\u{e9}')?;
-    }
-    assert_eq!(rt;
-        with_head(alloc, [("title", title.as_str())].as_slice())?.as_str(),
-        ""
-    );
-    title.push('e')?;
-    assert_eq!(rt;
-        with_head(alloc, [("title", title.as_str())].as_slice())?.as_str(),
-        "72 1 8"
-    );
-    Ok(())
-}
-
-#[test]
-fn dates_are_days_of_the_calendar(rt: HostRuntime) -> Result<(), Fail> {
-    let alloc = rt.alloc();
-    for (date, want) in [
-        ("2000-02-29", ""),
-        ("0000-01-01", ""),
-        ("1900-02-29", "74 2 7"),
-        ("2023-02-29", "74 2 7"),
-        ("2024-04-31", "74 2 7"),
-        ("2024-00-10", "74 2 7"),
-        ("2024-13-01", "74 2 7"),
-        ("2024-01-00", "74 2 7"),
-        ("2024/01/02", "74 2 7"),
-        ("2024-1-2", "74 2 7"),
-        ("2024-01-023", "74 2 7"),
-        ("2024-01-0\u{662}", "74 2 7"),
-    ] {
-        let head = [("title", "t"), ("date", date)];
-        assert_eq!(rt; with_head(alloc, head.as_slice())?.as_str(), want, "{date}");
-    }
-    Ok(())
-}
-
-#[test]
-fn the_rest_of_a_head_is_kept(rt: HostRuntime) -> Result<(), Fail> {
-    let alloc = rt.alloc();
-    let node = document(
-        alloc,
-        [
-            ("author", "a"),
-            ("title", "t"),
-            ("level", "low"),
-            ("tags", "[]"),
-        ]
-        .as_slice(),
-        [("product", "p")].as_slice(),
-        [("s", "x"), ("condition", "s")].as_slice(),
-    )?;
-    let rule = Rule::read(alloc, &Limits::standard(), &node)?;
-    assert_eq!(rt; rule.head.title.as_str(), "t");
-    assert!(rt; rule.head.id.is_none());
-    assert_eq!(rt; rule.head.rest.len(), 4);
-    assert_eq!(rt; rule.head.rest[0].key.as_str(), "author");
-    assert_eq!(rt; rule.head.rest[1].key.as_str(), "tags");
-    assert!(rt; rule.source.category.is_none());
-    assert!(rt; rule.source.product.is_some());
     Ok(())
 }
 
@@ -262,36 +200,6 @@ fn what_is_no_map_is_refused(rt: HostRuntime) -> Result<(), Fail> {
         }
         let node = Node::map(TOP, entries);
         assert_eq!(rt; shown(alloc, &limits, &node)?.as_str(), want, "{key}");
-    }
-    Ok(())
-}
-
-#[test]
-fn log_sources_are_refused(rt: HostRuntime) -> Result<(), Fail> {
-    let alloc = rt.alloc();
-    for (source, want) in [
-        ([("service", "s")].as_slice(), "60 6 14"),
-        (
-            [("definition", "~"), ("product", "p")].as_slice(),
-            "60 7 14",
-        ),
-        ([].as_slice(), "70 3 3"),
-        ([("definition", "d")].as_slice(), "70 3 3"),
-        ([("category", "[]")].as_slice(), "71 3 13"),
-        ([("product", "~")].as_slice(), "71 3 12"),
-        ([("category", "c"), ("service", "{}")].as_slice(), "71 4 12"),
-        (
-            [("service", "~"), ("product", "~"), ("category", "~")].as_slice(),
-            "71 5 13",
-        ),
-    ] {
-        let node = document(
-            alloc,
-            [("title", "t")].as_slice(),
-            source,
-            [("s", "x"), ("condition", "s s")].as_slice(),
-        )?;
-        assert_eq!(rt; shown(alloc, &Limits::standard(), &node)?.as_str(), want);
     }
     Ok(())
 }

@@ -15,13 +15,13 @@ use Rattle.rule_lowering.specs.Refused.{leaves_refusal}
 use Rattle.rule_model.specs.Rules.{rule_refusal, IsRule}
 use Rattle.rule_queries.specs.Verdicts.{ConvertAnswers, no_query}
 use Rattle.yaml_tree.specs.Tree.{Tree, Member}
-use Rattle.rule_model.specs.Bare.{rule_with}
+use Rattle.rule_model.specs.Plain.{rule_with}
 use Rattle.sig_base.specs.Judged.{first, Judged}
 use Rattle.sql_lang.specs.Expression.{depth}
 use Rattle.sqlite_writer.specs.Queries.{query_expr, query_bytes}
 use Rattle.rule_lowering.specs.Leaves.{leaves}
 use Rattle.rule_lowering.specs.TreeOf.{tree_of}
-use Rattle.rule_model.specs.Inferred.{inferred_schema, schema_refusal, fit_refusal}
+use Rattle.rule_schema.specs.Inferred.{inferred_schema, schema_refusal, fit_refusal}
 use Rattle.rule_model.specs.Plain.{PlainRule}
 use Rattle.rule_queries.specs.Queries.{rule_tree, query_of, query_depth, query_refusal, size_checks, at_most}
 

@@ -9,8 +9,8 @@ use Rattle.event_schema.specs.Inferred.{text_field}
 use Rattle.event_schema.specs.declared.schema.Schema.{Schema}
 use Rattle.event_schema.specs.declared.value.Value.{Value}
 use Rattle.rule_lowering.specs.TreeOf.{tree_of}
-use Rattle.rule_model.specs.Inferred.{inferred_schema, fit_refusal, schema_refusal, rule_names}
-use Rattle.rule_model.specs.Matching.{Matches}
+use Rattle.rule_schema.specs.Inferred.{inferred_schema, fit_refusal, schema_refusal, rule_names}
+use Rattle.rule_matching.specs.Matching.{Matches}
 use Rattle.rule_model.specs.Plain.{PlainRule}
 use Rattle.rule_model.specs.Rules.{rule_refusal, IsRule}
 use Rattle.rule_model.specs.Whole.{IsWhole}

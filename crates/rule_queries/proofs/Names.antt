@@ -9,14 +9,15 @@ use Rattle.sig_base.specs.declared.refusal.Place.{Place}
 use Rattle.sig_base.specs.declared.refusal.Refusal.{Refusal}
 use Rattle.sig_base.specs.Judged.{refusal}
 use Rattle.sqlite_writer.specs.Schemas.{AreScalars, IsOther, AreApart}
-use Rattle.rule_model.specs.Inferred.{Use, clashes, clash_behind, distinct, uses_of, items_of, names_in, rule_names, schema_refusal}
-use Rattle.rule_model.specs.Lists.{EachOf}
+use Rattle.rule_schema.specs.Inferred.{Use, clashes, clash_behind, distinct, uses_of, items_of, names_in, rule_names, schema_refusal}
+use Rattle.sig_modifiers.specs.Lists.{EachOf}
 use Rattle.rule_model.specs.Plain.{PlainRule}
-use Rattle.rule_model.specs.Whole.{IsWhole, IsWholeName, IsWholeItem, IsWholeAlternative, IsWholeDetection, AreWholeFields}
-use Rattle.rule_model.specs.declared.detection.Detection.{Detection}
-use Rattle.rule_model.specs.declared.item.Fields.{Fields}
-use Rattle.rule_model.specs.declared.item.Fields.TheVariants.{Keyword, Names}
-use Rattle.rule_model.specs.declared.item.Item.{Item}
+use Rattle.rule_model.specs.Whole.{IsWhole}
+use Rattle.rule_items.specs.Whole.{IsWholeName, IsWholeItem, IsWholeAlternative, IsWholeDetection, AreWholeFields}
+use Rattle.rule_items.specs.declared.detection.Detection.{Detection}
+use Rattle.rule_items.specs.declared.item.Fields.{Fields}
+use Rattle.rule_items.specs.declared.item.Fields.TheVariants.{Keyword, Names}
+use Rattle.rule_items.specs.declared.item.Item.{Item}
 use Rattle.sig_modifiers.specs.declared.test.Test.{Test}
 
 -- ---- of characters

@@ -6,8 +6,8 @@ use Rattle.backend_core.specs.Trees.{Plain}
 use Rattle.event_schema.specs.Events.{IsEvent}
 use Rattle.event_schema.specs.declared.schema.Schema.{Schema}
 use Rattle.event_schema.specs.declared.value.Value.{Value}
-use Rattle.rule_model.specs.Inferred.{inferred_schema, schema_refusal, fit_refusal}
-use Rattle.rule_model.specs.Matching.{Matches}
+use Rattle.rule_schema.specs.Inferred.{inferred_schema, schema_refusal, fit_refusal}
+use Rattle.rule_matching.specs.Matching.{Matches}
 use Rattle.rule_model.specs.Plain.{PlainRule}
 use Rattle.rule_lowering.specs.Leaves.{leaves}
 use Rattle.rule_lowering.specs.TreeOf.{tree_of}

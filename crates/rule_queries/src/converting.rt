@@ -1,7 +1,7 @@
 //! Nodes of documents as rules, and rules as queries.
 
 ghost use Rattle.std.specs.Prelude.{◌≡◌, None};
-ghost use Rattle.rule_model.specs.Inferred.{inferred_schema, fit_refusal};
+ghost use Rattle.rule_schema.specs.Inferred.{inferred_schema, fit_refusal};
 ghost use Rattle.rule_model.specs.Plain.{rule_view};
 ghost use Rattle.rule_model.specs.Whole.{IsWhole};
 ghost use Rattle.rule_queries.specs.Queries.{query_of, query_refusal, size_checks};
@@ -12,6 +12,7 @@ ghost use Rattle.yaml_tree.specs.View.{node_view};
 use event_schema::Schema;
 use rule_lowering::lower;
 use rule_model::Rule;
+use rule_schema::{fit_schema, infer_schema};
 use sig_base::{Bytes, Fault, Limits, Place};
 use sqlite_writer::Sqlite;
 use std::alloc::Global;
@@ -33,10 +34,10 @@ fn convert_rule(alloc: Global, limits: &Limits, rule: &Rule) -> Result<Bytes, Fa
     requires { IsWhole (rule_view rule.now) }
     ensures { Judged (λ bytes. bytes ≡ query_of (rule_view rule.now)) (query_refusal limits.now (rule_view rule.now)) result }
 {
-    let schema = rule.infer_schema(alloc)?;
-    match rule.first_keyword() {
-        Some(refusal) => Err(Fault::Refused(refusal)),
-        None => write_rule(alloc, limits, rule, &schema),
+    let schema = infer_schema(alloc, rule)?;
+    match fit_schema(rule, &schema) {
+        Err(refusal) => Err(Fault::Refused(refusal)),
+        Ok(()) => write_rule(alloc, limits, rule, &schema),
     }
 }
 

@@ -1,7 +1,7 @@
 pub mod Chains
 pub mod Complete
 pub mod Fitting
-pub mod Indexing
+pub mod Knowing
 pub mod MeaningLemmas
 pub mod Parts
 pub mod Places

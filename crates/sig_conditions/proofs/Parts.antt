@@ -1,5 +1,5 @@
 -- The loop over the parts of a chain: the formulas so far and those of the parts that are left make the whole.
-use Rattle.std.proofs.Common.{ℕ, ◌≡◌, ◌<◌, ◌+◌, List, [], ◌∷◌, ◌++◌, length, get_or, drop, refl, ap, sym, ◌∙◌, subst}
+use Rattle.std.proofs.Common.{ℕ, ◌≡◌, ◌<◌, ◌+◌, List, [], ◌∷◌, ◌++◌, length, get_or, drop, refl, ap, sym, ◌∙◌, subst, arith}
 use Rattle.std.specs.Prelude.{Some, None, Ok, Err}
 use Rattle.std.specs.Result.{IsErrAnd}
 use Rattle.std.specs.declared.option.Option.{Option}
@@ -12,6 +12,7 @@ use Rattle.sig_conditions.specs.declared.unresolved.Unresolved.TheVariants.{Memo
 use Rattle.sig_conditions.specs.Conditions.{Conds, conds_of, cond_view, conds_view}
 use Rattle.sig_conditions.specs.Formulas.{Form, Forms, no_forms, form, form_view, forms_of, forms_view, both, formula_of, formulas_of, made, Why, faults, faults_of}
 use Rattle.sig_conditions.specs.Resolved.{Fails, Resolves}
+use Rattle.sig_conditions.specs.Selectors.{taken_count, taken_counts}
 
 -- formulas before those that follow
 abbrev pub before : List Form → Forms → Forms
@@ -88,3 +89,19 @@ pub hands_on : {X A : Type 0} (view : X → A) (r : Result X Unresolved) (e : Un
     → IsErrAnd r Q → ((y : Unresolved) → Q y → y ≡ e) → Fails e whys → Resolves view r o whys
 hands_on view (Ok x) e Q o whys h q f = absurd h
 hands_on view (Err y) e Q o whys h q f = subst (λ (z : Unresolved). Fails z whys) (sym (q y h)) f
+
+-- one more part has taken names
+pub left_goes : (names : List (List ℕ)) (i : ℕ) (cs : List Condition) (c : Condition) (before after whole all : ℕ) → i < length cs → c ≡ get_or cs i c
+    → before + all ≡ whole + taken_counts names (conds_of (conds_view (drop i cs))) → after + taken_count names (cond_view c) ≡ before
+    → after + all ≡ whole + taken_counts names (conds_of (conds_view (drop (i + 1) cs)))
+left_goes names i cs c before after whole all l e inv paid =
+    let step : taken_counts names (conds_of (conds_view (drop i cs))) ≡ taken_count names (cond_view c) + taken_counts names (conds_of (conds_view (drop (i + 1) cs))) =
+    part_at (taken_counts names) i cs c l e in
+    omega (arith, inv, paid, step)
+
+-- all parts have
+pub left_end : (names : List (List ℕ)) (cs : List Condition) (after whole all : ℕ) → cs ≡ []
+    → after + all ≡ whole + taken_counts names (conds_of (conds_view cs)) → after + all ≡ whole
+left_end names cs after whole all e inv =
+    let none : taken_counts names (conds_of (conds_view cs)) ≡ 0 = ap (λ (ds : List Condition). taken_counts names (conds_of (conds_view ds))) e in
+    omega (arith, inv, none)

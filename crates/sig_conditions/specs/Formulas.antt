@@ -22,8 +22,14 @@ abbrev pub forms_of : List Form → Forms
 forms_of [] = no_forms
 forms_of (f ∷ fs) = form f (forms_of fs)
 
+-- the detections of these numbers
+abbrev pub numbered : List ℕ → List Form
+numbered is = map FDetection is
+
 abbrev pub form_step : Formula-F Form → Form
 form_step (Formula-F.Detection n) = FDetection n
+form_step (Formula-F.OneOf ns) = FOr (forms_of (numbered ns))
+form_step (Formula-F.AllOf ns) = FAnd (forms_of (numbered ns))
 form_step (Formula-F.Not f) = FNot f.value
 form_step (Formula-F.And fs) = FAnd (forms_of fs.items)
 form_step (Formula-F.Or fs) = FOr (forms_of fs.items)
@@ -49,10 +55,6 @@ abbrev mutual
   pub some_true : (ℕ → Bool) → Forms → Bool
   some_true holds no_forms = false
   some_true holds (form f fs) = value holds f || some_true holds fs
-
--- the detections of these numbers
-abbrev pub numbered : List ℕ → List Form
-numbered is = map FDetection is
 
 abbrev pub named : Option ℕ → Option Form
 named None = None

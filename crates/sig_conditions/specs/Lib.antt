@@ -1,7 +1,7 @@
 pub mod Conditions
 pub mod Formulas
 pub mod Grammar
-pub mod Indexes
+pub mod Named
 pub mod Meaning
 pub mod Outcome
 pub mod Reader

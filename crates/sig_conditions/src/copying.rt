@@ -25,6 +25,8 @@ fn copy_formula(alloc: Global, formula: &Formula) -> Result<Formula, Fault>
 {
     match formula {
         Formula::Detection(number) => Ok(Formula::Detection(*number)),
+        Formula::OneOf(numbers) => Ok(Formula::OneOf(numbers.copy(alloc)?)),
+        Formula::AllOf(numbers) => Ok(Formula::AllOf(numbers.copy(alloc)?)),
         Formula::Not(part) => {
             let copy = copy_formula(alloc, part)?;
             Ok(Formula::Not(Box::new(alloc, copy)?))

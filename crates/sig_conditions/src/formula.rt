@@ -1,10 +1,16 @@
 //! A condition over the numbers of a rule's detections.
 
-/// A condition whose names are looked up: a detection is its number in the rule.
+use crate::numbers::Numbers;
+
+/// A condition whose names are looked up: a detection is its number in the rule, from 0.
 #[derive(Drop)]
 pub enum Formula {
-    /// The detection of this number, from 0.
+    /// The detection of this number.
     Detection(u32),
+    /// True where some detection of these numbers is.
+    OneOf(Numbers),
+    /// True where each detection of these numbers is.
+    AllOf(Numbers),
     /// True where the part isn't.
     Not(Box<Formula>),
     /// True where all parts are.

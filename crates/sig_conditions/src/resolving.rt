@@ -1,9 +1,10 @@
 //! The formula of a condition.
 
-ghost use Rattle.std.specs.Prelude.{◌≡◌, Some, IfOk, IfErr};
+ghost use Rattle.std.specs.Prelude.{◌≡◌, ◌+◌, Some, IfOk, IfErr, OnOk};
 ghost use Rattle.sig_conditions.specs.Conditions.{cond_view};
 ghost use Rattle.sig_conditions.specs.Formulas.{form_view, formula_of};
 ghost use Rattle.sig_conditions.specs.Refusals.{IsUnresolved, refusal_of};
+ghost use Rattle.sig_conditions.specs.Selectors.{taken_count};
 
 use crate::condition::Condition;
 use crate::formula::Formula;
@@ -17,11 +18,13 @@ use std::alloc::Global;
 pub fn resolve_condition(
     alloc: Global,
     condition: &Condition,
-    names: &Names,
+    names: &mut Names,
     place: Place,
 ) -> Result<Formula, Fault>
-    ensures formula { IfOk result (λ f. formula_of names.now (cond_view condition.now) ≡ Some (form_view f)) }
-    ensures refused { IfErr result (λ e. IsUnresolved names.now (cond_view condition.now) place e) }
+    ensures formula { IfOk result (λ f. formula_of names.old.names (cond_view condition.now) ≡ Some (form_view f)) }
+    ensures names { OnOk result (names.new.names ≡ names.old.names) }
+    ensures left { OnOk result (names.new.left + taken_count names.old.names (cond_view condition.now) ≡ names.old.left) }
+    ensures refused { IfErr result (λ e. IsUnresolved names.old.names (cond_view condition.now) place e) }
 {
     match names.resolve(alloc, condition) {
         Ok(formula) => Ok(formula),

@@ -2,10 +2,9 @@
 
 ghost use Rattle.std.specs.Prelude.{◌≡◌, ◌<◌, ◌^◌, true, length, IfOk};
 ghost use Rattle.std.specs.Str.{chars};
-ghost use Rattle.sig_conditions.specs.Formulas.{forms_view, numbered};
 ghost use Rattle.sig_conditions.specs.Taken.{fits, is_hidden, taken, takes};
 
-use crate::formula::Formula;
+use crate::numbers::Numbers;
 use crate::selector::Selector;
 use matching::{Cursor, Step, Taker, matches_whole};
 use sig_base::{Text, first_char};
@@ -68,19 +67,19 @@ fn does_take(selector: &Selector, name: &Text) -> bool
     }
 }
 
-/// The detections that a selector takes, in the rule's order.
+/// The numbers of the detections that a selector takes, in the rule's order.
 pub fn take_names(
     alloc: Global,
     selector: &Selector,
     names: &[Text],
-) -> Result<Vec<Formula>, AllocError>
+) -> Result<Numbers, AllocError>
     requires { length names.now < 2 ^ 32 }
-    ensures { IfOk result (λ all. forms_view all.items ≡ numbered (taken selector.now names.now)) }
+    ensures { IfOk result (λ all. all ≡ taken selector.now names.now) }
 {
-    let mut all = Vec::new(alloc);
+    let mut all = Numbers::new(alloc);
     for (number, name) in names.iter().enumerate() {
         if does_take(selector, name) {
-            all.push(Formula::Detection(number as u32))?;
+            all.push(number as u32)?;
         }
     }
     Ok(all)

@@ -18,13 +18,37 @@ const HERE: Place = Place {
 /// A rule's names, in their order.
 const NAMES: [&str; 3] = ["selection_a", "selection_b", "_hidden"];
 
-/// Writes a formula with its operators in front.
+/// Writes a number of `NAMES`.
+fn write_number(text: &mut String, number: u32) -> Result<(), AllocError> {
+    match number {
+        0 => text.push('0'),
+        1 => text.push('1'),
+        _ => text.push('2'),
+    }
+}
+
+/// Writes numbers in brackets.
+fn write_numbers(text: &mut String, numbers: &[u32]) -> Result<(), AllocError> {
+    text.push('[')?;
+    for number in numbers {
+        write_number(text, *number)?;
+    }
+    text.push(']')
+}
+
+/// Writes a formula with its operators in front; what a selector takes stands in square brackets.
 #[cycle(writer)]
 fn write_formula(text: &mut String, formula: &Formula) -> Result<(), AllocError> {
     match formula {
-        Formula::Detection(0) => text.push('0'),
-        Formula::Detection(1) => text.push('1'),
-        Formula::Detection(_) => text.push('2'),
+        Formula::Detection(number) => write_number(text, *number),
+        Formula::OneOf(numbers) => {
+            text.push_str("|")?;
+            write_numbers(text, numbers.as_slice())
+        }
+        Formula::AllOf(numbers) => {
+            text.push_str("&")?;
+            write_numbers(text, numbers.as_slice())
+        }
         Formula::Not(part) => {
             text.push('!')?;
             write_formula(text, part)
@@ -61,8 +85,8 @@ fn names(alloc: Global) -> Result<Names, Fault> {
 
 fn formula(alloc: Global, text: &str) -> Result<Formula, Fault> {
     let condition = read_condition(alloc, &Limits::standard(), text, HERE)?;
-    let names = names(alloc)?;
-    resolve_condition(alloc, &condition, &names, HERE)
+    let mut names = names(alloc)?;
+    resolve_condition(alloc, &condition, &mut names, HERE)
 }
 
 fn shown(alloc: Global, text: &str) -> Result<String, Fault> {
@@ -100,20 +124,20 @@ fn refusal(alloc: Global, text: &str) -> Result<(u16, String), AllocError> {
 fn conditions_have_formulas(rt: HostRuntime) -> Result<(), Fail> {
     for (text, want) in [
         ("selection_a", "0"),
-        ("1 of selection_*", "|(01)"),
-        ("any of selection_*", "|(01)"),
-        ("all of them", "&(01)"),
-        ("ALL OF THEM", "&(01)"),
-        ("1 of _*", "|(2)"),
-        ("1 of _hidden", "|(2)"),
-        ("1 of *", "|(01)"),
-        ("1 of s*_b", "|(1)"),
+        ("1 of selection_*", "|[01]"),
+        ("any of selection_*", "|[01]"),
+        ("all of them", "&[01]"),
+        ("ALL OF THEM", "&[01]"),
+        ("1 of _*", "|[2]"),
+        ("1 of _hidden", "|[2]"),
+        ("1 of *", "|[01]"),
+        ("1 of s*_b", "|[1]"),
         ("_hidden", "2"),
         ("selection_a or selection_b and _hidden", "|(0&(12))"),
         ("(selection_a or selection_b) and _hidden", "&(|(01)2)"),
         ("not selection_a and selection_b", "&(!01)"),
         ("not (selection_a and selection_b)", "!&(01)"),
-        ("NOT not selection_a\tOR\n1 of them", "|(!!0|(01))"),
+        ("NOT not selection_a\tOR\n1 of them", "|(!!0|[01])"),
         ("selection_a and (selection_b and _hidden)", "&(0&(12))"),
     ] {
         let formula = shown(rt.alloc(), text)?;
@@ -221,18 +245,60 @@ fn identifiers_are_no_keywords(rt: HostRuntime) -> Result<(), Fail> {
     Ok(())
 }
 
+/// Whether a condition has a formula so many times over so many detections of one name.
+fn answer(
+    alloc: Global,
+    name: &str,
+    detections: usize,
+    text: &str,
+    times: usize,
+) -> Result<&'static str, Fault> {
+    let mut texts = Texts::new(alloc);
+    for _ in 0..detections {
+        texts.push(Text::copy(alloc, name)?)?;
+    }
+    let mut names = Names::number(alloc, texts)?;
+    let condition = read_condition(alloc, &Limits::standard(), text, HERE)?;
+    for _ in 0..times {
+        match resolve_condition(alloc, &condition, &mut names, HERE) {
+            Ok(_) => {}
+            Err(Fault::Memory) => return Ok("memory"),
+            Err(Fault::Refused(_)) => return Ok("refused"),
+        }
+    }
+    Ok("formulas")
+}
+
 #[test]
-fn selectors_have_the_sizes_of_their_words(rt: HostRuntime) -> Result<(), Fail> {
-    for (text, want) in [
-        ("selection_a", 0),
-        ("1 of q*", 3),
-        (
-            "not (all of them or any of q) and not not 1 of *_a",
-            5 + 2 + 4,
-        ),
+fn names_that_are_taken_are_bounded(rt: HostRuntime) -> Result<(), Fail> {
+    // 2,048 selectors that each take 2,048 names take 4,194,304, which is the bound.
+    for (count, times, want) in [
+        (2047, 1, "formulas"),
+        (2048, 1, "memory"),
+        (1023, 2, "formulas"),
+        (1023, 3, "memory"),
     ] {
-        let condition = read_condition(rt.alloc(), &Limits::standard(), text, HERE)?;
-        assert_eq!(rt; condition.selectors_size(), want, "{text}");
+        let text = repeated(rt.alloc(), "1 of a or ", count, "1 of a")?;
+        assert_eq!(rt; answer(rt.alloc(), "a", 2048, text.as_str(), times)?, want, "{count} {times}");
+    }
+    Ok(())
+}
+
+#[test]
+fn steps_of_comparing_are_bounded(rt: HostRuntime) -> Result<(), Fail> {
+    // A word and a name of 32,767 bytes are compared in 32,768 * 32,768 steps, which is the bound. The same word isn't
+    // compared again.
+    let name = repeated(rt.alloc(), "a", 32767, "")?;
+    for (length, end, times, want) in [
+        (32767, "", 1, "formulas"),
+        (32767, "", 3, "formulas"),
+        (32768, "", 1, "memory"),
+        (32767, " or 1 of *", 1, "memory"),
+        (32767, " or all of them", 1, "memory"),
+    ] {
+        let word = repeated(rt.alloc(), "a", length, end)?;
+        let text = repeated(rt.alloc(), "1 of ", 1, word.as_str())?;
+        assert_eq!(rt; answer(rt.alloc(), name.as_str(), 1, text.as_str(), times)?, want, "{length} {end} {times}");
     }
     Ok(())
 }

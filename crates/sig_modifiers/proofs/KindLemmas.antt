@@ -11,31 +11,34 @@ use Rattle.sig_strings.specs.declared.part.Part.{Part}
 use Rattle.sig_strings.specs.declared.part.Part.TheVariants.{Run}
 use Rattle.yaml_tree.specs.Tree.{Tree, null, truth, whole, text, scalar, list, map}
 use Rattle.sig_base.specs.Judged.{must, first}
-use Rattle.sig_modifiers.specs.Kinds.{is_fits, is_plain}
-use Rattle.sig_modifiers.specs.TestsOf.{Use, unused, absent, existing, pattern, number, UseTests, TestsOf, use_of, form_use, form_of, use_refusal, value_refusal, pattern_of, all_edited, edited, has_nul}
+use Rattle.sig_modifiers.specs.Kinds.{is_plain}
+use Rattle.sig_modifiers.specs.TestsOf.{Use, unused, absent, existing, pattern, number, UseTests, TestsOf, use_of, form_use, form_of, use_refusal, value_refusal, pattern_of, all_edited, edited, with_runs, has_nul}
 use Rattle.yaml_tree.specs.Nodes.{place_of}
 use Rattle.sig_modifiers.specs.Written.{Written}
 use Rattle.sig_modifiers.specs.declared.form.Form.TheVariants.{Texts}
 use Rattle.sig_modifiers.specs.declared.form.Form.{Form}
 use Rattle.sig_modifiers.specs.declared.modifier.Modifier.{Modifier}
-use Rattle.sig_modifiers.specs.declared.modifier.Modifier.TheVariants.{Contains, StartsWith, EndsWith, All, Cased, Exists}
+use Rattle.sig_modifiers.specs.declared.modifier.Modifier.TheVariants.{Position as In, All, Cased, Exists}
+use Rattle.sig_modifiers.specs.declared.modifier.Position.{Position}
+use Rattle.sig_modifiers.specs.declared.modifier.Position.TheVariants.{Around, After, Before}
 use Rattle.sig_modifiers.specs.declared.test.Test.{Test}
+use Rattle.sig_modifiers.specs.declared.test.Test.TheVariants as tests
 
-one_fits : (ts : List Test) (t : Test) → is_fits t ≡ true → ts ≡ t ∷ [] → list_all is_fits ts ≡ true
-one_fits ts t h e = ap (λ (us : List Test). list_all is_fits us) e ∙ and_from (is_fits t) true h refl
+abbrev IsPattern : List Test → Type 0
+IsPattern ts = (parts : List Part) × (cased : Bool) × (ts ≡ tests.Fits parts cased ∷ [])
 
-text_tests : (chain : Written) (value : Tree) (ts : List Test) → UseTests chain (form_use (Texts false) value) ts → list_all is_fits ts ≡ true
+text_tests : (chain : Written) (value : Tree) (ts : List Test) → UseTests chain (form_use (Texts false) value) ts → IsPattern ts
 text_tests chain (scalar at null) ts h = absurd h
-text_tests chain (scalar at (truth b)) ts h = one_fits ts _ refl h.tests_are
-text_tests chain (scalar at (whole n)) ts h = one_fits ts _ refl h.tests_are
-text_tests chain (scalar at (text t)) ts h = one_fits ts _ refl h.tests_are
+text_tests chain (scalar at (truth b)) ts h = (_, _, h.tests_are)
+text_tests chain (scalar at (whole n)) ts h = (_, _, h.tests_are)
+text_tests chain (scalar at (text t)) ts h = (_, _, h.tests_are)
 text_tests chain (list at parts) ts h = absurd h
 text_tests chain (map at parts) ts h = absurd h
 
 keyword_form : (chain : Written) → chain.keyword ≡ true → form_of chain ≡ Texts false
 keyword_form chain h = rw h refl
 
-pub keyword_fits : (chain : Written) (value : Tree) (ts : List Test) → chain.keyword ≡ true → TestsOf chain value ts → list_all is_fits ts ≡ true
+pub keyword_fits : (chain : Written) (value : Tree) (ts : List Test) → chain.keyword ≡ true → TestsOf chain value ts → IsPattern ts
 keyword_fits chain value ts h t =
     text_tests chain value ts (subst (λ (f : Form). UseTests chain (form_use f value) ts) (keyword_form chain h) t)
 
@@ -134,10 +137,13 @@ module _ (before : (parts : List Part) → all_written parts ≡ true → all_wr
   plain_around : (parts : List Part) → IsPlain parts → IsPlain (with_run_after (with_run_before parts))
   plain_around parts p = plain_after (with_run_before parts) (plain_before parts p)
 
+  plain_runs : (at : Position) (parts : List Part) → IsPlain parts → IsPlain (with_runs at parts)
+  plain_runs Around parts p = plain_around parts p
+  plain_runs After parts p = plain_after parts p
+  plain_runs Before parts p = plain_before parts p
+
   plain_edited : (m : Modifier) (parts : List Part) → IsPlain parts → IsPlain (edited m parts)
-  plain_edited Contains parts p = plain_around parts p
-  plain_edited StartsWith parts p = plain_after parts p
-  plain_edited EndsWith parts p = plain_before parts p
+  plain_edited (In at) parts p = plain_runs at parts p
   plain_edited All parts p = p
   plain_edited Cased parts p = p
   plain_edited Exists parts p = p

@@ -14,10 +14,12 @@ use Rattle.sig_strings.specs.declared.part.Part.{Part}
 use Rattle.sig_strings.specs.declared.part.Part.TheVariants.{Char, One, Run}
 use Rattle.sig_modifiers.specs.Chains.{is_position}
 use Rattle.sig_modifiers.specs.PlainTests.{IsPlainPattern}
-use Rattle.sig_modifiers.specs.TestsOf.{edited, all_edited, pattern_of, has_nul}
+use Rattle.sig_modifiers.specs.TestsOf.{edited, with_runs, all_edited, pattern_of, has_nul}
 use Rattle.sig_modifiers.specs.Written.{Written}
 use Rattle.sig_modifiers.specs.declared.modifier.Modifier.{Modifier}
-use Rattle.sig_modifiers.specs.declared.modifier.Modifier.TheVariants.{Contains, StartsWith, EndsWith, All, Cased, Exists}
+use Rattle.sig_modifiers.specs.declared.modifier.Modifier.TheVariants.{Position as In, All, Cased, Exists}
+use Rattle.sig_modifiers.specs.declared.modifier.Position.{Position}
+use Rattle.sig_modifiers.specs.declared.modifier.Position.TheVariants.{Around, After, Before}
 
 -- ---- a test that the characters of a text pass
 
@@ -103,10 +105,13 @@ plain_before parts h = run_before (starts_with_run parts) parts h
 plain_after : (parts : List Part) → IsPlainPattern parts → IsPlainPattern (with_run_after parts)
 plain_after parts h = run_after (ends_with_run parts) parts h
 
+plain_runs : (at : Position) (parts : List Part) → IsPlainPattern parts → IsPlainPattern (with_runs at parts)
+plain_runs Around parts h = plain_after (with_run_before parts) (plain_before parts h)
+plain_runs After parts h = plain_after parts h
+plain_runs Before parts h = plain_before parts h
+
 plain_edited : (modifier : Modifier) (parts : List Part) → IsPlainPattern parts → IsPlainPattern (edited modifier parts)
-plain_edited Contains parts h = plain_after (with_run_before parts) (plain_before parts h)
-plain_edited StartsWith parts h = plain_after parts h
-plain_edited EndsWith parts h = plain_before parts h
+plain_edited (In at) parts h = plain_runs at parts h
 plain_edited All parts h = h
 plain_edited Cased parts h = h
 plain_edited Exists parts h = h

@@ -10,52 +10,39 @@ use Rattle.sig_modifiers.specs.Written.{Written}
 use Rattle.sig_modifiers.specs.declared.modifier.Joined.{Joined}
 use Rattle.sig_modifiers.specs.declared.modifier.Joined.TheVariants as joinings
 use Rattle.sig_modifiers.specs.declared.modifier.Modifier.{Modifier}
-use Rattle.sig_modifiers.specs.declared.modifier.Modifier.TheVariants.{Contains, StartsWith, EndsWith, All, Cased, Exists}
+use Rattle.sig_modifiers.specs.declared.modifier.Modifier.TheVariants.{Position, All, Cased, Exists}
+
+-- ---- the kinds of modifiers
 
 -- says where in a text the pattern is looked for
 abbrev pub is_position : Modifier → Bool
-is_position Contains = true
-is_position StartsWith = true
-is_position EndsWith = true
-is_position All = false
-is_position Cased = false
-is_position Exists = false
+is_position (Position position) = true
+is_position _ = false
 
 -- asks that all values are satisfied
 abbrev pub is_all : Modifier → Bool
-is_all Contains = false
-is_all StartsWith = false
-is_all EndsWith = false
 is_all All = true
-is_all Cased = false
-is_all Exists = false
+is_all _ = false
 
 -- compares with regard to case
 abbrev pub is_cased : Modifier → Bool
-is_cased Contains = false
-is_cased StartsWith = false
-is_cased EndsWith = false
-is_cased All = false
 is_cased Cased = true
-is_cased Exists = false
+is_cased _ = false
 
 -- asks whether there is a value
 abbrev pub is_exists : Modifier → Bool
-is_exists Contains = false
-is_exists StartsWith = false
-is_exists EndsWith = false
-is_exists All = false
-is_exists Cased = false
 is_exists Exists = true
+is_exists _ = false
+
+-- the kinds that stand in text chains
+abbrev pub text_kinds : List (Modifier → Bool)
+text_kinds = is_position ∷ is_all ∷ is_cased ∷ []
 
 -- stands in text chains
 abbrev pub is_text_word : Modifier → Bool
-is_text_word Contains = true
-is_text_word StartsWith = true
-is_text_word EndsWith = true
-is_text_word All = true
-is_text_word Cased = true
-is_text_word Exists = false
+is_text_word modifier = list_any (λ is_kind. is_kind modifier) text_kinds
+
+-- ---- the chains
 
 abbrev pub is_empty : List Modifier → Bool
 is_empty [] = true
@@ -70,12 +57,10 @@ abbrev pub is_presence : List Modifier → Bool
 is_presence [] = false
 is_presence (modifier ∷ modifiers) = is_exists modifier && is_empty modifiers
 
--- words of text chains alone, in any order: at most one of `contains`, `startswith` and `endswith`, and `all` and `cased`
--- at most once each
+-- words of text chains alone, in any order, and of each of their kinds at most one: so one of `contains`, `startswith` and
+-- `endswith`, and `all` and `cased` once each
 abbrev pub is_text_chain : List Modifier → Bool
-is_text_chain modifiers =
-    list_all is_text_word modifiers && at_most_one is_position modifiers && at_most_one is_all modifiers
-    && at_most_one is_cased modifiers
+is_text_chain modifiers = list_all is_text_word modifiers && list_all (λ is_kind. at_most_one is_kind modifiers) text_kinds
 
 -- the chains: no modifier, `exists` alone at a field, and the text chains
 abbrev pub is_chain : Bool → List Modifier → Bool

@@ -5,13 +5,6 @@ use Rattle.sig_strings.specs.Edits.{all_written, plain_text}
 use Rattle.sig_modifiers.specs.declared.test.Test.{Test}
 use Rattle.sig_modifiers.specs.declared.test.Test.TheVariants as tests
 
--- asks that a text fits a pattern
-abbrev pub is_fits : Test → Bool
-is_fits tests.Absent = false
-is_fits (tests.Exists b) = false
-is_fits (tests.Fits parts cased) = true
-is_fits (tests.Equals n) = false
-
 -- has no pattern, or one of characters other than U+0000, of single characters and of runs
 abbrev pub is_plain : Test → Bool
 is_plain tests.Absent = true

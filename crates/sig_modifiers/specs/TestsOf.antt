@@ -13,7 +13,9 @@ use Rattle.sig_base.specs.Judged.{must, first}
 use Rattle.sig_modifiers.specs.Chains.{is_position, is_cased, is_empty, is_presence}
 use Rattle.sig_modifiers.specs.Written.{Written}
 use Rattle.sig_modifiers.specs.declared.modifier.Modifier.{Modifier}
-use Rattle.sig_modifiers.specs.declared.modifier.Modifier.TheVariants.{Contains, StartsWith, EndsWith, All, Cased, Exists}
+use Rattle.sig_modifiers.specs.declared.modifier.Modifier.TheVariants.{Position as In}
+use Rattle.sig_modifiers.specs.declared.modifier.Position.{Position}
+use Rattle.sig_modifiers.specs.declared.modifier.Position.TheVariants.{Around, After, Before}
 use Rattle.sig_modifiers.specs.declared.form.Form.{Form}
 use Rattle.sig_modifiers.specs.declared.form.Form.TheVariants.{Bare, Presence, Texts}
 use Rattle.sig_modifiers.specs.declared.test.Test.{Test}
@@ -104,14 +106,16 @@ use_refusal most place u = first (must 42 place (is_used u) ∷ text_checks most
 abbrev pub value_refusal : ℕ → Written → Tree → Option Refusal
 value_refusal most chain value = use_refusal most (place_of value) (use_of chain value)
 
--- what a modifier makes of a pattern
+-- the pattern with runs where the rest of a text may stand
+abbrev pub with_runs : Position → List Part → List Part
+with_runs Around parts = with_run_after (with_run_before parts)
+with_runs After parts = with_run_after parts
+with_runs Before parts = with_run_before parts
+
+-- what a modifier makes of a pattern: a position adds runs, and no other kind changes it
 abbrev pub edited : Modifier → List Part → List Part
-edited Contains parts = with_run_after (with_run_before parts)
-edited StartsWith parts = with_run_after parts
-edited EndsWith parts = with_run_before parts
-edited All parts = parts
-edited Cased parts = parts
-edited Exists parts = parts
+edited (In position) parts = with_runs position parts
+edited _ parts = parts
 
 -- the modifiers are applied from left to right
 abbrev pub all_edited : List Modifier → List Part → List Part
@@ -121,7 +125,7 @@ all_edited (modifier ∷ modifiers) parts = all_edited modifiers (edited modifie
 -- a keyword is looked for anywhere, unless a modifier says where
 abbrev pub keyword_edited : Written → List Part → List Part
 keyword_edited chain parts =
-    if not chain.keyword || list_any is_position chain.modifiers then parts else with_run_after (with_run_before parts)
+    if not chain.keyword || list_any is_position chain.modifiers then parts else with_runs Around parts
 
 abbrev pub pattern_of : Written → List Part → List Part
 pattern_of chain parts = keyword_edited chain (all_edited chain.modifiers parts)

@@ -1,15 +1,19 @@
--- The words of modifiers (Sigma specification 2.0, modifiers).
-use Rattle.std.specs.Prelude.{ℕ, Bool, List, [], ◌∷◌, codes, if◌then◌else◌, Option, Some, None, is_none}
+-- The words of modifiers, and what each asks for (Sigma specification 2.0, modifiers).
+use Rattle.std.specs.Prelude.{ℕ, Bool, List, [], ◌∷◌, codes, map, if◌then◌else◌, Option, Some, None, is_none}
+use Rattle.std.specs.Borrow.{Bor}
+use Rattle.std.specs.List.{list_all}
 use Rattle.std.specs.Str.{bytes_eq}
+use Rattle.sig_base.specs.Texts.{is_ascii}
 use Rattle.sig_modifiers.specs.declared.modifier.Modifier.{Modifier}
-use Rattle.sig_modifiers.specs.declared.modifier.Modifier.TheVariants.{Contains, StartsWith, EndsWith, All, Cased, Exists}
+use Rattle.sig_modifiers.specs.declared.modifier.Modifier.TheVariants.{Position, All, Cased, Exists}
+use Rattle.sig_modifiers.specs.declared.modifier.Position.TheVariants.{Around, After, Before}
 
--- the word of each modifier
+-- each word, and what it asks for; of what kind a word is, the chains below tell by its modifier alone
 abbrev pub modifier_words : List (List ℕ × Modifier)
 modifier_words =
-    (codes "contains", Contains)
-    ∷ (codes "startswith", StartsWith)
-    ∷ (codes "endswith", EndsWith)
+    (codes "contains", Position Around)
+    ∷ (codes "startswith", Position After)
+    ∷ (codes "endswith", Position Before)
     ∷ (codes "all", All)
     ∷ (codes "cased", Cased)
     ∷ (codes "exists", Exists)
@@ -25,3 +29,13 @@ modifier_of word = modifier_in modifier_words word
 
 abbrev pub is_unknown : List ℕ → Bool
 is_unknown word = is_none (modifier_of word)
+
+-- ---- the code's own table
+
+-- the rows of a table of texts
+abbrev pub rows_of : List (Bor (List ℕ) × Modifier) → List (List ℕ × Modifier)
+rows_of rows = map (λ row. (row.0.now, row.1)) rows
+
+-- its words are ASCII, so that they are their characters
+abbrev pub are_ascii : List (Bor (List ℕ) × Modifier) → Bool
+are_ascii rows = list_all (λ row. is_ascii row.0.now) rows

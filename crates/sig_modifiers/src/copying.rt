@@ -16,7 +16,7 @@ impl Test {
             Test::Exists(exists) => Ok(Test::Exists(*exists)),
             Test::Equals(number) => Ok(Test::Equals(*number)),
             Test::Fits { pattern, cased } => {
-                let pattern = pattern.copy(alloc)?;
+                let pattern = pattern.copy()?;
                 Ok(Test::Fits {
                     pattern,
                     cased: *cased,

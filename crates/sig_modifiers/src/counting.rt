@@ -9,34 +9,31 @@ use crate::modifier::Modifier;
 pub fn is_position(modifier: &Modifier) -> bool
     ensures { result ≡ chains.is_position modifier.now }
 {
-    match modifier {
-        Modifier::Contains | Modifier::StartsWith | Modifier::EndsWith => true,
-        Modifier::All | Modifier::Cased | Modifier::Exists => false,
-    }
+    matches!(modifier, Modifier::Position(_))
 }
 
 pub fn is_all(modifier: &Modifier) -> bool
     ensures { result ≡ chains.is_all modifier.now }
 {
-    *modifier == Modifier::All
+    matches!(modifier, Modifier::All)
 }
 
 pub fn is_cased(modifier: &Modifier) -> bool
     ensures { result ≡ chains.is_cased modifier.now }
 {
-    *modifier == Modifier::Cased
+    matches!(modifier, Modifier::Cased)
 }
 
 fn is_exists(modifier: &Modifier) -> bool
     ensures { result ≡ chains.is_exists modifier.now }
 {
-    *modifier == Modifier::Exists
+    matches!(modifier, Modifier::Exists)
 }
 
 fn is_text_word(modifier: &Modifier) -> bool
     ensures { result ≡ chains.is_text_word modifier.now }
 {
-    !is_exists(modifier)
+    is_position(modifier) || is_all(modifier) || is_cased(modifier)
 }
 
 fn are_text_words(modifiers: &[Modifier]) -> bool
@@ -85,13 +82,17 @@ pub fn is_presence(modifiers: &[Modifier]) -> bool
     is_exists(modifier) && is_empty(rest)
 }
 
+/// Whether there are no two modifiers of one kind of text chains.
+fn one_of_each(modifiers: &[Modifier]) -> bool
+    ensures { result ≡ list_all (λ is_kind. chains.at_most_one is_kind modifiers.now) chains.text_kinds }
+{
+    one_position(modifiers) && one_all(modifiers) && one_cased(modifiers)
+}
+
 fn is_text_chain(modifiers: &[Modifier]) -> bool
     ensures { result ≡ chains.is_text_chain modifiers.now }
 {
-    are_text_words(modifiers)
-        && one_position(modifiers)
-        && one_all(modifiers)
-        && one_cased(modifiers)
+    are_text_words(modifiers) && one_of_each(modifiers)
 }
 
 /// Whether the modifiers may stand together, at a keyword or at a field.

@@ -5,18 +5,27 @@ ghost use Rattle.sig_modifiers.specs.TestsOf as uses;
 
 use crate::chain::Chain;
 use crate::counting::has_position;
-use crate::modifier::Modifier;
+use crate::modifier::{Modifier, Position};
 use sig_base::Fault;
 use sig_strings::Pattern;
+
+fn with_runs(position: Position, pattern: Pattern) -> Result<Pattern, Fault>
+    ensures ok { IfOk result (λ p. p ≡ uses.with_runs position pattern) }
+    ensures err { IfErr result (λ e. e ≡ Fault.Memory) }
+{
+    match position {
+        Position::Around => pattern.with_run_before()?.with_run_after(),
+        Position::After => pattern.with_run_after(),
+        Position::Before => pattern.with_run_before(),
+    }
+}
 
 fn edited(modifier: Modifier, pattern: Pattern) -> Result<Pattern, Fault>
     ensures ok { IfOk result (λ p. p ≡ uses.edited modifier pattern) }
     ensures err { IfErr result (λ e. e ≡ Fault.Memory) }
 {
     match modifier {
-        Modifier::Contains => pattern.with_run_before()?.with_run_after(),
-        Modifier::StartsWith => pattern.with_run_after(),
-        Modifier::EndsWith => pattern.with_run_before(),
+        Modifier::Position(position) => with_runs(position, pattern),
         Modifier::All | Modifier::Cased | Modifier::Exists => Ok(pattern),
     }
 }
@@ -42,6 +51,6 @@ impl Chain {
         if !self.is_keyword() || has_position(self.modifiers()) {
             return Ok(pattern);
         }
-        pattern.with_run_before()?.with_run_after()
+        with_runs(Position::Around, pattern)
     }
 }

@@ -1,12 +1,14 @@
 //! What follows from the definitions, for the proofs of callers: each function does nothing else than name laws that it
 //! stands on, and its clauses are laws.
 
-ghost use Rattle.std.specs.Prelude.{◌≡◌, ℕ, List, None, true};
+ghost use Rattle.std.specs.Prelude.{◌≡◌, ◌∷◌, [], ℕ, Bool, List, None, true};
 ghost use Rattle.std.specs.List.{list_all};
-ghost use Rattle.sig_modifiers.specs.Kinds.{is_fits, is_plain};
+ghost use Rattle.sig_modifiers.specs.Kinds.{is_plain};
 ghost use Rattle.sig_modifiers.specs.TestsOf.{TestsOf, value_refusal};
 ghost use Rattle.sig_modifiers.specs.Written.{Written};
 ghost use Rattle.sig_modifiers.specs.declared.test.Test.{Test};
+ghost use Rattle.sig_modifiers.specs.declared.test.Test.TheVariants.{Fits};
+ghost use Rattle.sig_strings.specs.declared.part.Part.{Part};
 ghost use Rattle.yaml_tree.specs.Tree.{Tree};
 
 use sig_strings::{one_pattern, stays_written};
@@ -26,10 +28,10 @@ pub fn tests_or_refusal()
     one_pattern();
 }
 
-/// Keywords have no tests but patterns.
+/// Keywords have no tests but one pattern.
 pub fn keyword_tests()
     ensures { (chain : Written) (value : Tree) (tests : List Test)
-        → chain.keyword ≡ true → TestsOf chain value tests → list_all is_fits tests ≡ true }
+        → chain.keyword ≡ true → TestsOf chain value tests → (parts : List Part) × (cased : Bool) × (tests ≡ Fits parts cased ∷ []) }
 {}
 
 /// Patterns of values that aren't refused are of characters other than U+0000, of single characters and of runs.

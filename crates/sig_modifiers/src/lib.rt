@@ -3,7 +3,7 @@
 
 pub use chain::Chain;
 pub use law::{keyword_tests, one_tests, plain_tests, tests_or_refusal};
-pub use modifier::{Joined, Modifier};
+pub use modifier::{Joined, Modifier, Position};
 pub use resolving::resolve;
 pub use test::Test;
 pub use test_list::Tests;

@@ -5,34 +5,9 @@ ghost use Rattle.sig_modifiers.specs.Words as names;
 
 use crate::chain::Chain;
 use crate::counting::is_chain;
-use crate::modifier::Modifier;
+use crate::modifier::{Modifier, modifier_of};
 use sig_base::{Code, Detail, Fault, Place, Refusal, Text, refused};
 use std::alloc::Global;
-
-/// The modifier that a word names.
-fn modifier_of(word: &Text) -> Option<Modifier>
-    ensures { result ≡ names.modifier_of word.now }
-{
-    if word.is("contains") {
-        return Some(Modifier::Contains);
-    }
-    if word.is("startswith") {
-        return Some(Modifier::StartsWith);
-    }
-    if word.is("endswith") {
-        return Some(Modifier::EndsWith);
-    }
-    if word.is("all") {
-        return Some(Modifier::All);
-    }
-    if word.is("cased") {
-        return Some(Modifier::Cased);
-    }
-    if word.is("exists") {
-        return Some(Modifier::Exists);
-    }
-    None
-}
 
 /// The refusal of a word that names no modifier, which it tells.
 fn unknown(alloc: Global, place: Place, word: &Text) -> Fault

@@ -6,6 +6,7 @@ use crate::part::Part;
 use crate::pattern::Pattern;
 use sig_base::{Fault, Text};
 use std::alloc::Global;
+use std::rc::Rc;
 
 fn is_char(part: &Part) -> bool
     ensures { result ≡ edits.is_char part.now }
@@ -82,18 +83,17 @@ fn starts_with_word(parts: &[Part], at: usize) -> bool
 }
 
 /// Makes the dashes among the parts.
-fn make_dashes(mut parts: Vec<Part>) -> Vec<Part>
-    ensures { result.items ≡ edits.dashes_of parts.items }
+fn make_dashes(parts: &mut Vec<Part>)
+    ensures { parts.new.items ≡ edits.dashes_of parts.old.items }
 {
     let mut in_word = false;
     for i in 0..parts.len() {
         let word = is_word_part(&parts[i]);
-        if is_dash_sign(&parts[i]) && !in_word && starts_with_word(&parts, i + 1) {
+        if is_dash_sign(&parts[i]) && !in_word && starts_with_word(parts, i + 1) {
             parts[i] = Part::Dash;
         }
         in_word = word;
     }
-    parts
 }
 
 fn plain_text(alloc: Global, parts: &[Part]) -> Result<Text, Fault>
@@ -118,9 +118,10 @@ impl Pattern {
         if starts_with_run(self.parts()) {
             return Ok(self);
         }
-        let mut parts = self.into_parts();
+        let mut pattern = self;
+        let parts = Rc::make_mut(&mut pattern.shared)?;
         parts.insert(0, Part::Run)?;
-        Ok(Pattern::of_parts(parts))
+        Ok(pattern)
     }
 
     /// Puts a run behind the parts, unless one is there.
@@ -131,17 +132,21 @@ impl Pattern {
         if ends_with_run(self.parts()) {
             return Ok(self);
         }
-        let mut parts = self.into_parts();
+        let mut pattern = self;
+        let parts = Rc::make_mut(&mut pattern.shared)?;
         parts.push(Part::Run)?;
-        Ok(Pattern::of_parts(parts))
+        Ok(pattern)
     }
 
     /// Each `-` and `/` that begins a word, and doesn't stand behind one, becomes a dash. (Which ones do is
     /// this converter's own choice for `windash`.)
-    pub fn dashes(self) -> Pattern
-        ensures { result ≡ edits.dashes_of self }
+    pub fn dashes(self) -> Result<Pattern, Fault>
+        ensures ok { IfOk result (λ pattern. pattern ≡ edits.dashes_of self) }
+        ensures err { IfErr result (λ e. e ≡ Fault.Memory) }
     {
-        Pattern::of_parts(make_dashes(self.into_parts()))
+        let mut pattern = self;
+        make_dashes(Rc::make_mut(&mut pattern.shared)?);
+        Ok(pattern)
     }
 
     /// Whether some part isn't a character.

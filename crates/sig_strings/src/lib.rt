@@ -1,11 +1,11 @@
 //! Patterns: what a value of a Sigma rule spells, and which texts it fits.
 #![tactic(auto)]
 
-mod copying;
 mod edits;
 mod fitting;
 mod hole;
 mod law;
+mod name;
 mod part;
 mod pattern;
 mod reading;
@@ -15,5 +15,6 @@ mod tests;
 mod writing;
 
 pub use law::{joined_fits, one_pattern, plain_fits, runs_fit, stays_written};
+pub use name::HoleName;
 pub use part::Part;
 pub use pattern::Pattern;

@@ -6,6 +6,7 @@ ghost use Rattle.sig_strings.specs.Edits.{all_written};
 ghost use Rattle.sig_strings.specs.Refused as refused;
 
 use crate::hole::{hole_end, hole_name, is_special};
+use crate::name::HoleName;
 use crate::part::Part;
 use crate::pattern::Pattern;
 use crate::sign::Sign;
@@ -69,7 +70,7 @@ fn part_of(alloc: Global, text: &str, sign: Sign) -> Result<Option<Part>, Fault>
         Sign::Question => Ok(Some(Part::One)),
         Sign::Plain(c) => Ok(Some(Part::Char(c))),
         Sign::Named => {
-            let name = hole_name(alloc, text)?;
+            let name = HoleName::new(alloc, hole_name(alloc, text)?)?;
             Ok(Some(Part::Hole(name)))
         }
     }
@@ -106,7 +107,7 @@ fn read_parts(alloc: Global, text: &str, expand: bool) -> Result<Pattern, Fault>
         }
         let (sign, rest) = read_front(left, expand);
         let Some(part) = part_of(alloc, left, sign)? else {
-            return Ok(Pattern::of_parts(parts));
+            return Pattern::of_parts(parts);
         };
         parts.push(part)?;
         left = rest;

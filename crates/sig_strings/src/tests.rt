@@ -1,4 +1,4 @@
-use crate::{Part, Pattern};
+use crate::{HoleName, Part, Pattern};
 use sig_base::{Detail, Fault, Limits, Place, Text};
 use std::alloc::Global;
 use std::test::Fail;
@@ -106,11 +106,11 @@ fn dashes_begin_words(rt: HostRuntime) -> Result<(), Fail> {
         ("a-b", "'a'-'b"),
         ("--a - *-b", "'-#'a' '-' *#'b"),
     ] {
-        let pattern = read(rt.alloc(), text, false)?.dashes();
+        let pattern = read(rt.alloc(), text, false)?.dashes()?;
         let parts = shown(rt.alloc(), &pattern)?;
         assert_eq!(rt; parts.as_str(), want, "the dashes of {text}");
     }
-    let pattern = read(rt.alloc(), "-a", false)?.dashes();
+    let pattern = read(rt.alloc(), "-a", false)?.dashes()?;
     assert!(rt; pattern.fits("\u{2015}a", true));
     assert!(rt; !pattern.fits("+a", true));
     assert!(rt; !pattern.is_written());
@@ -124,7 +124,7 @@ fn patterns_are_edited_and_written(rt: HostRuntime) -> Result<(), Fail> {
     let plain = pattern.plain_text(rt.alloc())?;
     assert!(rt; matches!(&plain, Some(text) if text.is("a*")));
     let around = pattern
-        .copy(rt.alloc())?
+        .copy()?
         .with_run_before()?
         .with_run_after()?
         .with_run_before()?
@@ -144,10 +144,11 @@ fn parts_make_patterns(rt: HostRuntime) -> Result<(), Fail> {
         parts.push(Part::Char(c))?;
     }
     parts.push(Part::One)?;
-    let pattern = Pattern::of_parts(parts);
+    let pattern = Pattern::of_parts(parts)?;
     assert!(rt; pattern.is_written());
     assert!(rt; pattern.write_sigma(rt.alloc())?.is(r"\\\?\*?"));
-    let hole = Part::Hole(Text::copy(rt.alloc(), "name")?).copy(rt.alloc())?;
-    assert!(rt; matches!(&hole, Part::Hole(name) if name.is("name")));
+    let name = HoleName::new(rt.alloc(), Text::copy(rt.alloc(), "name")?)?;
+    let hole = Part::Hole(name).clone()?;
+    assert!(rt; matches!(&hole, Part::Hole(name) if name.as_str() == "name"));
     Ok(())
 }

@@ -2,8 +2,8 @@
 use Rattle.std.proofs.Common.{ℕ, ◌≡◌, refl, sym, ◌∙◌, ap, true, false, List, [], ◌∷◌, ◌++◌, append_assoc, append-nil, subst}
 use Rattle.std.specs.Prelude.{Option, Some, None, Result, Ok, Err}
 use Rattle.sql_lang.specs.Tokens.{FROM, WHERE, AND, IS, NULL, LIKE, BETWEEN, NOCASE, Eq, Sort, Word, Name, Text, Number, Opening, Closing, Star, Compares}
-use Rattle.sql_lang.specs.Grammar.{Unsaid, NoCase, a_text, a_name, constant, is_null, compares, like, glob, one_of, between, Ors, last_and, last_not, Nots, a_test, enclosed, Query, spell_test, spell_or, spell_nots, spell_head, spell_query, Begins, IsQuery, IsDead, StopsAt}
-use Rattle.sql_lang.proofs.Machine.{Partial, Start, Named, Collating, Collated, Is, IsNot, Against, Compared, RightCollating, NamedNot, CollatedNot, Liking, Liked, Escaping, Globbing, Among, Listing, Listed, Ranging, Low, High, Complete, Closed, Level, ors_of, State, Begun, Selected, Starred, FromWord, Tabled, Inside, Ended, whole, step, on_step, run, query_if, done, finish}
+use Rattle.sql_lang.specs.Grammar.{Unsaid, NoCase, a_text, a_name, constant, is_null, compares, like, glob, one_of, between, Ors, last_and, last_not, Nots, a_test, enclosed, Query, spell_test, spell_or, spell_nots, spell_head, spell_query, Begins, IsQuery, IsDead}
+use Rattle.sql_lang.specs.Machine.{Partial, Start, Named, Collating, Collated, Is, IsNot, Against, Compared, RightCollating, NamedNot, CollatedNot, Liking, Liked, Escaping, Globbing, Among, Listing, Listed, Ranging, Low, High, Complete, Closed, Level, ors_of, State, Begun, Selected, Starred, FromWord, Tabled, Inside, Ended, whole, step, on_step, run, query_if, done, finish, Ends, reads, stops_at_end, stops}
 use Rattle.sql_lang.proofs.Complete.{reads_query, goes_step}
 use Rattle.sql_lang.proofs.Sofar.{Grows, Spells, sofar_test, sofar_level, sofar_outer, sofar, step_grows, whole_spells, ors_of_spells}
 
@@ -128,12 +128,6 @@ done_spells : (s : State) → DoneSpells (done s) (sofar s)
 done_spells (Inside table p l ls) = query_if_spells table (whole p) l ls (sofar_test p) (whole_spells p)
 done_spells (Ended table o) = refl
 done_spells s = tt
-
--- the tokens are a query's, or they stop being one's
-pub data Ends (ts : List Sort) : Result (Option Query) (List Sort) → Type 0 where
-  reads : (q : Query) → spell_query q ≡ ts → Ends ts (Ok (Some q))
-  stops_at_end : StopsAt ts ts [] → Ends ts (Ok None)
-  stops : (front rest : List Sort) → StopsAt ts front rest → Ends ts (Err rest)
 
 -- a reading that ends with no query has read none
 no_query : (ts : List Sort) (r : Result (Option Query) (List Sort)) → finish (run Begun ts) ≡ r → ((q : Query) → r ≡ Ok (Some q) → ⊥) → IsQuery ts → ⊥

@@ -3,7 +3,7 @@ use Rattle.std.proofs.Common.{ℕ, zero, suc, ◌≡◌, refl, sym, ◌∙◌, a
 use Rattle.std.specs.Prelude.{Option, Some, None, Ok}
 use Rattle.sql_lang.specs.Tokens.{OR, AND, IN, BETWEEN, Op, Sort, Word, Name, Number, Opening, Closing, Comma, Semicolon, Compares}
 use Rattle.sql_lang.specs.Grammar.{Collate, Unsaid, NoCase, Binary, Literal, a_text, a_number, Right, a_name, a_literal, Leaf, constant, is_null, compares, like, glob, one_of, between, Ors, last_and, and_or, Ands, last_not, not_and, Nots, not_not, a_test, enclosed, Query, spell_collate, spell_right, spell_literal, spell_not, spell_before, spell_test, spell_or, spell_and, spell_nots, spell_query, spell_end}
-use Rattle.sql_lang.proofs.Machine.{Partial, Start, Named, Collated, Against, Compared, Liked, Listing, Listed, Complete, Closed, Level, level, negated, and_of, or_of, State, Begun, Inside, Ended, whole, is_joint, behind, step, go_on, run, finish}
+use Rattle.sql_lang.specs.Machine.{Partial, Start, Named, Collated, Against, Compared, Liked, Listing, Listed, Complete, Closed, Level, level, negated, and_of, or_of, State, Begun, Inside, Ended, whole, is_joint, behind, step, go_on, run, finish}
 
 -- ---- one test
 

@@ -10,12 +10,14 @@ use Rattle.event_schema.specs.declared.value.Value.TheVariants as values
 use Rattle.sql_lang.specs.Tokens.{Eq, Ne, Lt, Gte, scan, tokens, is_number, run_sort, text_sort}
 use Rattle.sql_lang.specs.Grammar.{Collate, Unsaid, NoCase, Binary}
 use Rattle.sql_lang.specs.Expression.{Operand, Side, ColumnAt, Text, Whole, Constant, Compare, Like, Glob, OneOf, Between, Expr, Or, And, Not, Test, Exprs, no_exprs, an_expr}
-use Rattle.sql_lang.specs.Faults.{Fault, fault, is_bad_escape, is_bad_bracket}
+use Rattle.text_places.specs.Places.{Fault, fault}
+use Rattle.sql_lang.specs.Faults.{is_bad_escape, is_bad_bracket}
 use Rattle.sql_lang.specs.Reading.{opens_too_far, nots_too_many}
 use Rattle.sql_lang.specs.Meaning.{Truth, Yes, No, Unknown, sql_value, like_from, glob_from, fits_parts}
-use Rattle.sql_lang.specs.Leaves.{column_side, value_test, no_value_test, text_test, number_test, column_test, like_test, glob_test}
-use Rattle.sql_lang.proofs.Machine.{step, go_on}
-use Rattle.sql_lang.proofs.Judged.{verdict, verdict_is, IsVerdict}
+use Rattle.sql_lang.specs.ColumnTests.{column_side, value_test, no_value_test, text_test, number_test, column_test, like_test, glob_test}
+use Rattle.sql_lang.specs.Machine.{step, go_on}
+use Rattle.sql_lang.specs.Verdict.{verdict, IsVerdict}
+use Rattle.sql_lang.proofs.Judged.{verdict_is}
 
 abbrev field : List ℕ → FieldKind → Field
 field name kind = record { name = name; kind = kind; at = name ∷ []; search = false; cased = false }

@@ -6,16 +6,19 @@ use Rattle.std.proofs.lemmas.List.{append_cancel_right}
 use Rattle.std.proofs.lemmas.List.Folds.{list_all-append}
 use Rattle.std.proofs.lemmas.Bool.Decides.{nat_tests}
 use Rattle.event_schema.specs.declared.schema.Schema.{Schema}
-use Rattle.sql_lang.specs.Tokens.{At, Token, Sort, Word, OR, AND, Closing, origin, tokens, sorts, places}
+use Rattle.text_places.specs.Places.{At, Fault, fault}
+use Rattle.sql_lang.specs.Tokens.{Token, Sort, Word, OR, AND, Closing, tokens}
+use Rattle.text_places.specs.Tokens.{sorts, places, place_of}
 use Rattle.sql_lang.specs.Grammar.{Collate, Unsaid, NoCase, Binary, Literal, a_text, a_number, Right, a_name, a_literal, Leaf, constant, is_null, compares, like, glob, one_of, between, Ors, last_and, and_or, Ands, last_not, not_and, Nots, not_not, a_test, enclosed, Query, spell_collate, spell_literal, spell_right, spell_not, spell_escape, spell_before, spell_test, spell_or, spell_and, spell_nots, spell_end, spell_query, StopsAt}
 use Rattle.sql_lang.specs.Expression.{Expr, or_expr, depth}
-use Rattle.sql_lang.specs.Faults.{Fault, fault, query_faults}
-use Rattle.sql_lang.specs.Reading.{ReadsWithin, Refuses, no_token, nested, stopped, deep, faulty, is_other, first_other, nests_too_far, place_of}
-use Rattle.sql_lang.proofs.Machine.{Begun, run, finish}
+use Rattle.sql_lang.specs.Faults.{query_faults}
+use Rattle.sql_lang.specs.Reading.{ReadsWithin, Refuses, no_token, nested, stopped, deep, faulty, is_other, first_other, nests_too_far}
+use Rattle.sql_lang.specs.Machine.{Begun, run, finish, Ends, reads, stops_at_end, stops}
+use Rattle.sql_lang.specs.Verdict.{on_faults, on_depth, on_query, on_nesting, on_other, verdict, IsVerdict}
 use Rattle.sql_lang.proofs.Complete.{one_spelled}
-use Rattle.sql_lang.proofs.Scanned.{both_true}
-use Rattle.sql_lang.proofs.Stops.{one_stop_of, no_stop_of}
-use Rattle.sql_lang.proofs.Alive.{Ends, reads, stops_at_end, stops, ends_so}
+use Rattle.sql_lang.proofs.Both.{both_true}
+use Rattle.text_places.proofs.Stops.{one_stop_of, no_stop_of}
+use Rattle.sql_lang.proofs.Alive.{ends_so}
 
 -- ---- a query's tokens are all of the language
 
@@ -104,7 +107,7 @@ no_other_in q ts spelled = no_other ts (subst AreKnown spelled (known_query q))
 -- ---- not both, and one refusal
 
 no_stop_spelled : (q : Query) (ts front rest : List Sort) → spell_query q ≡ ts → StopsAt ts front rest → ⊥
-no_stop_spelled q ts front rest spelled s = no_stop_of q front rest (subst (λ (us : List Sort). StopsAt us front rest) (sym spelled) s)
+no_stop_spelled q ts front rest spelled s = no_stop_of spell_query q front rest (subst (λ (us : List Sort). StopsAt us front rest) (sym spelled) s)
 
 same_condition : (p q : Query) (ts : List Sort) → spell_query p ≡ ts → spell_query q ≡ ts → p ≡ q
 same_condition p q ts first second = one_spelled p q (first ∙ sym second)
@@ -125,7 +128,7 @@ not_both_of limit schema cs e f r (faulty q other near spelled within more is) =
 
 one_length : (ts front rest other more : List Sort) → StopsAt ts front rest → StopsAt ts other more → length front ≡ length other
 one_length ts front rest other more s r =
-    let same = one_stop_of ts front rest other more s r in
+    let same = one_stop_of spell_query ts front rest other more s r in
     let parts : front ++ rest ≡ other ++ rest = sym s.parts ∙ (r.parts ∙ ap (λ (us : List Sort). other ++ us) (sym same)) in
     ap length (append_cancel_right front other rest parts)
 
@@ -172,34 +175,6 @@ one_refusal_of limit schema cs f g (faulty p other near spelled within more is) 
     cc
 
 -- ---- the verdict, computed
-
-abbrev pub on_faults : Expr → List Fault → Result Expr Fault
-on_faults e [] = Ok e
-on_faults e (f ∷ fs) = Err f
-
-abbrev pub on_depth : Bool → Schema → List ℕ → Query → Result Expr Fault
-on_depth true schema cs q = Err (fault 124 origin)
-on_depth false schema cs q = on_faults (or_expr schema.fields q.condition) (query_faults schema q (places (tokens cs)))
-
-abbrev pub on_query : ℕ → Schema → List ℕ → Result (Option Query) (List Sort) → Result Expr Fault
-on_query limit schema cs (Ok (Some q)) = on_depth (nat_lt limit (depth (or_expr schema.fields q.condition))) schema cs q
-on_query limit schema cs (Ok None) = Err (fault 120 (place_of cs (tokens cs) (length (sorts (tokens cs)))))
-on_query limit schema cs (Err rest) = Err (fault 120 (place_of cs (tokens cs) (length (sorts (tokens cs)) - length rest)))
-
-abbrev pub on_nesting : Bool → ℕ → Schema → List ℕ → Result Expr Fault
-on_nesting true limit schema cs = Err (fault 124 origin)
-on_nesting false limit schema cs = on_query limit schema cs (finish (run Begun (sorts (tokens cs))))
-
-abbrev pub on_other : Option At → ℕ → Schema → List ℕ → Result Expr Fault
-on_other (Some p) limit schema cs = Err (fault 121 p)
-on_other None limit schema cs = on_nesting (nests_too_far limit (sorts (tokens cs))) limit schema cs
-
-unfoldable pub verdict : ℕ → Schema → List ℕ → Result Expr Fault
-verdict limit schema cs = on_other (first_other (tokens cs)) limit schema cs
-
-abbrev pub IsVerdict : ℕ → Schema → List ℕ → Result Expr Fault → Type 0
-IsVerdict limit schema cs (Ok e) = ReadsWithin limit schema cs e
-IsVerdict limit schema cs (Err f) = Refuses limit schema cs f
 
 module _ (limit : ℕ) (schema : Schema) (cs : List ℕ) (known : first_other (tokens cs) ≡ None) (near : nests_too_far limit (sorts (tokens cs)) ≡ false) where
   faults_verdict : (q : Query) (fs : List Fault) → spell_query q ≡ sorts (tokens cs) → depth (or_expr schema.fields q.condition) ≤ limit

@@ -1,14 +1,9 @@
-mod Machine
-mod Complete
-mod Scanned
-mod Characters
+pub mod Both
+pub mod Complete
 mod Read
-mod Stops
-mod Laid
-mod Numbers
-mod Sound
+pub mod Runs
 mod Sofar
 mod Alive
 mod Judged
+mod Told
 mod Examples
-pub mod Written

@@ -5,7 +5,7 @@ use Rattle.std.specs.Str.{bytes_eq}
 use Rattle.std.proofs.lemmas.Slice.Eq.{bytes_eq-Decides}
 use Rattle.sql_lang.specs.Tokens.{SELECT, FROM, WHERE, OR, AND, NOT, IS, NULL, LIKE, ESCAPE, GLOB, IN, BETWEEN, COLLATE, NOCASE, BINARY, Op, Sort, Word, Name, Text, Number, Opening, Closing, Comma, Star, Semicolon, Compares}
 use Rattle.sql_lang.specs.Grammar.{Collate, Unsaid, Literal, Right, constant, Ands, Nots, spell_collate, spell_right, spell_literal, spell_not, spell_before, spell_test, spell_or, spell_and, spell_nots, spell_head}
-use Rattle.sql_lang.proofs.Machine.{Partial, Start, Named, Collating, Collated, Is, IsNot, Against, Compared, RightCollating, NamedNot, CollatedNot, Liking, Liked, Escaping, Globbing, Among, Listing, Listed, Ranging, Low, High, Complete, Closed, Level, level, negated, and_of, or_of, ands_of, ors_of, State, Begun, Selected, Starred, FromWord, Tabled, Inside, Ended, constant_of, in_collated, in_named, named, collated, collation, is, is_not, on_literal, against, on_word, on_text, on_number, on_opening, listed, first, go_on, whole, is_whole, is_joint, within, at_start, behind, behind_if, started, inside, head_on, on_table, step}
+use Rattle.sql_lang.specs.Machine.{Partial, Start, Named, Collating, Collated, Is, IsNot, Against, Compared, RightCollating, NamedNot, CollatedNot, Liking, Liked, Escaping, Globbing, Among, Listing, Listed, Ranging, Low, High, Complete, Closed, Level, level, negated, and_of, or_of, ands_of, ors_of, State, Begun, Selected, Starred, FromWord, Tabled, Inside, Ended, constant_of, in_collated, in_named, named, collated, collation, is, is_not, on_literal, against, on_word, on_text, on_number, on_opening, listed, first, go_on, whole, is_whole, is_joint, within, at_start, behind, behind_if, started, inside, head_on, on_table, step}
 
 -- ---- of a test
 

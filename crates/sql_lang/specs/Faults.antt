@@ -1,7 +1,8 @@
 -- What is wrong with a query's names, kinds and patterns, in the order of the text.
-use Rattle.std.specs.Prelude.{ℕ, zero, suc, ◌+◌, Bool, true, false, not, ◌&&◌, ◌||◌, ◌==◌, if◌then◌else◌, List, [], ◌∷◌, ◌++◌, length, drop, Option, Some, None}
+use Rattle.std.specs.Prelude.{ℕ, suc, ◌+◌, Bool, true, false, not, ◌&&◌, ◌||◌, ◌==◌, if◌then◌else◌, List, [], ◌∷◌, ◌++◌, length, drop, Option, Some, None}
 use Rattle.std.specs.List.{list_any}
-use Rattle.sql_lang.specs.Tokens.{At, origin, Op, Eq, Ne}
+use Rattle.text_places.specs.Places.{At, Fault, fault, fault_if, nth}
+use Rattle.sql_lang.specs.Tokens.{Op, Eq, Ne}
 use Rattle.sql_lang.specs.Grammar.{Collate, Unsaid, NoCase, Binary, Literal, a_text, a_number, Right, a_name, a_literal, Leaf, constant, is_null, compares, like, glob, one_of, between, spell_collate, spell_not, spell_and, spell_nots, Ors, last_and, and_or, Ands, last_not, not_and, Nots, not_not, a_test, enclosed, Query}
 use Rattle.event_schema.specs.declared.schema.Field.{Field}
 use Rattle.event_schema.specs.declared.schema.FieldKind.{FieldKind}
@@ -9,25 +10,6 @@ use Rattle.event_schema.specs.declared.schema.FieldKind.TheVariants as kinds
 use Rattle.event_schema.specs.declared.schema.Schema.{Schema}
 use Rattle.sql_lang.specs.Names.{is_named, kind_of}
 use Rattle.sql_lang.specs.Meaning.{Bracket, Outside, Opened, Closing}
-
--- a refusal: its number and its place
-pub record Fault : Type 0 where
-  pub code : ℕ
-  pub place : At
-
-abbrev pub fault : ℕ → At → Fault
-fault c p = record { code = c; place = p }
-
--- this fault, if so
-abbrev pub fault_if : Bool → ℕ → At → List Fault
-fault_if true c p = fault c p ∷ []
-fault_if false c p = []
-
--- the place of token k of these, counted from 0
-abbrev pub nth : List At → ℕ → At
-nth [] k = origin
-nth (p ∷ ps) zero = p
-nth (p ∷ ps) (suc k) = nth ps k
 
 -- ---- patterns
 

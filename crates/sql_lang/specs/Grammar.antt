@@ -9,6 +9,7 @@
 -- A query is plain data here, with its parentheses; a text is this query where the query's spelling is the text's
 -- tokens. The tests are of SQLite's page on expressions; NOT binds tighter than AND, and AND tighter than OR.
 use Rattle.std.specs.Prelude.{ℕ, ◌≡◌, Bool, true, false, List, [], ◌∷◌, ◌++◌, codes, Option, Some, None}
+use Rattle.text_places.specs.Spelled as spelled
 use Rattle.sql_lang.specs.Tokens.{SELECT, FROM, WHERE, OR, AND, NOT, IS, NULL, LIKE, ESCAPE, GLOB, IN, BETWEEN, COLLATE, NOCASE, BINARY, Op, Sort, Word, Name, Text, Number, Opening, Closing, Comma, Star, Semicolon, Compares}
 
 -- ---- one test
@@ -131,23 +132,16 @@ spell_query q = spell_head q.table ++ (spell_or q.condition ++ spell_end q.ends)
 abbrev pub OneSpelling : Type 0
 OneSpelling = (a b : Query) → spell_query a ≡ spell_query b → a ≡ b
 
--- ---- what begins a query
+-- ---- what begins a query, and where tokens stop being one's
 
--- some query begins with these tokens
 abbrev pub Begins : List Sort → Type 0
-Begins front = (q : Query) × (more : List Sort) × (spell_query q ≡ front ++ more)
+Begins = spelled.Begins spell_query
 
 abbrev pub IsQuery : List Sort → Type 0
-IsQuery ts = (q : Query) × (spell_query q ≡ ts)
+IsQuery = spelled.IsQuery spell_query
 
--- No query begins with these tokens and the first of the rest; where there is no rest, the tokens aren't a query.
 abbrev pub IsDead : List Sort → List Sort → Type 0
-IsDead front [] = IsQuery front → ⊥
-IsDead front (t ∷ rest) = Begins (front ++ t ∷ []) → ⊥
+IsDead = spelled.IsDead spell_query
 
--- The tokens part where they stop being a query's: at the first token with which no query begins together with those
--- before it, or at the end.
-pub record StopsAt (ts front rest : List Sort) : Type 0 where
-  pub parts : ts ≡ front ++ rest
-  pub alive : Begins front
-  pub dead : IsDead front rest
+abbrev pub StopsAt : List Sort → List Sort → List Sort → Type 0
+StopsAt = spelled.StopsAt spell_query

@@ -4,9 +4,7 @@ pub mod Names
 pub mod Expression
 pub mod Faults
 pub mod Reading
+pub mod Machine
+pub mod Verdict
 pub mod Meaning
-pub mod Layout
-pub mod Trees
-pub mod Leaves
-pub mod Escaped
-pub mod View
+pub mod ColumnTests

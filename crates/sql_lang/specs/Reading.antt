@@ -1,11 +1,13 @@
 -- Which text is which query under a schema, and which refusal comes first.
-use Rattle.std.specs.Prelude.{ℕ, zero, suc, ◌≡◌, ◌≤◌, ◌<◌, ◌+◌, Bool, true, false, ◌||◌, nat_lt, if◌then◌else◌, List, [], ◌∷◌, length, Option, Some, None, encode_utf8_all}
+use Rattle.std.specs.Prelude.{ℕ, suc, ◌≡◌, ◌≤◌, ◌<◌, ◌+◌, Bool, true, false, ◌||◌, nat_lt, if◌then◌else◌, List, [], ◌∷◌, length, Option, Some, None, encode_utf8_all}
 use Rattle.std.specs.Str.{all_scalars}
-use Rattle.sql_lang.specs.Tokens.{At, Token, Sort, Word, Opening, Closing, Other, NOT, origin, place_after, tokens, sorts, places}
+use Rattle.text_places.specs.Places.{At, origin, IsText, IsBadAt, Fault, fault}
+use Rattle.sql_lang.specs.Tokens.{Token, Sort, Word, Opening, Closing, Other, NOT, tokens}
+use Rattle.text_places.specs.Tokens.{sorts, places, place_of}
 use Rattle.sql_lang.specs.Grammar.{Query, spell_query, StopsAt}
 use Rattle.event_schema.specs.declared.schema.Schema.{Schema}
 use Rattle.sql_lang.specs.Expression.{Expr, or_expr, depth}
-use Rattle.sql_lang.specs.Faults.{Fault, fault, query_faults}
+use Rattle.sql_lang.specs.Faults.{query_faults}
 
 -- These characters are a query of this schema with this expression: their tokens spell it, its names are the schema's,
 -- its operands are of fitting kinds, and its patterns are written right.
@@ -57,12 +59,6 @@ abbrev pub first_other : List Token → Option At
 first_other [] = None
 first_other (t ∷ ts) = if is_other t.sort then Some t.place else first_other ts
 
--- the place of the first token behind so many, or of the end
-abbrev pub place_of : List ℕ → List Token → ℕ → At
-place_of cs [] k = place_after origin cs
-place_of cs (t ∷ ts) zero = t.place
-place_of cs (t ∷ ts) (suc k) = place_of cs ts k
-
 -- In this order: 121, a token that is none; 124, parentheses or words NOT that nest too far; 120, the place where the
 -- tokens stop being a query's; 124, an expression too deep; 122, 123 and 125, the first of the query's faults.
 pub data Refuses (limit : ℕ) (schema : Schema) (cs : List ℕ) (f : Fault) : Type 0 where
@@ -76,3 +72,16 @@ pub data Refuses (limit : ℕ) (schema : Schema) (cs : List ℕ) (f : Fault) : T
   faulty : (q : Query) → first_other (tokens cs) ≡ None → nests_too_far limit (sorts (tokens cs)) ≡ false
       → spell_query q ≡ sorts (tokens cs) → depth (or_expr schema.fields q.condition) ≤ limit
       → (more : List Fault) → query_faults schema q (places (tokens cs)) ≡ f ∷ more → Refuses limit schema cs f
+
+-- ---- the same of bytes
+
+-- bytes that are UTF-8, and a query within the limit
+pub record BytesRead (limit : ℕ) (schema : Schema) (bytes : List ℕ) (e : Expr) : Type 0 where
+  pub characters : List ℕ
+  pub text : IsText bytes characters
+  pub reads : ReadsWithin limit schema characters e
+
+-- 1 where the bytes stop being UTF-8; else the first refusal of their characters
+pub data BytesRefused (limit : ℕ) (schema : Schema) (bytes : List ℕ) (f : Fault) : Type 0 where
+  no_text : (place : At) → IsBadAt bytes place → f ≡ fault 1 place → BytesRefused limit schema bytes f
+  no_query : (characters : List ℕ) → IsText bytes characters → Refuses limit schema characters f → BytesRefused limit schema bytes f

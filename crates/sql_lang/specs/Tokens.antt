@@ -5,11 +5,8 @@ use Rattle.std.specs.Char.{is_ascii_alphanumeric}
 use Rattle.std.specs.List.{list_all}
 use Rattle.std.specs.Str.{bytes_eq}
 use Rattle.sig_base.specs.Folding.{folded}
-
--- lines and columns count from 1, columns in characters
-pub record At : Type 0 where
-  pub line : ℕ
-  pub column : ℕ
+use Rattle.text_places.specs.Places.{At, origin, after}
+use Rattle.text_places.specs.Tokens as texts
 
 -- REGEXP is a word of the language with which no test is built yet
 pub data Keyword : Type 0 where
@@ -57,10 +54,8 @@ pub data Sort : Type 0 where
   Unclosed : Sort
   Other : Sort
 
--- the place is that of its first character
-pub record Token : Type 0 where
-  pub sort : Sort
-  pub place : At
+abbrev pub Token : Type 0
+Token = texts.Token Sort
 
 -- ---- words, numbers and texts
 
@@ -154,14 +149,6 @@ long_sign c d =
     else if c == 60 && d == 62 then Some Ne
     else None
 
--- the place after a character
-abbrev pub after : At → ℕ → At
-after p c = if c == 10 then record { line = suc p.line; column = 1 } else record { line = p.line; column = suc p.column }
-
-abbrev pub place_after : At → List ℕ → At
-place_after p [] = p
-place_after p (c ∷ cs) = place_after (after p c) cs
-
 -- ---- the scanner
 
 -- what was read of a token so far, and the place where it began
@@ -224,16 +211,5 @@ unfoldable pub scan : Mode → At → List ℕ → List Token
 scan m p [] = last m
 scan m p (c ∷ cs) = (turn m p c).ended ++ scan (turn m p c).mode (after p c) cs
 
-abbrev pub origin : At
-origin = record { line = 1; column = 1 }
-
 unfoldable pub tokens : List ℕ → List Token
 tokens cs = scan Outside origin cs
-
-abbrev pub sorts : List Token → List Sort
-sorts [] = []
-sorts (t ∷ ts) = t.sort ∷ sorts ts
-
-abbrev pub places : List Token → List At
-places [] = []
-places (t ∷ ts) = t.place ∷ places ts

@@ -1,19 +1,13 @@
 //! Laws of the language, each the contract of a function that does nothing: a proof that needs one
 //! calls it.
 
-ghost use Rattle.std.specs.Prelude.{◌≡◌, ℕ, true, List, [], Option, encode_utf8_all};
-ghost use Rattle.std.specs.Str.{all_scalars};
-ghost use Rattle.event_schema.specs.declared.schema.Field.{Field};
+ghost use Rattle.std.specs.Prelude.{◌≡◌, ℕ, List};
 ghost use Rattle.event_schema.specs.declared.schema.Schema.{Schema};
-ghost use Rattle.event_schema.specs.declared.value.Value.{Value};
-ghost use Rattle.sql_lang.specs.Tokens.{At, Sort, tokens, sorts};
+ghost use Rattle.sql_lang.specs.Tokens.{Sort};
 ghost use Rattle.sql_lang.specs.Grammar.{Query, spell_query, OneSpelling, StopsAt};
-ghost use Rattle.sql_lang.specs.Expression.{Expr, or_expr};
-ghost use Rattle.sql_lang.specs.Faults.{query_faults};
+ghost use Rattle.sql_lang.specs.Expression.{Expr};
+ghost use Rattle.sql_lang.specs.Machine.{Begun, Ends, run, finish};
 ghost use Rattle.sql_lang.specs.Reading.{Reads};
-ghost use Rattle.sql_lang.specs.Meaning.{sql_value};
-ghost use Rattle.sql_lang.specs.Layout.{text_query, is_writable};
-ghost use Rattle.sql_lang.specs.Trees.{Tree, layout, layout_text, fine_or, tree_value, EachLeaf, IsSound};
 
 /// Bytes are read as one expression at most.
 pub fn one_reading()
@@ -26,6 +20,11 @@ pub fn one_spelling()
     ensures { OneSpelling }
 {}
 
+/// Reading token by token gives the query that tokens spell, or the place where they stop being one's.
+pub fn machine_reads()
+    ensures { (ts : List Sort) → Ends ts (finish (run Begun ts)) }
+{}
+
 /// There is one place at most where tokens stop being a query's.
 pub fn one_stop()
     ensures { (ts front rest other more : List Sort) → StopsAt ts front rest
@@ -35,34 +34,4 @@ pub fn one_stop()
 /// A query's tokens never stop being a query's.
 pub fn no_stop_in_query()
     ensures { (q : Query) (front rest : List Sort) → StopsAt (spell_query q) front rest → ⊥ }
-{}
-
-/// The text of a query is scanned as the query's spelling.
-pub fn spelling_is_scanned()
-    ensures { (q : Query) → is_writable q ≡ true → sorts (tokens (text_query q)) ≡ spell_query q }
-{}
-
-/// The text of a query without faults is read as this query.
-pub fn written_is_read()
-    ensures { (schema : Schema) (q : Query) → is_writable q ≡ true
-        → ((ps : List At) → query_faults schema q ps ≡ [])
-        → Reads schema (encode_utf8_all (text_query q)) (or_expr schema.fields q.condition) }
-{}
-
-/// The text of a tree whose leaves are sound is read as its layout.
-pub fn layout_is_read()
-    ensures { (schema : Schema) (t : Tree) → all_scalars schema.table ≡ true
-        → EachLeaf (IsSound schema.fields) t
-        → Reads schema (encode_utf8_all (layout_text schema.table t)) (or_expr schema.fields (layout t)) }
-{}
-
-/// The layout of a tree has the tree's value for every row.
-pub fn layout_means_tree()
-    ensures { (fields : List Field) (t : Tree) (row : List (Option Value))
-        → sql_value (or_expr fields (layout t)) row ≡ tree_value fields row t }
-{}
-
-/// The layout of a tree has no needless parentheses.
-pub fn layout_is_fine()
-    ensures { (t : Tree) → fine_or (layout t) ≡ true }
 {}

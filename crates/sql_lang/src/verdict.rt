@@ -1,26 +1,36 @@
-//! Laws of what a text is under a limit of depth: one query, or one first refusal.
+//! Laws of what a text and bytes are under a limit of depth: one query, or one first refusal.
 
 ghost use Rattle.std.specs.Prelude.{◌≡◌, ◌⊎◌, ℕ, List};
 ghost use Rattle.event_schema.specs.declared.schema.Schema.{Schema};
 ghost use Rattle.sql_lang.specs.Expression.{Expr};
-ghost use Rattle.sql_lang.specs.Faults.{Fault};
-ghost use Rattle.sql_lang.specs.Reading.{ReadsWithin, Refuses};
+ghost use Rattle.text_places.specs.Places.{Fault};
+ghost use Rattle.sql_lang.specs.Verdict.{verdict, IsVerdict};
+ghost use Rattle.sql_lang.specs.Reading.{ReadsWithin, Refuses, BytesRead, BytesRefused};
 
-/// A text is a query within the limit, or it is refused.
+/// A text is a query within the limit, or it is refused; so are bytes. The verdict that is computed by
+/// reading token by token is its own.
 pub fn query_or_refusal()
-    ensures { (limit : ℕ) (schema : Schema) (characters : List ℕ)
+    ensures characters { (limit : ℕ) (schema : Schema) (characters : List ℕ)
         → ((e : Expr) × ReadsWithin limit schema characters e)
         ⊎ ((f : Fault) × Refuses limit schema characters f) }
+    ensures bytes { (limit : ℕ) (schema : Schema) (bytes : List ℕ)
+        → ((e : Expr) × BytesRead limit schema bytes e) ⊎ ((f : Fault) × BytesRefused limit schema bytes f) }
+    ensures computed { (limit : ℕ) (schema : Schema) (characters : List ℕ)
+        → IsVerdict limit schema characters (verdict limit schema characters) }
 {}
 
 /// It is not both.
 pub fn no_refused_query()
-    ensures { (limit : ℕ) (schema : Schema) (characters : List ℕ) (e : Expr) (f : Fault)
+    ensures characters { (limit : ℕ) (schema : Schema) (characters : List ℕ) (e : Expr) (f : Fault)
         → ReadsWithin limit schema characters e → Refuses limit schema characters f → ⊥ }
+    ensures bytes { (limit : ℕ) (schema : Schema) (bytes : List ℕ) (e : Expr) (f : Fault)
+        → BytesRead limit schema bytes e → BytesRefused limit schema bytes f → ⊥ }
 {}
 
-/// A text has one first refusal at most.
+/// A text has one first refusal at most, and so have bytes.
 pub fn one_refusal()
-    ensures { (limit : ℕ) (schema : Schema) (characters : List ℕ) (f g : Fault)
+    ensures characters { (limit : ℕ) (schema : Schema) (characters : List ℕ) (f g : Fault)
         → Refuses limit schema characters f → Refuses limit schema characters g → f ≡ g }
+    ensures bytes { (limit : ℕ) (schema : Schema) (bytes : List ℕ) (f g : Fault)
+        → BytesRefused limit schema bytes f → BytesRefused limit schema bytes g → f ≡ g }
 {}

@@ -6,8 +6,9 @@ use Rattle.sig_strings.specs.declared.part.Part.{Part}
 use Rattle.sig_strings.specs.declared.part.Part.TheVariants.{Char, One, Run, Dash, Hole}
 use Rattle.sig_strings.specs.Fits.{same_char, Fits}
 use Rattle.sql_lang.specs.Meaning.{some_end, behind_one, is_nothing, fits_parts, like_fits, glob_fits}
-use Rattle.sql_lang.specs.Escaped.{like_text, glob_text}
-use Rattle.sql_lang.proofs.Written.{like_reads, glob_reads, run_is, one_is}
+use Rattle.sql_layout.specs.Escaped.{like_text, glob_text}
+use Rattle.sql_layout.proofs.Written.{like_reads, glob_reads}
+use Rattle.sql_lang.proofs.Runs.{run_is, one_is}
 use Rattle.sql_patterns.specs.Writable.{is_writable, sql_parts}
 
 pub nothing_is : (text : List ℕ) → (is_nothing text ≡ true) ↔ (text ≡ [])

@@ -4,7 +4,7 @@ ghost use Rattle.std.specs.Prelude.{◌≡◌, ◌↔◌, ℕ, true, false, List
 ghost use Rattle.sig_strings.specs.declared.part.Part.{Part};
 ghost use Rattle.sig_strings.specs.Fits.{Fits};
 ghost use Rattle.sql_lang.specs.Meaning.{like_fits, glob_fits};
-ghost use Rattle.sql_lang.specs.Escaped.{like_text, glob_text};
+ghost use Rattle.sql_layout.specs.Escaped.{like_text, glob_text};
 ghost use Rattle.sql_patterns.specs.Writable.{is_writable, sql_parts};
 
 /// A pattern written for LIKE fits the texts that the pattern fits in any case.

@@ -4,10 +4,10 @@ use Rattle.std.specs.List.{list_all}
 use Rattle.event_schema.specs.declared.schema.Field.{Field}
 use Rattle.sig_strings.specs.Edits.{has_wildcard}
 use Rattle.sql_lang.specs.Grammar.{Collate, Unsaid, NoCase, Binary, spell_test}
-use Rattle.sql_lang.specs.Layout.{has_text}
-use Rattle.sql_lang.specs.Leaves.{has_value, has_no_value, equals_text, fits_like, fits_glob}
+use Rattle.sql_layout.specs.Layout.{has_text}
+use Rattle.sql_layout.specs.Leaves.{has_value, has_no_value, equals_text, fits_like, fits_glob}
 use Rattle.sql_lang.specs.Reading.{opens_too_far, nots_too_many}
-use Rattle.sql_lang.specs.Trees.{IsSound as IsSoundLeaf, EachLeaf}
+use Rattle.sql_layout.specs.Trees.{IsSound as IsSoundLeaf, EachLeaf}
 use Rattle.backend_core.specs.declared.tree.LeafTest.{LeafTest}
 use Rattle.backend_core.specs.declared.tree.LeafTest.TheVariants as tests
 use Rattle.sqlite_writer.specs.Guarded.{written_test, guarded_test}

@@ -5,7 +5,7 @@ use Rattle.event_schema.specs.declared.schema.Field.{Field}
 use Rattle.sig_strings.specs.Edits.{has_wildcard}
 use Rattle.sql_lang.specs.Grammar.{Ors, last_and, and_or, Ands, last_not, not_and}
 use Rattle.sql_lang.specs.Expression.{or_expr, or_exprs, and_expr, and_exprs, not_expr, test_of, test_depth, depth, chain_depth}
-use Rattle.sql_lang.specs.Trees.{Form, form, or_join, and_join, ors_behind, ands_behind}
+use Rattle.sql_layout.specs.Trees.{Form, form, or_join, and_join, ors_behind, ands_behind}
 use Rattle.backend_core.specs.declared.tree.LeafTest.{LeafTest}
 use Rattle.backend_core.specs.declared.tree.LeafTest.TheVariants as tests
 use Rattle.backend_core.specs.Trees.{Plain, Plains, no_parts, a_part, all, any, negated, leaf}

@@ -8,7 +8,7 @@ use Rattle.std.proofs.lemmas.List.{drop_more}
 use Rattle.std.proofs.lemmas.List.Folds.{list_any-append}
 use Rattle.std.proofs.lemmas.Str.{encode_ascii, encodes-chars}
 use Rattle.sig_strings.specs.declared.part.Part.{Part}
-use Rattle.sql_lang.specs.Layout.{doubled, in_quotes}
+use Rattle.sql_layout.specs.Layout.{doubled, in_quotes}
 
 doubled_first : (q x : ℕ) (more rest whole : List ℕ) (b : Bool) → whole ≡ more ++ rest
     → (if b then q ∷ q ∷ whole else x ∷ whole) ≡ (if b then q ∷ q ∷ more else x ∷ more) ++ rest

@@ -15,11 +15,11 @@ use Rattle.sig_strings.specs.declared.part.Part.{Part}
 use Rattle.sig_strings.specs.declared.part.Part.TheVariants.{Char, One, Run, Dash, Hole}
 use Rattle.sql_lang.specs.Grammar.{Unsaid, NoCase}
 use Rattle.sql_lang.specs.Tokens.{Eq}
-use Rattle.sql_lang.specs.Leaves.{has_value}
-use Rattle.sql_lang.specs.Trees.{tree_value}
+use Rattle.sql_layout.specs.Leaves.{has_value}
+use Rattle.sql_layout.specs.Trees.{tree_value}
 use Rattle.sql_lang.specs.Names.{column_of}
 use Rattle.sql_lang.specs.Expression.{test_of}
-use Rattle.sql_lang.specs.Escaped.{like_text, glob_text, characters}
+use Rattle.sql_layout.specs.Escaped.{like_text, glob_text, characters}
 use Rattle.sql_lang.specs.Meaning.{Truth, Yes, Unknown, truth, negation, both, value_at, is_absent, like_fits, glob_fits, on_text, compared, test_value}
 use Rattle.sql_patterns.specs.Writable.{is_writable, sql_parts}
 use Rattle.backend_core.specs.Holds.{TestHolds}

@@ -8,9 +8,9 @@ use Rattle.event_schema.specs.declared.schema.Field.{Field}
 use Rattle.sql_lang.specs.Tokens.{Sort, Word, Opening, Closing, OR, AND, NOT}
 use Rattle.sql_lang.specs.Grammar.{Leaf, Ors, last_and, and_or, Ands, last_not, not_and, Nots, not_not, a_test, enclosed, spell_or, spell_and, spell_nots, spell_test}
 use Rattle.sql_lang.specs.Expression.{Exprs, no_exprs, an_expr, or_expr, or_exprs, and_expr, and_exprs, not_expr, depth, chain_depth}
-use Rattle.sql_lang.specs.Layout.{has_text}
+use Rattle.sql_layout.specs.Layout.{has_text}
 use Rattle.sql_lang.specs.Reading.{opens_too_far, nots_too_many}
-use Rattle.sql_lang.specs.Trees.{Tree, leaf, all, any, negated, Trees, no_trees, a_tree, Form, form, or_join, and_join, ors_behind, ands_behind, is_long, EachLeaf, EachOfTrees}
+use Rattle.sql_layout.specs.Trees.{Tree, leaf, all, any, negated, Trees, no_trees, a_tree, Form, form, or_join, and_join, ors_behind, ands_behind, is_long, EachLeaf, EachOfTrees}
 
 pub not_below : (a b : ℕ) → b ≤ a → nat_lt a b ≡ false
 not_below a b h = grind (arith, nat_tests)

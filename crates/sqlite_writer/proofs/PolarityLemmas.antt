@@ -5,7 +5,7 @@ use Rattle.std.specs.Prelude.{◌↔◌, Option}
 use Rattle.event_schema.specs.declared.schema.Field.{Field}
 use Rattle.event_schema.specs.declared.value.Value.{Value}
 use Rattle.sql_lang.specs.Meaning.{Truth, Yes, No, Unknown, both, either, negation}
-use Rattle.sql_lang.specs.Trees.{tree_value, all_trees, any_tree}
+use Rattle.sql_layout.specs.Trees.{tree_value, all_trees, any_tree}
 use Rattle.backend_core.specs.declared.tree.Leaf.{Leaf}
 use Rattle.backend_core.specs.Trees.{Plain, Plains, no_parts, a_part, all, any, negated, leaf}
 use Rattle.backend_core.specs.Holds.{TreeHolds, EachHolds, OneHolds}

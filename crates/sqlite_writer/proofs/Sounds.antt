@@ -11,10 +11,10 @@ use Rattle.sig_strings.specs.declared.part.Part.{Part}
 use Rattle.sql_lang.specs.Grammar.{Leaf, Collate, Unsaid, NoCase}
 use Rattle.sql_lang.specs.Names.{is_named, column_of, kind_of, next}
 use Rattle.sql_lang.specs.Faults.{unknown, not_whole, is_bad_like, is_bad_glob}
-use Rattle.sql_lang.specs.Escaped.{like_text, glob_text, characters}
-use Rattle.sql_lang.specs.Leaves.{has_value, has_no_value, equals_text, fits_like, fits_glob}
-use Rattle.sql_lang.specs.Trees.{IsSound as IsSoundLeaf, EachLeaf, EachOfTrees}
-use Rattle.sql_lang.proofs.Written.{like_is_good, glob_is_good, like_plain, glob_plain}
+use Rattle.sql_layout.specs.Escaped.{like_text, glob_text, characters}
+use Rattle.sql_layout.specs.Leaves.{has_value, has_no_value, equals_text, fits_like, fits_glob}
+use Rattle.sql_layout.specs.Trees.{IsSound as IsSoundLeaf, EachLeaf, EachOfTrees}
+use Rattle.sql_layout.proofs.Written.{like_is_good, glob_is_good, like_plain, glob_plain}
 use Rattle.sql_patterns.specs.Writable.{sql_parts}
 use Rattle.backend_core.specs.declared.tree.LeafTest.{LeafTest}
 use Rattle.backend_core.specs.declared.tree.LeafTest.TheVariants as tests

@@ -3,8 +3,8 @@ use Rattle.std.proofs.Common.{ℕ, ◌≡◌, refl, sym, ◌∙◌, ap, Bool, tr
 use Rattle.std.specs.Prelude.{codes}
 use Rattle.event_schema.specs.declared.schema.Field.{Field}
 use Rattle.sql_lang.specs.Grammar.{Ors, last_and, and_or, Ands, last_not, not_and}
-use Rattle.sql_lang.specs.Layout.{text_or, text_and, text_not}
-use Rattle.sql_lang.specs.Trees.{Trees, Form, form, or_join, and_join, ors_behind, ands_behind}
+use Rattle.sql_layout.specs.Layout.{text_or, text_and, text_not}
+use Rattle.sql_layout.specs.Trees.{Trees, Form, form, or_join, and_join, ors_behind, ands_behind}
 use Rattle.backend_core.specs.declared.tree.LeafTest.{LeafTest}
 use Rattle.backend_core.specs.Trees.{Plain, Plains, no_parts, a_part, all, any, negated, leaf}
 use Rattle.backend_core.specs.Sound.{IsSound, AreSound}

@@ -5,7 +5,7 @@ use Rattle.event_schema.specs.declared.schema.Schema.{Schema}
 use Rattle.sig_base.specs.declared.refusal.Fault.{Fault}
 use Rattle.sql_lang.specs.Grammar.{Ors}
 use Rattle.sql_lang.specs.Expression.{depth}
-use Rattle.sql_lang.specs.Layout.{in_quotes, text_or, text_query}
+use Rattle.sql_layout.specs.Layout.{in_quotes, text_or, text_query}
 use Rattle.backend_core.specs.Trees.{Plain}
 use Rattle.sqlite_writer.specs.Queries.{query_bytes, query_expr, IsQueryOf}
 

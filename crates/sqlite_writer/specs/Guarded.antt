@@ -6,9 +6,9 @@ use Rattle.event_schema.specs.declared.schema.Field.{Field}
 use Rattle.sig_strings.specs.declared.part.Part.{Part}
 use Rattle.sig_strings.specs.Edits.{has_wildcard, plain_text}
 use Rattle.sql_lang.specs.Grammar.{Unsaid, NoCase, Leaf, constant}
-use Rattle.sql_lang.specs.Leaves.{has_value, has_no_value, equals_text, fits_like, fits_glob}
-use Rattle.sql_lang.specs.Escaped.{like_text, glob_text}
-use Rattle.sql_lang.specs.Trees.{Tree, leaf, all, any, negated, Trees, no_trees, a_tree}
+use Rattle.sql_layout.specs.Leaves.{has_value, has_no_value, equals_text, fits_like, fits_glob}
+use Rattle.sql_layout.specs.Escaped.{like_text, glob_text}
+use Rattle.sql_layout.specs.Trees.{Tree, leaf, all, any, negated, Trees, no_trees, a_tree}
 use Rattle.sql_patterns.specs.Writable.{sql_parts}
 use Rattle.backend_core.specs.declared.tree.LeafTest.{LeafTest}
 use Rattle.backend_core.specs.declared.tree.LeafTest.TheVariants as tests

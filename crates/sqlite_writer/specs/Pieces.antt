@@ -2,8 +2,8 @@
 use Rattle.std.specs.Prelude.{Bool, true, false, not, ◌&&◌, List, [], ◌∷◌, ◌++◌, codes, ℕ}
 use Rattle.event_schema.specs.declared.schema.Field.{Field}
 use Rattle.sql_lang.specs.Grammar.{spell_test}
-use Rattle.sql_lang.specs.Leaves.{has_value}
-use Rattle.sql_lang.specs.Layout.{spaced}
+use Rattle.sql_layout.specs.Leaves.{has_value}
+use Rattle.sql_layout.specs.Layout.{spaced}
 use Rattle.backend_core.specs.declared.tree.LeafTest.{LeafTest}
 use Rattle.backend_core.specs.declared.tree.Tree.{Tree}
 use Rattle.backend_core.specs.Trees.{Plain, Plains, no_parts, a_part, all, any, negated, leaf}

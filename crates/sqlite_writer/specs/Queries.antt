@@ -8,8 +8,9 @@ use Rattle.sql_lang.specs.Expression.{Expr, or_expr}
 use Rattle.sql_lang.specs.Meaning.{SqlSelects}
 use Rattle.sql_lang.specs.Reading.{Reads, ReadsWithin}
 use Rattle.sql_lang.specs.Grammar.{Query, spell_query}
-use Rattle.sql_lang.specs.Tokens.{tokens, sorts}
-use Rattle.sql_lang.specs.Trees.{Tree, layout, layout_text, fine_or}
+use Rattle.sql_lang.specs.Tokens.{tokens}
+use Rattle.text_places.specs.Tokens.{sorts}
+use Rattle.sql_layout.specs.Trees.{Tree, layout, layout_text, fine_or}
 use Rattle.backend_core.specs.Trees.{Plain}
 use Rattle.backend_core.specs.Holds.{TreeHolds}
 use Rattle.sqlite_writer.specs.Guarded.{sql_tree}

@@ -3,7 +3,7 @@ use Rattle.std.specs.Prelude.{ℕ, List, []}
 use Rattle.sig_strings.specs.declared.part.Part.{Part}
 use Rattle.sig_strings.specs.declared.part.Part.TheVariants.{Char, One, Run, Dash, Hole}
 use Rattle.sql_lang.specs.Meaning.{AnyRun, AnyOne, Exactly}
-use Rattle.sql_lang.specs.Escaped.{like_piece, glob_piece}
+use Rattle.sql_layout.specs.Escaped.{like_piece, glob_piece}
 
 abbrev pub like_sign : Part → List ℕ
 like_sign (Char c) = like_piece (Exactly c)

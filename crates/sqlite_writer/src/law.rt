@@ -10,15 +10,15 @@ ghost use Rattle.backend_core.specs.Holds.{TreeHolds};
 ghost use Rattle.backend_core.specs.Sound.{IsSound};
 ghost use Rattle.sql_lang.specs.Expression.{depth};
 ghost use Rattle.sql_lang.specs.Meaning.{Yes, No};
-ghost use Rattle.sql_lang.specs.Trees.{tree_value};
+ghost use Rattle.sql_layout.specs.Trees.{tree_value};
 ghost use Rattle.sqlite_writer.specs.Guarded.{sql_tree};
 ghost use Rattle.sqlite_writer.specs.Queries.{query_text, query_bytes, query_expr, IsQueryOf};
 ghost use Rattle.sqlite_writer.specs.Schemas.{IsTextSchema, AreScalars, AreApart};
 
 use sig_strings::plain_fits;
-use sql_lang::{
-    layout_is_fine, layout_is_read, layout_means_tree, leaves_are_sound, one_reading, one_spelling,
-    spelling_is_scanned,
+use sql_lang::{one_reading, one_spelling};
+use sql_layout::{
+    layout_is_fine, layout_is_read, layout_means_tree, leaves_are_sound, spelling_is_scanned,
 };
 use sql_patterns::{glob_means, like_means};
 

@@ -3,7 +3,7 @@
 ghost use Rattle.std.specs.Prelude.{◌≡◌, ◌∷◌, ◌++◌, [], true, IfErr, OnOk};
 ghost use Rattle.std.specs.Str.{chars};
 ghost use Rattle.sig_base.specs.Texts.{is_ascii};
-ghost use Rattle.sql_lang.specs.Layout.{doubled, in_quotes};
+ghost use Rattle.sql_layout.specs.Layout.{doubled, in_quotes};
 ghost use Rattle.sqlite_writer.specs.Pieces.{piece_if};
 
 use sig_base::{Fault, Text};

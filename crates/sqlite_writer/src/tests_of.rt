@@ -4,7 +4,7 @@ ghost use Rattle.std.specs.Prelude.{◌≡◌, ◌++◌, IfErr, OnOk};
 ghost use Rattle.std.specs.Str.{chars};
 ghost use Rattle.sig_strings.specs.Edits.{has_wildcard};
 ghost use Rattle.sql_lang.specs.Grammar.{spell_test};
-ghost use Rattle.sql_lang.specs.Layout.{spaced};
+ghost use Rattle.sql_layout.specs.Layout.{spaced};
 ghost use Rattle.sqlite_writer.specs.Guarded.{wildcard_test, plain_test};
 ghost use Rattle.sqlite_writer.specs.Pieces.{has_text, test_text, leaf_text};
 

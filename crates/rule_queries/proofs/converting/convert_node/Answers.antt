@@ -1,4 +1,4 @@
-use Rattle.rule_model.specs.Heads.{rest_of}
+use Rattle.rule_head.specs.Heads.{rest_of}
 use Rattle.rule_model.specs.Plain.{rule_view}
 use Rattle.yaml_tree.specs.View.{node_view}
 use Rattle.rule_queries.proofs.Judging.{bare_answers}

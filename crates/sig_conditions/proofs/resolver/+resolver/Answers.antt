@@ -1,17 +1,42 @@
-use Rattle.std.proofs.Common.{◌≡◌, List, drop}
+use Rattle.std.proofs.Common.{◌≡◌, ◌∙◌, ◌+◌, ℕ, List, ap, sym, refl, subst, drop}
 use Rattle.std.proofs.lemmas.List.{at_drop_all}
+use Rattle.sig_conditions.specs.Conditions.{cond_view}
+use Rattle.sig_conditions.specs.Formulas.{Why, faults, forms_of, forms_view, formula_of}
+use Rattle.sig_conditions.specs.Resolved.{Fails}
+use Rattle.sig_conditions.specs.Selectors.{taken_count}
 use Rattle.sig_conditions.specs.declared.condition.Condition.{Condition}
-use Rattle.sig_conditions.proofs.Parts.{faults_end, faults_go, formula_goes, formulas_end}
+use Rattle.sig_conditions.specs.declared.formula.Formula.{Formula}
+use Rattle.sig_conditions.proofs.Parts.{begun, faults_end, faults_go, formula_goes, formulas_end, hands_on, left_end, left_goes, part_fails}
 use Rattle.sig_conditions.proofs.resolver.+resolver.Goals as goal
 
 pub resolve_all-loop-part-preserved : goal.resolve_all-loop-part-preserved
-resolve_all-loop-part-preserved t c = record {
-  formulas = formula_goes c.args.names.now c.loop-part.part-index c.args.parts.now c.part-item.result c.loop-part.all.items c.push.new.self.items c.in_ok-formula.formula _
-      c.loop-part-test.true c.part-item.is c.loop-part.invariant.formulas c.in_ok-formula.ensures.0 c.in_ok-push.ensures.items;
-  faults = faults_go c.args.names.now c.loop-part.part-index c.args.parts.now c.part-item.result _ c.loop-part-test.true c.part-item.is c.loop-part.invariant.faults c.in_ok-formula.ensures.1;
-}
+resolve_all-loop-part-preserved t c =
+    let names = c.args.names.now.names in
+    let part = cond_view c.part-item.result in
+    record {
+      names = c.in_ok-formula.ensures.names ∙ c.loop-part.invariant.names;
+      formulas = formula_goes names c.loop-part.part-index c.args.parts.now c.part-item.result c.loop-part.all.items c.push.new.self.items c.in_ok-formula.formula _
+          c.loop-part-test.true c.part-item.is c.loop-part.invariant.formulas
+          (sym (ap (λ (ns : List (List ℕ)). formula_of ns part) c.loop-part.invariant.names) ∙ c.in_ok-formula.ensures.formula.0) c.in_ok-push.ensures.items;
+      faults = faults_go names c.loop-part.part-index c.args.parts.now c.part-item.result _ c.loop-part-test.true c.part-item.is c.loop-part.invariant.faults
+          (sym (ap (λ (ns : List (List ℕ)). faults ns part) c.loop-part.invariant.names) ∙ c.in_ok-formula.ensures.formula.1);
+      left = left_goes names c.loop-part.part-index c.args.parts.now c.part-item.result c.loop-part.names.left _ _ _ c.loop-part-test.true c.part-item.is c.loop-part.invariant.left
+          (sym (ap (λ (ns : List (List ℕ)). c.resolve.new.names.left + taken_count ns part) c.loop-part.invariant.names) ∙ c.in_ok-formula.ensures.left);
+    }
 
 pub resolve_all-returns : goal.resolve_all-returns
 resolve_all-returns t c =
+    let names = c.args.names.now.names in
     let e : drop c.loop-part.part-index c.args.parts.now ≡ _ = at_drop_all (λ (ds : List Condition). ds) c.args.parts.now c.loop-part.part-index c.loop-part-test.false in
-    (formulas_end c.args.names.now _ c.loop-part.all.items _ e c.loop-part.invariant.formulas, faults_end c.args.names.now _ _ e c.loop-part.invariant.faults)
+    record {
+      formulas = (formulas_end names _ c.loop-part.all.items _ e c.loop-part.invariant.formulas, faults_end names _ _ e c.loop-part.invariant.faults);
+      names = c.loop-part.invariant.names;
+      left = left_end names _ _ _ _ e c.loop-part.invariant.left;
+    }
+
+pub resolve_all-returns-in_err-formula-clause-formulas : goal.resolve_all-returns-in_err-formula-clause-formulas
+resolve_all-returns-in_err-formula-clause-formulas t c =
+    hands_on _ _ c.in_err-formula.field-0.0 _ _ _ c.from_residual.ensures.1 (λ e p. p)
+    (part_fails c.args.names.now.names c.loop-part.part-index c.args.parts.now c.part-item.result c.in_err-formula.field-0.0 _ c.loop-part-test.true c.part-item.is
+    c.loop-part.invariant.faults
+    (subst (λ (ns : List (List ℕ)). Fails c.in_err-formula.field-0.0 (faults ns (cond_view c.part-item.result))) c.loop-part.invariant.names c.in_err-formula.ensures.formula))

@@ -1,4 +1,5 @@
-use Rattle.std.proofs.Common.{rules, List, ◌++◌, subst, sym}
+use Rattle.std.proofs.Common.{rules, List, ◌≡◌, ◌++◌, subst, sym}
+use Rattle.std.proofs.lemmas.Result.{IfOk-weaker}
 use Rattle.std.specs.Str.{chars}
 use Rattle.sig_strings.specs.Spells.{Spells}
 use Rattle.sig_strings.specs.declared.part.Part.{Part}
@@ -21,9 +22,11 @@ loop-c-preserved-in-Some c = record {
 
 pub returns-in_default-2-clause-spelled : goal.returns-in_default-2-clause-spelled
 returns-in_default-2-clause-spelled c =
-    subst (λ (parts : List Part). Spells c.args.expand (chars c.args.text.now) parts) (sym c.of_parts.ensures)
+    IfOk-weaker c.of_parts.result (λ p. p ≡ c.loop-c.parts.items) (λ p. Spells c.args.expand (chars c.args.text.now) p)
+    (λ p is. subst (λ (parts : List Part). Spells c.args.expand (chars c.args.text.now) parts) (sym is)
     (reads_end c.args.expand (chars c.loop-c.left.now) (chars c.read_front-sign.result.1.now) (chars c.args.text.now) _ c.in_ok-part.field-0 c.loop-c.parts.items
-    c.read_front-sign.ensures c.in_ok-part.ensures.ok c.in_default-2.is c.loop-c.invariant.read)
+    c.read_front-sign.ensures c.in_ok-part.ensures.ok c.in_default-2.is c.loop-c.invariant.read))
+    c.of_parts.ensures.ok
 
 pub loop-c-preserved : goal.loop-c-preserved
 loop-c-preserved c = record {

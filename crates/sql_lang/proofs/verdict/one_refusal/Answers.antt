@@ -1,5 +1,6 @@
 use Rattle.sql_lang.proofs.Judged.{one_refusal_of}
+use Rattle.sql_lang.proofs.Told.{bytes_one_refusal}
 use Rattle.sql_lang.proofs.verdict.one_refusal.Goals as goal
 
 pub returns : goal.returns
-returns c = one_refusal_of
+returns c = record { characters = one_refusal_of; bytes = bytes_one_refusal }

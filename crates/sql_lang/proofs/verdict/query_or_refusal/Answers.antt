@@ -1,5 +1,6 @@
-use Rattle.sql_lang.proofs.Judged.{has_verdict_of}
+use Rattle.sql_lang.proofs.Judged.{has_verdict_of, verdict_is}
+use Rattle.sql_lang.proofs.Told.{bytes_told}
 use Rattle.sql_lang.proofs.verdict.query_or_refusal.Goals as goal
 
 pub returns : goal.returns
-returns c = has_verdict_of
+returns c = record { characters = has_verdict_of; bytes = bytes_told; computed = verdict_is }

@@ -1,7 +1,7 @@
 use Rattle.sqlite_writer.specs.Guarded.{sql_tree}
 use Rattle.std.proofs.Common.{true, false}
 use Rattle.backend_core.specs.Holds.{TreeHolds}
-use Rattle.sql_lang.specs.Trees.{tree_value}
+use Rattle.sql_layout.specs.Trees.{tree_value}
 use Rattle.sqlite_writer.proofs.PolarityLemmas.{tree_even, tree_odd, even_yes, odd_no}
 use Rattle.sqlite_writer.proofs.LeafMeans.{leaf_even, leaf_odd}
 use Rattle.sqlite_writer.proofs.law.polarity.Goals as goal

@@ -2,7 +2,7 @@ use Rattle.std.proofs.Common.{ℕ, List, ◌≡◌, refl, sym, ◌∙◌, true, 
 use Rattle.std.specs.Str.{all_scalars}
 use Rattle.std.proofs.lemmas.Str.{encodes_same}
 use Rattle.sql_lang.specs.Grammar.{Query}
-use Rattle.sql_lang.specs.Trees.{layout_query, fine_or, IsSound as IsSoundLeaf}
+use Rattle.sql_layout.specs.Trees.{layout_query, fine_or, IsSound as IsSoundLeaf}
 use Rattle.sqlite_writer.specs.Guarded.{name_at}
 use Rattle.sqlite_writer.specs.Queries.{query_tree, query_text, query_bytes, query_expr}
 use Rattle.sqlite_writer.proofs.Nested.{IsCalm}

@@ -1,6 +1,6 @@
 use Rattle.std.proofs.Common.{◌≡◌, ◌++◌, drop}
 use Rattle.sig_strings.specs.Edits.{plain_text}
-use Rattle.sql_lang.specs.Layout.{doubled}
+use Rattle.sql_layout.specs.Layout.{doubled}
 use Rattle.sqlite_writer.proofs.patterns.put_characters.Given as goal
 
 abbrev pub invariant-loop-part : goal.invariant-loop-part

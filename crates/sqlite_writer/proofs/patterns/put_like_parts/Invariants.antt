@@ -1,6 +1,6 @@
 use Rattle.std.proofs.Common.{◌≡◌, ◌++◌, drop}
 use Rattle.std.specs.List.{flat_map}
-use Rattle.sql_lang.specs.Layout.{doubled}
+use Rattle.sql_layout.specs.Layout.{doubled}
 use Rattle.sqlite_writer.specs.Signs.{like_sign}
 use Rattle.sqlite_writer.proofs.patterns.put_like_parts.Given as goal
 

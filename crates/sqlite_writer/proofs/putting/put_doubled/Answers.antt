@@ -1,7 +1,7 @@
 use Rattle.std.proofs.Common.{List, ℕ, ◌++◌, ◌∙◌, sym, ap, map-id}
 use Rattle.std.proofs.lemmas.Iterator.{YieldsList-from_chars}
 use Rattle.std.proofs.lemmas.Iterator.Consumers.{YieldsList-end}
-use Rattle.sql_lang.specs.Layout.{doubled}
+use Rattle.sql_layout.specs.Layout.{doubled}
 use Rattle.sqlite_writer.proofs.putting.put_doubled.Goals as goal
 
 pub returns : goal.returns

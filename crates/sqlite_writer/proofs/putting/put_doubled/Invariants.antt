@@ -1,5 +1,5 @@
 use Rattle.std.proofs.Common.{◌≡◌, ◌++◌}
-use Rattle.sql_lang.specs.Layout.{doubled}
+use Rattle.sql_layout.specs.Layout.{doubled}
 use Rattle.sqlite_writer.proofs.putting.put_doubled.Given as goal
 
 abbrev pub invariant-loop-c : goal.invariant-loop-c

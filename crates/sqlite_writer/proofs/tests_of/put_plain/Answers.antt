@@ -3,7 +3,7 @@ use Rattle.std.specs.Prelude.{codes}
 use Rattle.std.specs.Str.{chars}
 use Rattle.sig_strings.specs.Edits.{plain_text}
 use Rattle.sql_lang.specs.Grammar.{spell_test}
-use Rattle.sql_lang.specs.Layout.{spaced}
+use Rattle.sql_layout.specs.Layout.{spaced}
 use Rattle.sqlite_writer.specs.Guarded.{plain_test}
 use Rattle.sqlite_writer.proofs.Doubled.{text_test}
 use Rattle.sqlite_writer.proofs.tests_of.put_plain.Goals as goal

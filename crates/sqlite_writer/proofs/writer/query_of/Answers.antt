@@ -1,7 +1,7 @@
 use Rattle.std.proofs.Common.{List, ℕ, ◌≡◌, ◌++◌, subst, false}
 use Rattle.backend_core.specs.View.{tree_view}
-use Rattle.sql_lang.specs.Layout.{in_quotes}
-use Rattle.sql_lang.specs.Trees.{layout}
+use Rattle.sql_layout.specs.Layout.{in_quotes}
+use Rattle.sql_layout.specs.Trees.{layout}
 use Rattle.sqlite_writer.specs.declared.place.Standing.TheVariants.{InOr}
 use Rattle.sqlite_writer.specs.Pieces.{tree_text}
 use Rattle.sqlite_writer.specs.Queries.{query_tree}

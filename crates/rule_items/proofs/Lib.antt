@@ -1,0 +1,5 @@
+pub mod ByKind
+pub mod Firsts
+pub mod Lines
+pub mod WholeItems
+pub mod Zips

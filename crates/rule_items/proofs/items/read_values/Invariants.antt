@@ -1,0 +1,16 @@
+use Rattle.std.proofs.Common.{◌≡◌, drop, map, take}
+use Rattle.std.specs.List.{AllZip}
+use Rattle.sig_base.specs.Judged.{first}
+use Rattle.sig_modifiers.specs.PlainTests.{ArePlainTests}
+use Rattle.sig_modifiers.specs.TestsOf.{TestsOf, value_refusal}
+use Rattle.yaml_tree.specs.View.{nodes_view}
+use Rattle.sig_modifiers.specs.Lists.{EachOf}
+use Rattle.rule_items.proofs.items.read_values.Given as goal
+
+abbrev pub invariant-loop-value : goal.invariant-loop-value
+invariant-loop-value l = record {
+  cause : first (map (value_refusal l.limits.value_chars l.chain) (nodes_view l.values))
+      ≡ first (map (value_refusal l.limits.value_chars l.chain) (nodes_view (drop l.value-index l.values)));
+  read : AllZip (TestsOf l.chain) (nodes_view (take l.value-index l.values)) l.all;
+  plain : EachOf ArePlainTests l.all;
+}

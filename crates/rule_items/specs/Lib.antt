@@ -1,0 +1,5 @@
+pub mod Keys
+pub mod Pieces
+pub mod Items
+pub mod Detections
+pub mod Whole

@@ -1,0 +1,50 @@
+-- What the detections of every rule that is read keep: nothing in them is empty, their names are legal, and their patterns can
+-- be written.
+use Rattle.std.specs.Prelude.{ℕ, ◌≡◌, true, List, [], ◌∷◌, ⊤}
+use Rattle.std.specs.Str.{all_scalars}
+use Rattle.sig_modifiers.specs.Lists.{EachOf}
+use Rattle.sig_modifiers.specs.PlainTests.{ArePlainTests}
+use Rattle.sig_modifiers.specs.declared.test.Test.{Test}
+use Rattle.sig_modifiers.specs.declared.test.Test.TheVariants.{Absent, Exists, Fits, Equals}
+use Rattle.rule_items.specs.Keys.{is_legal}
+use Rattle.rule_items.specs.declared.detection.Detection.{Detection}
+use Rattle.rule_items.specs.declared.item.Fields.{Fields}
+use Rattle.rule_items.specs.declared.item.Fields.TheVariants.{Keyword, Names}
+use Rattle.rule_items.specs.declared.item.Item.{Item}
+
+-- the list has an element
+abbrev pub IsSome : {A : Type 0} → List A → Type 0
+IsSome [] = ⊥
+IsSome (x ∷ xs) = ⊤
+
+abbrev pub IsPatternTest : Test → Type 0
+IsPatternTest Absent = ⊥
+IsPatternTest (Exists there) = ⊥
+IsPatternTest (Fits pattern cased) = ⊤
+IsPatternTest (Equals n) = ⊥
+
+pub record IsWholeValue (tests : List Test) : Type 0 where
+  pub some : IsSome tests
+  pub each : ArePlainTests tests
+
+pub record IsWholeName (name : List ℕ) : Type 0 where
+  pub legal : is_legal name ≡ true
+  pub scalars : all_scalars name ≡ true
+
+-- at least one name, or patterns alone for a keyword
+abbrev pub AreWholeFields : Fields → List (List Test) → Type 0
+AreWholeFields Keyword values = EachOf (λ tests. EachOf IsPatternTest tests) values
+AreWholeFields (Names names) values = IsSome names × EachOf IsWholeName names
+
+pub record IsWholeItem (i : Item) : Type 0 where
+  pub fields : AreWholeFields i.fields i.tests
+  pub some : IsSome i.tests
+  pub each : EachOf IsWholeValue i.tests
+
+pub record IsWholeAlternative (items : List Item) : Type 0 where
+  pub some : IsSome items
+  pub each : EachOf IsWholeItem items
+
+pub record IsWholeDetection (d : Detection) : Type 0 where
+  pub some : IsSome d.alternatives
+  pub each : EachOf IsWholeAlternative d.alternatives

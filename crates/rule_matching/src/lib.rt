@@ -1,0 +1,2 @@
+//! When a rule matches an event: a definition alone, for evaluators and writers.
+#![tactic(auto)]

@@ -1,8 +1,0 @@
-use Rattle.std.proofs.Common.{sym}
-use Rattle.rule_model.proofs.Keywords.{part_here}
-use Rattle.rule_model.proofs.fitting.alternatives_keyword.Goals as goal
-
-pub returns-in-Some : goal.returns-in-Some
-returns-in-Some c =
-    part_here (λ items. items) c.loop-alternative.alternative-index c.args.alternatives.now c.alternative-item.result c.in-Some.refusal _ c.loop-alternative-test.true c.alternative-item.is
-    (rw c.as_slice.ensures at (sym c.in-Some.ensures)) c.loop-alternative.invariant

@@ -1,9 +1,0 @@
-use Rattle.std.proofs.Common.{◌≡◌, drop, map}
-use Rattle.rule_model.specs.Gathered.{IsGathered, gathered}
-use Rattle.rule_model.proofs.inferring.Gathered.add_names.Given as goal
-
-abbrev pub invariant-loop-name : goal.invariant-loop-name
-invariant-loop-name l = record {
-  kept : IsGathered l.self.names.items l.self.index;
-  gathers : gathered l.self.names.items (map (λ name. (name, l.place)) (drop l.name-index l.names)) ≡ gathered l.initial.self.names.items (map (λ name. (name, l.place)) l.names);
-}

@@ -1,0 +1,4 @@
+pub mod Fits
+pub mod Gathering
+pub mod Gathered
+pub mod Keywords

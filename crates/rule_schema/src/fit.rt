@@ -1,0 +1,107 @@
+//! Whether a rule fits a schema.
+
+ghost use Rattle.std.specs.Prelude.{◌≡◌, map};
+ghost use Rattle.std.specs.List.{list_any, list_all, flat_map};
+ghost use Rattle.event_schema.specs.declared.schema.Field.{Field};
+ghost use Rattle.sig_base.specs.Judged.{first, must};
+ghost use Rattle.rule_model.specs.Plain.{rule_view};
+ghost use Rattle.rule_schema.specs.Fitting.{Fits, item_line};
+ghost use Rattle.rule_schema.specs.Inferred as spec;
+
+use event_schema::{Field, Schema};
+use rule_items::{Alternative, Detection, Fields, Item};
+use rule_model::Rule;
+use sig_base::{Code, Detail, Place, Refusal, Text};
+
+/// Whether keywords search one of the fields.
+fn has_search(fields: &[Field]) -> bool
+    ensures { result ≡ list_any (λ (field : Field). field.search) fields.now }
+{
+    fields.iter().any(|field| field.search)
+}
+
+fn is_field(fields: &[Field], name: &Text) -> bool
+    ensures { result ≡ spec.is_field fields.now name.now }
+{
+    fields.iter().any(|field| field.name.equals(name))
+}
+
+fn are_fields(fields: &[Field], names: &[Text]) -> bool
+    ensures { result ≡ list_all (spec.is_field fields.now) names.now }
+{
+    names.iter().all(|name| is_field(fields, name))
+}
+
+/// The refusal with this code at this place, unless the condition holds.
+fn unless(code: Code, place: Place, holds: bool) -> Option<Refusal>
+    ensures { result ≡ must code place holds }
+{
+    if holds {
+        return None;
+    }
+    Some(Refusal {
+        code,
+        place,
+        detail: Detail::None,
+    })
+}
+
+fn item_refusal(fields: &[Field], item: &Item) -> Option<Refusal>
+    ensures { result ≡ item_line fields.now item.now }
+{
+    match &item.fields {
+        Fields::Keyword => unless(Code::NO_SEARCH_FIELD, item.place, has_search(fields)),
+        Fields::Names(names) => unless(
+            Code::UNKNOWN_FIELD,
+            item.place,
+            are_fields(fields, names.as_slice()),
+        ),
+    }
+}
+
+#[tactic(auto, using(crate::proofs::Fits::line_here, crate::proofs::Fits::line_on))]
+fn items_refusal(fields: &[Field], items: &[Item]) -> Option<Refusal>
+    ensures { result ≡ first (map (item_line fields.now) items.now) }
+{
+    for item in items {
+        if let Some(refusal) = item_refusal(fields, item) {
+            return Some(refusal);
+        }
+    }
+    None
+}
+
+#[tactic(auto, using(crate::proofs::Fits::part_here, crate::proofs::Fits::part_on))]
+fn alternatives_refusal(fields: &[Field], alternatives: &[Alternative]) -> Option<Refusal>
+    ensures { result ≡ first (map (item_line fields.now) (flat_map (λ items. items) alternatives.now)) }
+{
+    for alternative in alternatives {
+        if let Some(refusal) = items_refusal(fields, alternative.as_slice()) {
+            return Some(refusal);
+        }
+    }
+    None
+}
+
+#[tactic(auto, using(crate::proofs::Fits::part_here, crate::proofs::Fits::part_on))]
+fn detections_refusal(fields: &[Field], detections: &[Detection]) -> Option<Refusal>
+    ensures { result ≡ first (map (item_line fields.now) (spec.items_of detections.now)) }
+{
+    for detection in detections {
+        if let Some(refusal) = alternatives_refusal(fields, detection.alternatives.as_slice()) {
+            return Some(refusal);
+        }
+    }
+    None
+}
+
+/// Whether a rule fits a schema. Its first item, in the rule's order, with a name that no field of the schema has exactly is
+/// refused 81, and a keyword where keywords search no field 83.
+pub fn fit_schema(rule: &Rule, schema: &Schema) -> Result<(), Refusal>
+    ensures { Fits (spec.fit_refusal schema.now (rule_view rule.now)) result }
+{
+    match detections_refusal(schema.fields.as_slice(), rule.detections.as_slice()) {
+        Some(refusal) => Err(refusal),
+        None => Ok(()),
+    }
+}

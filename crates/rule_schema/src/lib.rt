@@ -1,0 +1,11 @@
+//! The schema that is made of a rule where none is given, and whether a rule fits a schema.
+#![tactic(auto)]
+
+pub use fit::fit_schema;
+pub use law::keywords_alone;
+pub use schema::infer_schema;
+
+mod fit;
+mod law;
+mod names;
+mod schema;

@@ -1,0 +1,57 @@
+//! The schema that is made of a rule where none is given.
+
+ghost use Rattle.std.specs.Prelude.{◌≡◌, map, IfOk, IfErr};
+ghost use Rattle.event_schema.specs.Inferred as event;
+ghost use Rattle.sig_base.specs.Judged.{Judged};
+ghost use Rattle.rule_model.specs.Plain.{rule_view};
+ghost use Rattle.rule_schema.specs.Inferred as spec;
+
+use crate::names::gather;
+use event_schema::{Field, FieldKind, Fields, Schema};
+use rule_model::Rule;
+use sig_base::{Fault, Text, Texts};
+use std::alloc::Global;
+
+/// A field of texts, found under its own name.
+fn text_field(alloc: Global, name: &Text) -> Result<Field, Fault>
+    ensures ok { IfOk result (λ field. field ≡ event.text_field name.now) }
+    ensures err { IfErr result (λ e. e ≡ Fault.Memory) }
+{
+    let mut at = Texts::new(alloc);
+    at.push(Text::copy(alloc, name.as_str())?)?;
+    let name = Text::copy(alloc, name.as_str())?;
+    Ok(Field {
+        name,
+        kind: FieldKind::Text,
+        at,
+        search: false,
+        cased: false,
+    })
+}
+
+fn text_fields(alloc: Global, names: &[Text]) -> Result<Fields, Fault>
+    ensures ok { IfOk result (λ fields. fields ≡ map event.text_field names.now) }
+    ensures err { IfErr result (λ e. e ≡ Fault.Memory) }
+{
+    let mut fields = Fields::new(alloc);
+    for name in names {
+        fields.push(text_field(alloc, name)?)?;
+    }
+    Ok(fields)
+}
+
+/// The schema that is made of a rule where none is given: the table `events`, with a field of texts for each name that the
+/// rule uses, in the order of their first appearance. Two names that differ in the case of A to Z alone are refused 80 at the
+/// item of the later one.
+pub fn infer_schema(alloc: Global, rule: &Rule) -> Result<Schema, Fault>
+    ensures { Judged (λ schema. schema ≡ spec.inferred_schema (rule_view rule.now)) (spec.schema_refusal (rule_view rule.now)) result }
+{
+    let names = gather(alloc, rule.detections.as_slice())?;
+    let fields = text_fields(alloc, &names)?;
+    let table = Text::copy(alloc, "events")?;
+    Ok(Schema {
+        table,
+        fields,
+        time: None,
+    })
+}

@@ -1,5 +1,0 @@
-use Rattle.sql_lang.proofs.Scanned.{query_scanned}
-use Rattle.sql_lang.proofs.laws.spelling_is_scanned.Goals as goal
-
-pub returns : goal.returns
-returns c = query_scanned

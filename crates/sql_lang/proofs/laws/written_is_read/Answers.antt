@@ -1,5 +1,0 @@
-use Rattle.sql_lang.proofs.Read.{written_reads}
-use Rattle.sql_lang.proofs.laws.written_is_read.Goals as goal
-
-pub returns : goal.returns
-returns c = written_reads

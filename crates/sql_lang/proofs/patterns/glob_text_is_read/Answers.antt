@@ -1,5 +1,0 @@
-use Rattle.sql_lang.proofs.Written.{glob_reads, glob_is_good, glob_plain}
-use Rattle.sql_lang.proofs.patterns.glob_text_is_read.Goals as goal
-
-pub returns : goal.returns
-returns c = record { parts = glob_reads; good = glob_is_good; plain = glob_plain }

@@ -1,5 +1,0 @@
-use Rattle.sql_lang.proofs.Written.{run_is, one_is}
-use Rattle.sql_lang.proofs.patterns.runs_and_characters.Goals as goal
-
-pub returns : goal.returns
-returns c = record { run = run_is; one = one_is }

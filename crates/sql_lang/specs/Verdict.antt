@@ -1,0 +1,39 @@
+-- What a text is, as a function that goes by the reading token by token: its expression, or its first refusal.
+use Rattle.std.specs.Prelude.{ℕ, ◌-◌, Bool, true, false, nat_lt, List, [], ◌∷◌, length, Option, Some, None, Result, Ok, Err}
+use Rattle.event_schema.specs.declared.schema.Schema.{Schema}
+use Rattle.text_places.specs.Places.{At, origin, Fault, fault}
+use Rattle.text_places.specs.Tokens.{sorts, places, place_of}
+use Rattle.sql_lang.specs.Tokens.{Sort, tokens}
+use Rattle.sql_lang.specs.Grammar.{Query}
+use Rattle.sql_lang.specs.Expression.{Expr, or_expr, depth}
+use Rattle.sql_lang.specs.Faults.{query_faults}
+use Rattle.sql_lang.specs.Machine.{Begun, run, finish}
+use Rattle.sql_lang.specs.Reading.{ReadsWithin, Refuses, first_other, nests_too_far}
+
+abbrev pub on_faults : Expr → List Fault → Result Expr Fault
+on_faults e [] = Ok e
+on_faults e (f ∷ fs) = Err f
+
+abbrev pub on_depth : Bool → Schema → List ℕ → Query → Result Expr Fault
+on_depth true schema cs q = Err (fault 124 origin)
+on_depth false schema cs q = on_faults (or_expr schema.fields q.condition) (query_faults schema q (places (tokens cs)))
+
+abbrev pub on_query : ℕ → Schema → List ℕ → Result (Option Query) (List Sort) → Result Expr Fault
+on_query limit schema cs (Ok (Some q)) = on_depth (nat_lt limit (depth (or_expr schema.fields q.condition))) schema cs q
+on_query limit schema cs (Ok None) = Err (fault 120 (place_of cs (tokens cs) (length (sorts (tokens cs)))))
+on_query limit schema cs (Err rest) = Err (fault 120 (place_of cs (tokens cs) (length (sorts (tokens cs)) - length rest)))
+
+abbrev pub on_nesting : Bool → ℕ → Schema → List ℕ → Result Expr Fault
+on_nesting true limit schema cs = Err (fault 124 origin)
+on_nesting false limit schema cs = on_query limit schema cs (finish (run Begun (sorts (tokens cs))))
+
+abbrev pub on_other : Option At → ℕ → Schema → List ℕ → Result Expr Fault
+on_other (Some p) limit schema cs = Err (fault 121 p)
+on_other None limit schema cs = on_nesting (nests_too_far limit (sorts (tokens cs))) limit schema cs
+
+unfoldable pub verdict : ℕ → Schema → List ℕ → Result Expr Fault
+verdict limit schema cs = on_other (first_other (tokens cs)) limit schema cs
+
+abbrev pub IsVerdict : ℕ → Schema → List ℕ → Result Expr Fault → Type 0
+IsVerdict limit schema cs (Ok e) = ReadsWithin limit schema cs e
+IsVerdict limit schema cs (Err f) = Refuses limit schema cs f

@@ -1,0 +1,7 @@
+mod Scanned
+mod Characters
+mod Read
+mod Laid
+mod Numbers
+mod Sound
+pub mod Written

@@ -1,0 +1,4 @@
+pub mod Layout
+pub mod Trees
+pub mod Leaves
+pub mod Escaped

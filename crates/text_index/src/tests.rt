@@ -1,0 +1,24 @@
+use crate::index::TextIndex;
+use sig_base::{Text, Texts};
+use std::test::Fail;
+
+#[test]
+fn first_numbers_are_found(rt: HostRuntime) -> Result<(), Fail> {
+    let mut texts = Texts::new(rt.alloc());
+    for text in ["b", "a", "", "é", "a"] {
+        texts.push(Text::copy(rt.alloc(), text)?)?;
+    }
+    let index = TextIndex::number(rt.alloc(), texts)?;
+    for (text, want) in [
+        ("b", Some(0)),
+        ("a", Some(1)),
+        ("", Some(2)),
+        ("é", Some(3)),
+        ("A", None),
+        ("ab", None),
+    ] {
+        let text = Text::copy(rt.alloc(), text)?;
+        assert_eq!(rt; index.find(&text), want, "{}", text.as_str());
+    }
+    Ok(())
+}
