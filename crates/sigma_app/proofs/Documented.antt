@@ -1,7 +1,6 @@
 -- What answering the documents of a file leaves.
-use Rattle.std.proofs.Common.{◌≡◌, ℕ, ◌+◌, ◌<◌, Bool, List, [], ◌∷◌, length, take, get_or, refl, ap, sym, ◌∙◌, subst, Result, Ok, Err, inl, inr}
-use Rattle.std.specs.Prelude.{◌||◌, ◌⊎◌, map}
-use Rattle.std.proofs.lemmas.List.{map-append}
+use Rattle.std.proofs.Common.{◌≡◌, ℕ, Bool, List, refl, ap, sym, ◌∙◌, subst, Result, Err, inl, inr}
+use Rattle.std.specs.Prelude.{◌⊎◌}
 use Rattle.answer_parts.proofs.Rows.{each_all, all_one}
 use Rattle.answer_parts.proofs.Wrote.{writes_as, writes_memory}
 use Rattle.answer_parts.specs.Each.{AllShares}
@@ -18,13 +17,12 @@ use Rattle.sigma_app.specs.Reports.{refusal_share}
 use Rattle.sigma_app.specs.RuleFiles.{ByTree, yaml_refusal, DocumentGives, FileGives, as_one, by_document}
 use Rattle.yaml_documents.specs.Verdicts as yaml
 use Rattle.yaml_files.specs.Call.{IsCallRefusal, IsTaken}
-use Rattle.yaml_tree.specs.Tree.{At, Tree, Answer, tree, refusal}
+use Rattle.yaml_tree.specs.Tree.{At, Answer, tree, refusal}
 
 pub no_detail : (r : Refusal) → r.detail ≡ details.None → r ≡ yaml_refusal (r.code, record { line = r.place.line; column = r.place.column })
 no_detail r plain = ap (λ d. record { code = r.code; place = r.place; detail = d }) plain
 
 module _ (by : ByTree) where
-
   pub each_document : EachTree by → EachDocument by
   each_document each name (tree t) = each name t
   each_document each name (refusal p) = (refusal_share name (yaml_refusal p), refl)

@@ -1,25 +1,24 @@
 -- What answering one file leaves.
-use Rattle.std.proofs.Common.{◌≡◌, ℕ, ◌+◌, ◌<◌, ◌≤◌, Bool, false, List, [], ◌∷◌, length, take, get_or, refl, ap, sym, ◌∙◌, subst, arith, Option, Some, None, Result, Ok, Err, inl, inr}
+use Rattle.std.proofs.Common.{◌≡◌, ℕ, ◌+◌, ◌<◌, Bool, List, [], ◌∷◌, length, take, get_or, refl, ap, sym, ◌∙◌, subst, arith, Option, Some, None, Result, Err, inl, inr}
 use Rattle.std.specs.Prelude.{MatchOption, unwrap_or, Contains}
 use Rattle.std.proofs.lemmas.Bool.{cases_lt}
 use Rattle.std.proofs.lemmas.List.{take_all, length-take-le}
 use Rattle.answer_parts.proofs.Ending.{ends_written, files_of}
-use Rattle.answer_parts.proofs.Unread.{Begins, ends_unread}
+use Rattle.answer_parts.proofs.Unread.{ends_unread}
 use Rattle.answer_parts.specs.Each.{EachPart}
-use Rattle.answer_parts.specs.Input.{Input, World, Needs, IsTold, File}
+use Rattle.answer_parts.specs.Input.{Input, World, Needs, File}
 use Rattle.answer_parts.specs.Parts.{Share, Part}
 use Rattle.answer_parts.specs.Stands.{Writes, Ends, StopsBefore}
-use Rattle.answer_parts.specs.State.{State, Inputs}
+use Rattle.answer_parts.specs.State.{State}
 use Rattle.answer_parts.specs.declared.stop.Stop.{Stop}
 use Rattle.sig_base.specs.Files.{file_at, IsFront}
 use Rattle.sig_base.specs.declared.limits.Limits.{Limits}
 use Rattle.sigma_app.specs.Laws.{EachFile, OneFile}
 use Rattle.sigma_app.specs.RuleFiles.{ByTree, FileGives, as_one, by_document, RuleFile, contents}
-use Rattle.yaml_files.specs.Call.{IsCallRefusal, IsTaken}
+use Rattle.yaml_files.specs.Call.{IsCallRefusal}
 use Rattle.yaml_tree.specs.Tree.{At}
 
 module _ (by : ByTree) (limits : Limits) (name : List ℕ) where
-
   -- a file's first bytes, up to one past the limit, are answered as the file
   pub front_answers : (all : List ℕ) (share : Share) → FileGives by limits name (take (limits.file_bytes + 1) all) share → FileGives by limits name all share
   front_answers all share gives =

@@ -1,5 +1,5 @@
 -- The laws of the answers.
-use Rattle.std.proofs.Common.{◌≡◌, ℕ, List, [], ◌∷◌, refl, ap, sym, subst}
+use Rattle.std.proofs.Common.{ℕ, List, [], ◌∷◌}
 use Rattle.std.specs.List.{AllByRecursion}
 use Rattle.answer_parts.proofs.Rows.{each_parts, parts_one}
 use Rattle.answer_parts.specs.Each.{EachShare, EachPart}
@@ -15,8 +15,7 @@ use Rattle.sigma_app.proofs.Judged.{each_checks, each_converts, one_checks, one_
 use Rattle.sigma_app.specs.Check.{CheckGives}
 use Rattle.sigma_app.specs.Convert.{ConvertGives, has_query, no_query, ConvertMeans, means_rule, means_none}
 use Rattle.sigma_app.specs.Laws.{EachDocument, EachFile, EachAnswer, OneDocument, OneFile, OneAnswer, OfBoth, EachRule, OneRule, QueriesMean}
-use Rattle.sigma_app.specs.RuleFiles.{DocumentGives, FileGives, as_one, by_document, RuleFile}
-use Rattle.sigma_app.specs.declared.request.Request.{Request}
+use Rattle.sigma_app.specs.RuleFiles.{DocumentGives, as_one, by_document, RuleFile}
 use Rattle.sigma_app.specs.declared.request.Request.TheVariants.{Check, Convert}
 use Rattle.yaml_bounds.specs.Laws.{TextsAreScalars}
 use Rattle.yaml_documents.specs.Verdicts as yaml
@@ -50,7 +49,6 @@ abbrev pub RuleMeans : Type 0
 RuleMeans = (limits : Limits) (t : Tree) (rule : PlainRule) → HasScalarTexts t → IsConverted limits t rule → Converts limits rule (query_of rule)
 
 module _ (means : RuleMeans) (limits : Limits) (name : List ℕ) where
-
   tree_means : (t : Tree) (share : Share) → HasScalarTexts t → ConvertGives limits name t share → ConvertMeans limits name t share
   tree_means t share texts (has_query rule is share_is) = means_rule rule is (means limits t rule texts is) share_is
   tree_means t share texts (no_query r is share_is) = means_none r is share_is

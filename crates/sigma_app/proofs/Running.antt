@@ -1,14 +1,13 @@
 -- What a run leaves, from how answering its request ended.
-use Rattle.std.proofs.Common.{◌≡◌, ℕ, Bool, true, false, List, [], ◌∷◌, ◌++◌, refl, ap, sym, ◌∙◌, subst, Option, Some, None, Result, Ok, Err, inl, inr}
+use Rattle.std.proofs.Common.{◌≡◌, ℕ, Bool, true, false, List, [], ◌∷◌, refl, ap, subst, Option, Some, None, Ok, Err, inl, inr}
 use Rattle.std.specs.Prelude.{◌⊎◌}
 use Rattle.answer_parts.proofs.Shares.{cut_nothing}
-use Rattle.answer_parts.proofs.Wrote.{writes_as}
 use Rattle.answer_parts.specs.Cut.{Cut}
 use Rattle.answer_parts.specs.Each.{EachPart}
-use Rattle.answer_parts.specs.Input.{Input, World, Needs, IsNeeded, IsTold, WasUnread}
-use Rattle.answer_parts.specs.Parts.{Share, Part, join, share_of, Gains}
-use Rattle.answer_parts.specs.Stands.{Outcome, Cause, Stands, StopsAt, Ends, Writes}
-use Rattle.answer_parts.specs.State.{State, Inputs, Streams, NoWriteFailed, SomeWriteFailed, NoReadFailed}
+use Rattle.answer_parts.specs.Input.{Input, World, IsTold, WasUnread}
+use Rattle.answer_parts.specs.Parts.{Share, Part, share_of, Gains}
+use Rattle.answer_parts.specs.Stands.{Outcome, Cause, Stands, Ends, Writes}
+use Rattle.answer_parts.specs.State.{State, Inputs, SomeWriteFailed}
 use Rattle.answer_parts.specs.declared.stop.Stop.{Stop}
 use Rattle.answer_parts.specs.declared.stop.Stop.TheVariants as stop
 use Rattle.sig_base.specs.declared.limits.Limits.{Limits}
@@ -19,12 +18,11 @@ use Rattle.sigma_app.specs.Convert.{ConvertMeans}
 use Rattle.sigma_app.specs.Laws.{EachAnswer, QueriesMean}
 use Rattle.sigma_app.specs.Reports.{usage_share}
 use Rattle.sigma_app.specs.RuleFiles.{RuleFile}
-use Rattle.sigma_app.specs.Served.{Answer, accepted, unaccepted, status_of, Serves, Tells, Written, Headline, StandsCut, StandsUnread, MayBeUnread, IsAnswered, IsCutOff, IsRead, ReadsNoEvents, usage_part}
+use Rattle.sigma_app.specs.Served.{accepted, unaccepted, status_of, Serves, Tells, StandsCut, StandsUnread, MayBeUnread, IsCutOff, IsRead, ReadsNoEvents, usage_part}
 use Rattle.sigma_app.specs.Words.{IsAccepted, IsUnaccepted}
 use Rattle.sigma_app.specs.declared.request.Request.{Request}
 use Rattle.sigma_app.specs.declared.request.Request.TheVariants.{Convert}
-use Rattle.sigma_app.specs.declared.status.Status.{Status}
-use Rattle.sigma_app.specs.declared.status.Status.TheVariants.{Done, Found, Usage, ReadFault, WriteFault, Memory}
+use Rattle.sigma_app.specs.declared.status.Status.TheVariants.{Usage, ReadFault, WriteFault, Memory}
 
 -- ---- how a run of a request ends
 
@@ -45,7 +43,6 @@ not_cut true is = is
 not_cut false is = is
 
 module _ (limits : Limits) (words : List (List ℕ)) (request : Request) (is_accepted : IsAccepted words request) (old new : State) where
-
   converted : QueriesMean → (world : World) (parts : List Part) (rules : List (List ℕ)) → Answers limits request world parts → IsAccepted words (Convert rules)
       → EachPart (RuleFile (ConvertMeans limits) limits) rules world parts
   converted means world parts rules answers too =
@@ -93,6 +90,7 @@ module _ (limits : Limits) (words : List (List ℕ)) (request : Request) (is_acc
     where
       apart : ReadFault ≡ Usage → ⊥
       apart is = cc
+
       apart_too : ReadFault ≡ WriteFault → ⊥
       apart_too is = cc
 
@@ -119,13 +117,16 @@ module _ (limits : Limits) (words : List (List ℕ)) (request : Request) (is_acc
     where
       apart : WriteFault ≡ Usage → ⊥
       apart is = cc
+
       apart_too : WriteFault ≡ ReadFault → ⊥
       apart_too is = cc
 
 memory_usage : Memory ≡ Usage → ⊥
 memory_usage is = cc
+
 memory_unread : Memory ≡ ReadFault → ⊥
 memory_unread is = cc
+
 memory_unwritten : Memory ≡ WriteFault → ⊥
 memory_unwritten is = cc
 
@@ -166,7 +167,6 @@ abbrev IsUsage : Share → Type 0
 IsUsage share = share ≡ usage_share
 
 module _ (limits : Limits) (words : List (List ℕ)) (other : IsUnaccepted words) (old new : State) where
-
   same_gains : (share : Share) → IsUsage share → Gains share old.streams new.streams → Gains (share_of (usage_part ∷ [])) old.streams new.streams
   same_gains share is gains = subst (λ (s : Share). Gains s old.streams new.streams) is gains
 
@@ -188,6 +188,7 @@ module _ (limits : Limits) (words : List (List ℕ)) (other : IsUnaccepted words
     where
       apart : Usage ≡ ReadFault → ⊥
       apart is = cc
+
       apart_too : Usage ≡ WriteFault → ⊥
       apart_too is = cc
 

@@ -1,5 +1,5 @@
 -- What a file of rules is answered, document by document.
-use Rattle.std.specs.Prelude.{◌≡◌, ℕ, List, [], ◌∷◌, Some, unwrap_or}
+use Rattle.std.specs.Prelude.{◌≡◌, ℕ, List, [], Some, unwrap_or}
 use Rattle.answer_parts.specs.Each.{AllShares}
 use Rattle.answer_parts.specs.Input.{World, File}
 use Rattle.answer_parts.specs.Parts.{Share, Part}

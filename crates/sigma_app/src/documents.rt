@@ -22,7 +22,13 @@ pub(super) trait TreeCommand {
     ghost gives: { Self → ByTree };
 
     /// Answers a tree, and tells whether it is refused.
-    fn answer<W: Outside>(&self, alloc: Global, name: &Text, node: &Node, outside: &mut W) -> Result<bool, Stop>
+    fn answer<W: Outside>(
+        &self,
+        alloc: Global,
+        name: &Text,
+        node: &Node,
+        outside: &mut W,
+    ) -> Result<bool, Stop>
         ensures { Writes (gives self.now name.now (node_view node.now)) result (W.state outside.old) (W.state outside.new) };
 
     /// Each tree has an answer.
@@ -100,8 +106,13 @@ fn answer_document<T: TreeCommand, W: Outside>(
     }
 }
 
-/// Writes the line of a refusal, and tells that something was refused.
-pub(super) fn put_refusal<W: Outside>(alloc: Global, name: &Text, refusal: &Refusal, outside: &mut W) -> Result<bool, Stop>
+/// Writes the diagnostic about a refusal, and tells that something was refused.
+pub(super) fn put_refusal<W: Outside>(
+    alloc: Global,
+    name: &Text,
+    refusal: &Refusal,
+    outside: &mut W,
+) -> Result<bool, Stop>
     ensures { Writes (λ share. share ≡ refusal_share name.now refusal.now) result (W.state outside.old) (W.state outside.new) }
 {
     match refusal_text(alloc, name, refusal) {

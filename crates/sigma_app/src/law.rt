@@ -1,4 +1,4 @@
-//! That each request has exactly one answer, and that each rule's query means the rule.
+//! That words are one request at most, that each request has exactly one answer, and that each rule's query means the rule.
 
 ghost use Rattle.std.specs.Prelude.{◌≡◌, ◌↔◌, List, ℕ, Some};
 ghost use Rattle.sigma_app.specs.Laws.{EachDocument, EachFile, EachAnswer, OneDocument, OneFile, OneAnswer, OfBoth, QueriesMean};
@@ -8,8 +8,7 @@ ghost use Rattle.sigma_app.specs.declared.request.Request.{Request};
 /// The words are accepted as the request that is read word by word, and as no other.
 pub fn words_are_read()
     ensures { (words : List (List ℕ)) (request : Request) → IsAccepted words request ↔ (read words ≡ Some request) }
-{
-}
+{}
 
 /// Each document of a rule file has an answer, and so each file and each request.
 pub fn each_answer()

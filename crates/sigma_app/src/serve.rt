@@ -85,7 +85,12 @@ fn serve_lent<F: Shelf, S: Source, O: Sink, E: Sink>(
     answer_words(alloc, words, limits, &mut outside)
 }
 
-fn answer_words<W: Outside>(alloc: Global, words: &[Text], limits: &Limits, outside: &mut W) -> Status
+fn answer_words<W: Outside>(
+    alloc: Global,
+    words: &[Text],
+    limits: &Limits,
+    outside: &mut W,
+) -> Status
     ensures serves { Serves limits.now words.now result (W.state outside.old).inputs (W.state outside.new).inputs (W.state outside.old).streams (W.state outside.new).streams }
     ensures kept { (W.state outside.new).references ≡ (W.state outside.old).references }
 {
@@ -119,11 +124,28 @@ fn refuse_words<W: Outside>(outside: &mut W) -> Status
 }
 
 /// Answers a request.
-fn answer_request<W: Outside>(alloc: Global, request: &Request, limits: &Limits, outside: &mut W) -> Result<bool, Stop>
+fn answer_request<W: Outside>(
+    alloc: Global,
+    request: &Request,
+    limits: &Limits,
+    outside: &mut W,
+) -> Result<bool, Stop>
     ensures { Ends (needs_of request.now) (Answers limits.now request.now) result (W.state outside.old) (W.state outside.new) }
 {
     match request {
-        Request::Check { rules } => answer_files(alloc, &Check { limits }, limits, rules.as_slice(), outside),
-        Request::Convert { rules } => answer_files(alloc, &Convert { limits }, limits, rules.as_slice(), outside),
+        Request::Check { rules } => answer_files(
+            alloc,
+            &Check { limits },
+            limits,
+            rules.as_slice(),
+            outside,
+        ),
+        Request::Convert { rules } => answer_files(
+            alloc,
+            &Convert { limits },
+            limits,
+            rules.as_slice(),
+            outside,
+        ),
     }
 }

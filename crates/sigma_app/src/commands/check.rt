@@ -22,7 +22,13 @@ pub(crate) struct Check<'a> {
 impl TreeCommand for Check<'_> {
     ghost gives = { λ c. CheckGives c.limits.now };
 
-    fn answer<W: Outside>(&self, alloc: Global, name: &Text, node: &Node, outside: &mut W) -> Result<bool, Stop> {
+    fn answer<W: Outside>(
+        &self,
+        alloc: Global,
+        name: &Text,
+        node: &Node,
+        outside: &mut W,
+    ) -> Result<bool, Stop> {
         self.each_tree();
         match check_node(alloc, self.limits, node) {
             Ok(place) => match ok_text(alloc, name, place) {

@@ -21,7 +21,13 @@ pub(crate) struct Convert<'a> {
 impl TreeCommand for Convert<'_> {
     ghost gives = { λ c. ConvertGives c.limits.now };
 
-    fn answer<W: Outside>(&self, alloc: Global, name: &Text, node: &Node, outside: &mut W) -> Result<bool, Stop> {
+    fn answer<W: Outside>(
+        &self,
+        alloc: Global,
+        name: &Text,
+        node: &Node,
+        outside: &mut W,
+    ) -> Result<bool, Stop> {
         self.each_tree();
         match convert_node(alloc, self.limits, node) {
             Ok(query) => put_line(alloc, query.as_slice(), outside),

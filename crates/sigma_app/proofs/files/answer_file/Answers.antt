@@ -1,7 +1,6 @@
-use Rattle.std.proofs.Common.{ℕ, List, ◌+◌, sym, subst}
+use Rattle.std.proofs.Common.{ℕ, List, subst}
 use Rattle.answer_parts.specs.Stands.{Writes}
 use Rattle.answer_parts.specs.State.{State}
-use Rattle.sig_base.specs.Files.{IsFront}
 use Rattle.sigma_app.proofs.Filed.{file_read, file_unread}
 use Rattle.sigma_app.specs.RuleFiles.{FileGives}
 use Rattle.sigma_app.proofs.files.answer_file.Goals as goal
