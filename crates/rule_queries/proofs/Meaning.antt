@@ -55,6 +55,7 @@ query_means wholes means sounds schemas queries limits t rule texts converted =
     let query = queries limits.sql_depth schema (tree_of schema rule) text_schema sound limits.sql_depth_in.0 lines.deep in
     record {
       characters = query.characters;
+      scalars = query.scalars;
       encoded = query.encoded;
       expression = query.expr;
       reads = query.reads;

@@ -1,5 +1,6 @@
 -- The query of a rule under the schema that is made of it, and what the query means.
-use Rattle.std.specs.Prelude.{◌≡◌, ◌↔◌, ℕ, ◌-◌, ◌^◌, min, pos, nat_le, if◌then◌else◌, List, [], ◌∷◌, length, Some, None, encode_utf8_all}
+use Rattle.std.specs.Prelude.{◌≡◌, ◌↔◌, true, ℕ, ◌-◌, ◌^◌, min, pos, nat_le, if◌then◌else◌, List, [], ◌∷◌, length, Some, None, encode_utf8_all}
+use Rattle.std.specs.Str.{all_scalars}
 use Rattle.std.specs.declared.option.Option.{Option}
 use Rattle.backend_core.specs.Trees.{Plain}
 use Rattle.event_schema.specs.Events.{IsEvent}
@@ -51,10 +52,11 @@ size_checks limits rule =
 abbrev pub query_refusal : Limits → PlainRule → Option Refusal
 query_refusal limits rule = first (schema_refusal rule ∷ fit_refusal (inferred_schema rule) rule ∷ size_checks limits rule)
 
--- The bytes are read as exactly one query of the rule's schema, within the limit of depth, and for every event of this schema
--- the query selects the event exactly where the rule matches it.
+-- The bytes are a text, of Unicode scalar values, that is read as exactly one query of the rule's schema, within the limit of
+-- depth, and for every event of this schema the query selects the event exactly where the rule matches it.
 pub record Converts (limits : Limits) (rule : PlainRule) (bytes : List ℕ) : Type 0 where
   pub characters : List ℕ
+  pub scalars : all_scalars characters ≡ true
   pub encoded : bytes ≡ encode_utf8_all characters
   pub expression : Expr
   pub reads : ReadsWithin limits.sql_depth (inferred_schema rule) characters expression

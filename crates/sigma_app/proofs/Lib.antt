@@ -1,8 +1,7 @@
 pub mod Documented
 pub mod Filed
-pub mod Gone
-pub mod Judging
+pub mod Judged
+pub mod Laws
 pub mod ReportLines
-pub mod Serving
-pub mod Shares
-mod Converting
+pub mod Running
+pub mod Wording

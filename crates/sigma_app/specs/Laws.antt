@@ -1,32 +1,53 @@
--- Laws of the verdicts: there is exactly one for each document, and the query of an accepted rule means the rule.
+-- Laws of the answers: there is exactly one to each document, file and request, and the query of each rule means the rule.
 use Rattle.std.specs.Prelude.{◌≡◌, ℕ, List, None}
+use Rattle.answer_parts.specs.Input.{World}
+use Rattle.answer_parts.specs.Parts.{Share, Part}
 use Rattle.rule_model.specs.Plain.{PlainRule}
 use Rattle.rule_model.specs.Rules.{rule_refusal}
 use Rattle.rule_queries.specs.Verdicts.{IsChecked}
 use Rattle.sig_base.specs.declared.limits.Limits.{Limits}
-use Rattle.sigma_app.specs.Served.{EachConverts}
-use Rattle.sigma_app.specs.Verdicts.{Verdict, IsVerdict, AreVerdicts}
-use Rattle.sigma_app.specs.declared.command.Command.{Command}
-use Rattle.sigma_app.specs.declared.command.Command.TheVariants.{Convert}
+use Rattle.sigma_app.specs.Answers.{Answers}
+use Rattle.sigma_app.specs.Check.{CheckGives}
+use Rattle.sigma_app.specs.Convert.{ConvertGives, ConvertMeans}
+use Rattle.sigma_app.specs.RuleFiles.{ByTree, DocumentGives, FileGives}
+use Rattle.sigma_app.specs.declared.request.Request.{Request}
 use Rattle.yaml_tree.specs.Tree.{Tree, Answer}
 
--- each document has a verdict
-abbrev pub EachDocument : Type 0
-EachDocument = (command : Command) (limits : Limits) (document : Answer) → (verdict : Verdict) × IsVerdict command limits document verdict
+-- each tree is answered, in a file of each name
+abbrev pub EachTree : ByTree → Type 0
+EachTree by = (name : List ℕ) (t : Tree) → (share : Share) × by name t share
 
--- each file has its verdicts
-abbrev pub EachFile : Type 0
-EachFile = (command : Command) (limits : Limits) (bytes : List ℕ) → (verdicts : List Verdict) × AreVerdicts command limits bytes verdicts
+abbrev pub EachDocument : ByTree → Type 0
+EachDocument by = (name : List ℕ) (document : Answer) → (share : Share) × DocumentGives by name document share
 
-abbrev pub OneDocument : Type 0
-OneDocument = (command : Command) (limits : Limits) (document : Answer) (v w : Verdict) → IsVerdict command limits document v → IsVerdict command limits document w → v ≡ w
+abbrev pub EachFile : ByTree → Type 0
+EachFile by = (limits : Limits) (name bytes : List ℕ) → (share : Share) × FileGives by limits name bytes share
 
-abbrev pub OneFile : Type 0
-OneFile = (command : Command) (limits : Limits) (bytes : List ℕ) (v w : List Verdict) → AreVerdicts command limits bytes v → AreVerdicts command limits bytes w → v ≡ w
+-- each request has an answer in each world
+abbrev pub EachAnswer : Type 0
+EachAnswer = (limits : Limits) (request : Request) (world : World) → (parts : List Part) × Answers limits request world parts
 
--- the query of each rule that `convert` accepts in a file means the rule
+-- each tree is answered in one way
+abbrev pub OneTree : ByTree → Type 0
+OneTree by = (name : List ℕ) (t : Tree) (a b : Share) → by name t a → by name t b → a ≡ b
+
+abbrev pub OneDocument : ByTree → Type 0
+OneDocument by = (name : List ℕ) (document : Answer) (a b : Share) → DocumentGives by name document a → DocumentGives by name document b → a ≡ b
+
+abbrev pub OneFile : ByTree → Type 0
+OneFile by = (limits : Limits) (name bytes : List ℕ) (a b : Share) → FileGives by limits name bytes a → FileGives by limits name bytes b → a ≡ b
+
+-- each request has one answer in each world
+abbrev pub OneAnswer : Type 0
+OneAnswer = (limits : Limits) (request : Request) (world : World) (a b : List Part) → Answers limits request world a → Answers limits request world b → a ≡ b
+
+-- said of both commands that answer trees
+abbrev pub OfBoth : (ByTree → Type 0) → Type 0
+OfBoth says = (limits : Limits) → says (CheckGives limits) × says (ConvertGives limits)
+
+-- the query of each rule that `convert` answers in a file means the rule
 abbrev pub QueriesMean : Type 0
-QueriesMean = (limits : Limits) (bytes : List ℕ) (verdicts : List Verdict) → AreVerdicts Convert limits bytes verdicts → EachConverts limits verdicts
+QueriesMean = (limits : Limits) (name bytes : List ℕ) (share : Share) → FileGives (ConvertGives limits) limits name bytes share → FileGives (ConvertMeans limits) limits name bytes share
 
 -- a tree that isn't refused is a rule, and one rule only
 abbrev pub EachRule : Type 0

@@ -1,10 +1,9 @@
+pub mod Answers
+pub mod Check
 pub mod Codes
-pub mod Commands
-pub mod Ends
-pub mod Going
+pub mod Convert
 pub mod Laws
 pub mod Reports
+pub mod RuleFiles
 pub mod Served
-pub mod Telling
-pub mod Verdicts
-pub mod Written
+pub mod Words

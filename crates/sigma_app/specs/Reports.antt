@@ -1,7 +1,8 @@
--- The lines that the program writes beside its queries.
+-- The diagnostics about rule files and words, the line of a rule, and the shares that they make.
 use Rattle.std.specs.Prelude.{ℕ, nat_lt, if◌then◌else◌, List, [], ◌∷◌, ◌++◌, map, codes, encode_utf8_all}
 use Rattle.std.specs.Fmt.{decimal, signed_decimal}
-use Rattle.std.specs.List.{flat_map}
+use Rattle.answer_parts.specs.Lines.{ended}
+use Rattle.answer_parts.specs.Parts.{Share, text_share, diagnostic_share}
 use Rattle.sig_base.specs.Codes.{code_name}
 use Rattle.sig_base.specs.declared.refusal.Detail.{Detail}
 use Rattle.sig_base.specs.declared.refusal.Detail.TheVariants.{None, Text, Numbers}
@@ -26,24 +27,26 @@ placed file place rest = file ++ (58 ∷ (decimal place.line ++ (58 ∷ (decimal
 abbrev pub line_of : List ℕ → Place → ℕ → List ℕ → List ℕ → List ℕ
 line_of file place number cause rest = placed file place (decimal number ++ (32 ∷ (cause ++ rest)))
 
--- the line of a document that is a rule, with the place of its top node
+-- the output's line of a document that is a rule, with the place of its top node
 abbrev pub ok_line : List ℕ → Place → List ℕ
 ok_line name place = placed (encode_utf8_all name) place (codes "ok")
 
--- the line of a refusal in a file, with its detail
-abbrev pub refusal_line : List ℕ → Refusal → List ℕ
-refusal_line name r = line_of (encode_utf8_all name) r.place r.code (code_name r.code) (detail_text r.detail)
+-- the diagnostic about a refusal in a file, with its detail
+abbrev pub refusal_diagnostic : List ℕ → Refusal → List ℕ
+refusal_diagnostic name r = line_of (encode_utf8_all name) r.place r.code (code_name r.code) (detail_text r.detail)
 
--- the line about a file that can't be read
-abbrev pub unread_line : List ℕ → List ℕ
-unread_line name = codes "sigma: cannot read " ++ encode_utf8_all name
+-- the diagnostic where the words aren't accepted
+abbrev pub usage_diagnostic : List ℕ
+usage_diagnostic = codes "sigma: bad usage"
 
-abbrev pub usage_line : List ℕ
-usage_line = codes "sigma: bad usage"
+-- a line on the output
+abbrev pub line_share : List ℕ → Share
+line_share line = text_share (ended line)
 
--- each line is ended by a line feed
-abbrev pub ended : List ℕ → List ℕ
-ended line = line ++ 10 ∷ []
+-- the one diagnostic about what is refused
+abbrev pub refusal_share : List ℕ → Refusal → Share
+refusal_share name r = diagnostic_share (refusal_diagnostic name r)
 
-abbrev pub lines_text : List (List ℕ) → List ℕ
-lines_text lines = flat_map ended lines
+-- the one diagnostic where the words aren't accepted
+abbrev pub usage_share : Share
+usage_share = diagnostic_share usage_diagnostic

@@ -1,28 +1,34 @@
 -- What a run of the program answers, and what it leaves behind.
-use Rattle.std.specs.Prelude.{◌≡◌, ℕ, Bool, if◌then◌else◌, ⊤, List, [], ◌∷◌, ◌++◌, Option, Contains}
-use Rattle.std.specs.Io.KnownBytes.{Appends}
-use Rattle.rule_queries.specs.Queries.{query_of, Converts}
-use Rattle.sig_base.specs.Causes.{AppendsFront}
+use Rattle.std.specs.Prelude.{◌≡◌, ℕ, Bool, if◌then◌else◌, ⊤, false, List, [], ◌∷◌, Option, None, Some}
+use Rattle.answer_parts.specs.Cut.{Cut}
+use Rattle.answer_parts.specs.Each.{EachPart}
+use Rattle.answer_parts.specs.Input.{Input, World, IsNeeded, IsTold, WasUnread}
+use Rattle.answer_parts.specs.Parts.{Part, share_of, Gains}
+use Rattle.answer_parts.specs.Stands.{StopsAt}
+use Rattle.answer_parts.specs.State.{Inputs, Streams, NoWriteFailed, SomeWriteFailed, NoReadFailed}
 use Rattle.sig_base.specs.declared.limits.Limits.{Limits}
-use Rattle.sigma_app.specs.Commands.{IsTaken, IsUntaken}
-use Rattle.sigma_app.specs.Ends.{LinesCut}
-use Rattle.sigma_app.specs.Reports.{lines_text, unread_line, usage_line}
-use Rattle.sigma_app.specs.Verdicts.{Verdict, Accepted, Refused, Answered, AreAnswered, any_refusal}
-use Rattle.sigma_app.specs.Written.{all_output, all_lines}
-use Rattle.sigma_app.specs.declared.command.Command.{Command}
-use Rattle.sigma_app.specs.declared.command.Command.TheVariants.{Convert}
+use Rattle.sigma_app.specs.Answers.{Answers, needs_of}
+use Rattle.sigma_app.specs.Convert.{ConvertMeans}
+use Rattle.sigma_app.specs.Reports.{usage_share}
+use Rattle.sigma_app.specs.RuleFiles.{RuleFile}
+use Rattle.sigma_app.specs.Words.{IsAccepted, IsUnaccepted}
+use Rattle.sigma_app.specs.declared.request.Request.{Request}
+use Rattle.sigma_app.specs.declared.request.Request.TheVariants.{Convert}
 use Rattle.sigma_app.specs.declared.status.Status.{Status}
 use Rattle.sigma_app.specs.declared.status.Status.TheVariants.{Done, Found, Usage, ReadFault, WriteFault, Memory}
 
 abbrev pub status_of : Bool → Status
-status_of found = if found then Found else Done
+status_of refused = if refused then Found else Done
 
--- The answer to words on these files: the status, the bytes of the output, and the lines of the error output.
-pub record Answer (limits : Limits) (words : List (List ℕ)) (files : List (List ℕ × List ℕ)) (status : Status) (out : List ℕ) (lines : List (List ℕ)) : Type 0 where
-  pub usage : IsUntaken words → (status ≡ Usage) × (out ≡ []) × (lines ≡ usage_line ∷ [])
-  pub taken : (command : Command) (names : List (List ℕ)) → IsTaken words command names
-      → (answers : List Answered) × AreAnswered command limits files names answers
-      × (status ≡ status_of (any_refusal answers)) × (out ≡ all_output command answers) × (lines ≡ all_lines answers)
+-- the answer to words that aren't accepted
+abbrev pub usage_part : Part
+usage_part = record { input = None; share = usage_share }
+
+-- The answer to words in a world: that to the request as which they are accepted, or that they aren't accepted.
+pub data Answer (limits : Limits) (words : List (List ℕ)) (world : World) (status : Status) (parts : List Part) : Type 0 where
+  accepted : (request : Request) → IsAccepted words request → Answers limits request world parts → status ≡ status_of (share_of parts).refused
+      → Answer limits words world status parts
+  unaccepted : IsUnaccepted words → status ≡ Usage → parts ≡ usage_part ∷ [] → Answer limits words world status parts
 
 -- the run came to its end
 abbrev pub IsAnswered : Status → Type 0
@@ -42,50 +48,64 @@ IsCutOff ReadFault = ⊥
 IsCutOff WriteFault = ⊤
 IsCutOff Memory = ⊤
 
--- each accepted document's query means its rule, under the schema that is made of the rule
-abbrev pub EachConverts : Limits → List Verdict → Type 0
-EachConverts limits [] = ⊤
-EachConverts limits (Accepted rule ∷ verdicts) = Converts limits rule (query_of rule) × EachConverts limits verdicts
-EachConverts limits (Refused r ∷ verdicts) = EachConverts limits verdicts
+-- the shelf and the events, so far as the words' request reads them, tell this world
+abbrev pub Tells : List (List ℕ) → Inputs → World → Type 0
+Tells words inputs world = (request : Request) → IsAccepted words request → IsTold (needs_of request) inputs world
 
-abbrev pub AllConvert : Limits → List Answered → Type 0
-AllConvert limits [] = ⊤
-AllConvert limits (answer ∷ answers) = EachConverts limits answer.verdicts × AllConvert limits answers
+-- an input that the words' request reads
+abbrev pub IsRead : List (List ℕ) → Input → Type 0
+IsRead words input = (request : Request) × IsAccepted words request × IsNeeded (needs_of request) input
 
--- The headline: what `convert` writes is, for each accepted document in order, its query and a line feed, and nothing
--- else; each query is read as exactly one query within the reader's limits, which selects an event exactly where the rule
--- matches it; and each other document has its one line, with the first cause for which it isn't taken.
-abbrev pub Headline : Limits → List (List ℕ) → List (List ℕ × List ℕ) → Option (List ℕ) → Option (List ℕ) → Option (List ℕ) → Option (List ℕ) → Type 0
-Headline limits words files out_old out_new err_old err_new =
-    (names : List (List ℕ)) → IsTaken words Convert names → (answers : List Answered) × AreAnswered Convert limits files names answers
-    × AllConvert limits answers × Appends out_old out_new (all_output Convert answers) × Appends err_old err_new (lines_text (all_lines answers))
+-- the words are no request that reads events
+abbrev pub ReadsNoEvents : List (List ℕ) → Type 0
+ReadsNoEvents words = (request : Request) → IsAccepted words request → (needs_of request).events ≡ false
 
 -- what a run that came to its end has written: its answer
-abbrev pub Written : Limits → List (List ℕ) → List (List ℕ × List ℕ) → Status → Option (List ℕ) → Option (List ℕ) → Option (List ℕ) → Option (List ℕ) → Type 0
-Written limits words files status out_old out_new err_old err_new =
-    (out : List ℕ) × (lines : List (List ℕ)) × Answer limits words files status out lines
-    × Appends out_old out_new out × Appends err_old err_new (lines_text lines)
+abbrev pub Written : Limits → List (List ℕ) → World → Status → Streams → Streams → Type 0
+Written limits words world status old new = (parts : List Part) × Answer limits words world status parts × Gains (share_of parts) old new
 
--- What stands after a fault in writing or want of memory: a front of the answer's output, and of its lines some whole
--- ones and at most a part of one more.
-pub record StandsCut (limits : Limits) (words : List (List ℕ)) (files : List (List ℕ × List ℕ)) (out_old out_new err_old err_new : Option (List ℕ)) : Type 0 where
-  pub status : Status
-  pub out : List ℕ
-  pub lines : List (List ℕ)
-  pub names : List (List ℕ)
-  pub answer : Answer limits words files status out lines
-  pub named : (name : List ℕ) → Contains names name → (command : Command) × IsTaken words command names
-  pub out_front : AppendsFront out_old out_new out
-  pub err_front : LinesCut names err_old err_new lines
+-- The headline: what `convert` writes is, for each document that is a rule with a query, in order, the query and a line feed, and
+-- nothing else; the query's bytes are a text that is read as exactly one query within the reader's limits, which selects an
+-- event exactly where the rule matches it; and each other document has its one diagnostic, with the first cause for which it has
+-- no query.
+abbrev pub Headline : Limits → List (List ℕ) → World → Streams → Streams → Type 0
+Headline limits words world old new =
+    (rules : List (List ℕ)) → IsAccepted words (Convert rules) → (parts : List Part) × EachPart (RuleFile (ConvertMeans limits) limits) rules world parts × Gains (share_of parts) old new
 
--- What stands after a fault in reading a file: the answers to the files before it, all of their output and all of their
--- lines, and then the line that names the file. The whole answer goes on behind them.
-pub record StandsUnread (command : Command) (limits : Limits) (words : List (List ℕ)) (files : List (List ℕ × List ℕ)) (before : List (List ℕ)) (name : List ℕ) (out_old out_new err_old err_new : Option (List ℕ)) : Type 0 where
-  pub answers : List Answered
-  pub are : AreAnswered command limits files before answers
-  pub out : Appends out_old out_new (all_output command answers)
-  pub err : Appends err_old err_new (lines_text (all_lines answers ++ unread_line name ∷ []))
-  pub status : Status
-  pub out_left : List ℕ
-  pub lines_left : List (List ℕ)
-  pub answer : Answer limits words files status (all_output command answers ++ out_left) (all_lines answers ++ lines_left)
+-- What stands after a fault in writing or want of memory: a front of the answer's output, and of its diagnostics some whole ones
+-- and the beginning of at most one more, which may be the one about this input that couldn't be read.
+abbrev pub StandsCut : Limits → List (List ℕ) → World → Option Input → Streams → Streams → Type 0
+StandsCut limits words world unread old new = (status : Status) × (parts : List Part) × Answer limits words world status parts × Cut unread (share_of parts) old new
+
+-- What stands after a fault in reading: the answer's parts before the input, all of their output and all of their diagnostics, and
+-- then the diagnostic that names the input. The whole answer goes on behind those parts. `left` is what is left of the events.
+abbrev pub StandsUnread : Limits → List (List ℕ) → World → Input → Option (List ℕ) → Streams → Streams → Type 0
+StandsUnread limits words world input left old new =
+    (request : Request) × IsAccepted words request × (parts : List Part) × Answers limits request world parts × StopsAt (Answers limits request) world input parts left old new
+
+-- an input of the words' request that couldn't be read in between, if there is one
+abbrev pub MayBeUnread : List (List ℕ) → Option Input → Inputs → Inputs → Type 0
+MayBeUnread words None before after = ⊤
+MayBeUnread words (Some input) before after = IsRead words input × WasUnread input before after
+
+-- all that is said of a run: what the inputs told before it and tell after it, and the streams
+pub record Serves (limits : Limits) (words : List (List ℕ)) (status : Status) (before after : Inputs) (old new : Streams) : Type 0 where
+  pub answer : IsAnswered status → (world : World) → Tells words before world → Written limits words world status old new
+  pub headline : IsAnswered status → (world : World) → Tells words before world → Headline limits words world old new
+  pub usage : IsAnswered status → IsUnaccepted words → status ≡ Usage
+  pub unaccepted : status ≡ Usage → IsUnaccepted words
+  pub still : IsAnswered status → NoReadFailed before after × NoWriteFailed old new
+  pub read_fault : status ≡ ReadFault → (input : Input) × IsRead words input × WasUnread input before after
+      × ((world : World) → Tells words before world → StandsUnread limits words world input after.left old new)
+  pub write_fault : status ≡ WriteFault → SomeWriteFailed old new
+  pub after_fault : IsCutOff status → (unread : Option Input) × MayBeUnread words unread before after
+      × ((world : World) → Tells words before world → StandsCut limits words world unread old new)
+  pub apart : ReadsNoEvents words → (after.left ≡ before.left) × (after.faults ≡ before.faults)
+
+-- what a shelf and a source tell
+abbrev pub inputs_of : {F S : Type 0} → (F → Option (List (List ℕ × List ℕ))) → (F → List (List ℕ)) → (S → Option (List ℕ)) → (S → ℕ) → F → S → Inputs
+inputs_of files failed left faults shelf events = record { files = files shelf; failed = failed shelf; left = left events; faults = faults events }
+
+-- what two sinks tell
+abbrev pub streams_of : {O E : Type 0} → (O → Option (List ℕ)) → (O → ℕ) → (E → Option (List ℕ)) → (E → ℕ) → O → E → Streams
+streams_of out_taken out_faults err_taken err_faults out err = record { out = out_taken out; err = err_taken err; out_faults = out_faults out; err_faults = err_faults err }

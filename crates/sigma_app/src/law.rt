@@ -1,27 +1,37 @@
-//! That each file has exactly one list of verdicts, and that each rule's query means the rule.
+//! That words are one request at most, that each request has exactly one answer, and that each rule's query means the rule.
 
-ghost use Rattle.sigma_app.specs.Laws.{EachDocument, EachFile, OneDocument, OneFile, QueriesMean};
+ghost use Rattle.std.specs.Prelude.{◌≡◌, ◌↔◌, List, ℕ, Some};
+ghost use Rattle.sigma_app.specs.Laws.{EachDocument, EachFile, EachAnswer, OneDocument, OneFile, OneAnswer, OfBoth, QueriesMean};
+ghost use Rattle.sigma_app.specs.Words.{IsAccepted, read};
+ghost use Rattle.sigma_app.specs.declared.request.Request.{Request};
 
-/// Each document of a file has a verdict, and so each file has its verdicts.
-pub fn each_verdict()
-    ensures document { EachDocument }
-    ensures file { EachFile }
+/// The words are accepted as the request that is read word by word, and as no other.
+pub fn words_are_read()
+    ensures { (words : List (List ℕ)) (request : Request) → IsAccepted words request ↔ (read words ≡ Some request) }
+{}
+
+/// Each document of a rule file has an answer, and so each file and each request.
+pub fn each_answer()
+    ensures document { OfBoth EachDocument }
+    ensures file { OfBoth EachFile }
+    ensures request { EachAnswer }
 {
     rule_queries::one_verdict();
     yaml_documents::laws::verdicts();
 }
 
-/// A document has at most one verdict, and a file one list of verdicts.
-pub fn one_verdict()
-    ensures document { OneDocument }
-    ensures file { OneFile }
+/// A document has at most one answer, and so each file and each request.
+pub fn one_answer()
+    ensures document { OfBoth OneDocument }
+    ensures file { OfBoth OneFile }
+    ensures request { OneAnswer }
 {
     rule_queries::one_verdict();
     yaml_documents::laws::verdicts();
     yaml_documents::laws::one_verdict();
 }
 
-/// The query of each rule that `convert` accepts means the rule.
+/// The query of each rule that `convert` answers means the rule.
 pub fn queries_mean_rules()
     ensures { QueriesMean }
 {

@@ -1,19 +1,20 @@
-//! The lines about refusals and files that can't be read.
+//! The diagnostics about rule files, and the lines of `check`.
 
 ghost use Rattle.std.specs.Prelude.{◌≡◌, ◌++◌, ◌∷◌, [], IfOk, map, string_bytes, encode_utf8_all};
-ghost use Rattle.sigma_app.specs.Reports.{ended, refusal_line, unread_line, ok_line};
+ghost use Rattle.answer_parts.specs.Lines.{ended};
+ghost use Rattle.sigma_app.specs.Reports.{refusal_diagnostic, ok_line};
 ghost use Rattle.sigma_app.specs.Reports as reports;
 
-use sig_base::{Bytes, Detail, Place, Refusal, Text};
+use sig_base::{Detail, Place, Refusal, Text};
 use std::alloc::{AllocError, Global};
 
-/// The line of a refusal, ended by a line feed.
+/// The diagnostic about a refusal, with its line feed.
 pub(super) fn refusal_text(
     alloc: Global,
     name: &Text,
     refusal: &Refusal,
 ) -> Result<String, AllocError>
-    ensures { IfOk result (λ line. string_bytes line ≡ ended (refusal_line name.now refusal.now)) }
+    ensures { IfOk result (λ line. string_bytes line ≡ ended (refusal_diagnostic name.now refusal.now)) }
 {
     let detail = detail_text(alloc, &refusal.detail)?;
     line_text(
@@ -81,21 +82,12 @@ fn shown(c: char) -> char
     if c < ' ' { '?' } else { c }
 }
 
-/// The line of a document that is a rule, without a line feed.
-pub(super) fn ok_text(alloc: Global, name: &Text, place: Place) -> Result<Bytes, AllocError>
-    ensures { IfOk result (λ bytes. bytes ≡ ok_line name.now place) }
+/// The line of a document that is a rule, with its line feed.
+pub(super) fn ok_text(alloc: Global, name: &Text, place: Place) -> Result<String, AllocError>
+    ensures { IfOk result (λ line. string_bytes line ≡ ended (ok_line name.now place)) }
 {
     let file = name.as_str();
     let line = place.line;
     let column = place.column;
-    let text = format!(in alloc; "{file}:{line}:{column}: ok")?;
-    Ok(Bytes::from_vec(text.into_bytes()))
-}
-
-/// The line about a file that can't be read, ended by a line feed.
-pub(super) fn unread_text(alloc: Global, name: &Text) -> Result<String, AllocError>
-    ensures { IfOk result (λ line. string_bytes line ≡ ended (unread_line name.now)) }
-{
-    let file = name.as_str();
-    format!(in alloc; "sigma: cannot read {file}\n")
+    format!(in alloc; "{file}:{line}:{column}: ok\n")
 }

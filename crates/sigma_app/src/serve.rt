@@ -1,20 +1,25 @@
 //! The top call: the whole program over a shelf, a source and two sinks.
 
-ghost use Rattle.std.specs.Prelude.{◌≡◌, ◌⊎◌, [], ◌∷◌, ◌++◌, ℕ, List, IfSome};
-ghost use Rattle.sig_base.specs.Causes.{Rose};
-ghost use Rattle.sigma_app.specs.Commands.{IsTaken, IsUntaken};
-ghost use Rattle.sigma_app.specs.Served.{IsAnswered, IsCutOff, Written, Headline, StandsCut, StandsUnread};
+ghost use Rattle.std.specs.Prelude.{◌≡◌, ℕ, List, Option};
+ghost use Rattle.answer_parts.specs.Input.{Input, World, WasUnread};
+ghost use Rattle.answer_parts.specs.Stands.{Ends};
+ghost use Rattle.answer_parts.specs.State.{NoWriteFailed, SomeWriteFailed, NoReadFailed};
+ghost use Rattle.sigma_app.specs.Answers.{Answers, needs_of};
+ghost use Rattle.sigma_app.specs.Served.{Serves, IsAnswered, IsCutOff, Tells, IsRead, MayBeUnread, ReadsNoEvents, Written, Headline, StandsCut, StandsUnread, inputs_of, streams_of};
+ghost use Rattle.sigma_app.specs.Words.{IsUnaccepted};
 
-use crate::command::Command;
+use crate::commands::check::Check;
+use crate::commands::convert::Convert;
 use crate::files::answer_files;
-use crate::law::{each_verdict, queries_mean_rules};
+use crate::law::{each_answer, queries_mean_rules};
+use crate::request::Request;
 use crate::status::Status;
-use crate::stop::Stop;
-use crate::words::taken;
-use sig_base::{Limits, Shelf, Sink, Source, Text, put_all};
+use crate::words::read_words;
+use answer_parts::{Lent, Outside, Stop, tell_diagnostic};
+use sig_base::{Limits, Shelf, Sink, Source, Text};
 use std::alloc::Global;
 
-/// Does what the words say: answers each file on `out` and `err`, and tells how the run ended.
+/// Does what the words say: answers on `out` and `err`, and tells how the run ended.
 pub fn serve<F: Shelf, S: Source, O: Sink, E: Sink>(
     alloc: Global,
     words: &[Text],
@@ -24,40 +29,123 @@ pub fn serve<F: Shelf, S: Source, O: Sink, E: Sink>(
     out: &mut O,
     err: &mut E,
 ) -> Status
-    // A run that comes to its end has written the answer that the words and the files have.
-    ensures answer { IsAnswered result → IfSome (F.files shelf.old) (λ files.
-        Written limits.now words.now files result (O.taken out.old) (O.taken out.new) (E.taken err.old) (E.taken err.new)) }
-    ensures headline { IsAnswered result → IfSome (F.files shelf.old) (λ files.
-        Headline limits.now words.now files (O.taken out.old) (O.taken out.new) (E.taken err.old) (E.taken err.new)) }
+    // A run that comes to its end has written the answer to its words in each world that the inputs tell.
+    ensures answer { IsAnswered result → (world : World) → Tells words.now (inputs_of F.files F.failed S.left S.faults shelf.old events.old) world
+        → Written limits.now words.now world result (streams_of O.taken O.faults E.taken E.faults out.old err.old) (streams_of O.taken O.faults E.taken E.faults out.new err.new) }
+    ensures headline { IsAnswered result → (world : World) → Tells words.now (inputs_of F.files F.failed S.left S.faults shelf.old events.old) world
+        → Headline limits.now words.now world (streams_of O.taken O.faults E.taken E.faults out.old err.old) (streams_of O.taken O.faults E.taken E.faults out.new err.new) }
 
-    // `Usage` comes exactly where the words aren't taken and no fault ended the run.
-    ensures usage { result ≡ Status.Usage → IsUntaken words.now }
+    // `Usage` comes exactly where the words aren't accepted and no fault ended the run.
+    ensures usage { IsAnswered result → IsUnaccepted words.now → result ≡ Status.Usage }
+    ensures unaccepted { result ≡ Status.Usage → IsUnaccepted words.now }
 
     // Each fault has its cause in this call, and a run that comes to its end met none.
-    ensures still { IsAnswered result → (F.failed shelf.new ≡ F.failed shelf.old) × (S.faults events.new ≡ S.faults events.old)
-        × (O.faults out.new ≡ O.faults out.old) × (E.faults err.new ≡ E.faults err.old) }
-    ensures read_fault { result ≡ Status.ReadFault → (command : Command) × (before : List (List ℕ)) × (name : List ℕ) × (after : List (List ℕ))
-        × IsTaken words.now command (before ++ name ∷ after) × (F.failed shelf.new ≡ F.failed shelf.old ++ name ∷ [])
-        × IfSome (F.files shelf.old) (λ files. StandsUnread command limits.now words.now files before name (O.taken out.old) (O.taken out.new) (E.taken err.old) (E.taken err.new)) }
-    ensures write_fault { result ≡ Status.WriteFault → Rose (O.faults out.old) (O.faults out.new) ⊎ Rose (E.faults err.old) (E.faults err.new) }
+    ensures still { IsAnswered result
+        → NoReadFailed (inputs_of F.files F.failed S.left S.faults shelf.old events.old) (inputs_of F.files F.failed S.left S.faults shelf.new events.new)
+        × NoWriteFailed (streams_of O.taken O.faults E.taken E.faults out.old err.old) (streams_of O.taken O.faults E.taken E.faults out.new err.new) }
+    ensures read_fault { result ≡ Status.ReadFault → (input : Input) × IsRead words.now input
+        × WasUnread input (inputs_of F.files F.failed S.left S.faults shelf.old events.old) (inputs_of F.files F.failed S.left S.faults shelf.new events.new)
+        × ((world : World) → Tells words.now (inputs_of F.files F.failed S.left S.faults shelf.old events.old) world
+        → StandsUnread limits.now words.now world input (S.left events.new) (streams_of O.taken O.faults E.taken E.faults out.old err.old) (streams_of O.taken O.faults E.taken E.faults out.new err.new)) }
+    ensures write_fault { result ≡ Status.WriteFault
+        → SomeWriteFailed (streams_of O.taken O.faults E.taken E.faults out.old err.old) (streams_of O.taken O.faults E.taken E.faults out.new err.new) }
 
-    // What stands where the run was cut off.
-    ensures after_fault { IsCutOff result → IfSome (F.files shelf.old) (λ files.
-        StandsCut limits.now words.now files (O.taken out.old) (O.taken out.new) (E.taken err.old) (E.taken err.new)) }
+    // What stands where the run was cut off: a diagnostic about an input is begun only where it couldn't be read in this call.
+    ensures after_fault { IsCutOff result → (unread : Option Input)
+        × MayBeUnread words.now unread (inputs_of F.files F.failed S.left S.faults shelf.old events.old) (inputs_of F.files F.failed S.left S.faults shelf.new events.new)
+        × ((world : World) → Tells words.now (inputs_of F.files F.failed S.left S.faults shelf.old events.old) world
+        → StandsCut limits.now words.now world unread (streams_of O.taken O.faults E.taken E.faults out.old err.old) (streams_of O.taken O.faults E.taken E.faults out.new err.new)) }
+
+    // Events that the words' request doesn't read stay as they are, however the run ends.
+    ensures apart { ReadsNoEvents words.now → (S.left events.new ≡ S.left events.old) × (S.faults events.new ≡ S.faults events.old) }
 {
-    each_verdict();
-    queries_mean_rules();
-    let Some((command, names)) = taken(words) else {
-        return match put_all(err, b"sigma: bad usage\n") {
-            Ok(()) => Status::Usage,
-            Err(_) => Status::WriteFault,
-        };
+    serve_lent(alloc, words, limits, shelf, events, out, err)
+}
+
+/// The same, with all that is said of a run in one clause.
+fn serve_lent<F: Shelf, S: Source, O: Sink, E: Sink>(
+    alloc: Global,
+    words: &[Text],
+    limits: &Limits,
+    shelf: &mut F,
+    events: &mut S,
+    out: &mut O,
+    err: &mut E,
+) -> Status
+    ensures { Serves limits.now words.now result
+        (inputs_of F.files F.failed S.left S.faults shelf.old events.old) (inputs_of F.files F.failed S.left S.faults shelf.new events.new)
+        (streams_of O.taken O.faults E.taken E.faults out.old err.old) (streams_of O.taken O.faults E.taken E.faults out.new err.new) }
+{
+    let mut outside = Lent {
+        shelf,
+        events,
+        out,
+        err,
     };
-    match answer_files(alloc, command, limits, names, shelf, out, err) {
+    answer_words(alloc, words, limits, &mut outside)
+}
+
+fn answer_words<W: Outside>(
+    alloc: Global,
+    words: &[Text],
+    limits: &Limits,
+    outside: &mut W,
+) -> Status
+    ensures serves { Serves limits.now words.now result (W.state outside.old).inputs (W.state outside.new).inputs (W.state outside.old).streams (W.state outside.new).streams }
+    ensures kept { (W.state outside.new).references ≡ (W.state outside.old).references }
+{
+    each_answer();
+    queries_mean_rules();
+    let request = match read_words(alloc, words) {
+        Ok(Some(request)) => request,
+        Ok(None) => return refuse_words(outside),
+        Err(_) => return Status::Memory,
+    };
+    match answer_request(alloc, &request, limits, outside) {
         Ok(false) => Status::Done,
         Ok(true) => Status::Found,
         Err(Stop::Unread) => Status::ReadFault,
         Err(Stop::Unwritten) => Status::WriteFault,
         Err(Stop::Memory) => Status::Memory,
+    }
+}
+
+/// Tells that the words aren't accepted.
+fn refuse_words<W: Outside>(outside: &mut W) -> Status
+    ensures serves { (limits : Limits) (words : List (List ℕ)) → IsUnaccepted words
+        → Serves limits words result (W.state outside.old).inputs (W.state outside.new).inputs (W.state outside.old).streams (W.state outside.new).streams }
+    ensures kept { (W.state outside.new).references ≡ (W.state outside.old).references }
+{
+    match tell_diagnostic(b"sigma: bad usage\n", outside) {
+        Ok(_) => Status::Usage,
+        Err(Stop::Unwritten) => Status::WriteFault,
+        Err(_) => Status::Memory,
+    }
+}
+
+/// Answers a request.
+fn answer_request<W: Outside>(
+    alloc: Global,
+    request: &Request,
+    limits: &Limits,
+    outside: &mut W,
+) -> Result<bool, Stop>
+    ensures { Ends (needs_of request.now) (Answers limits.now request.now) result (W.state outside.old) (W.state outside.new) }
+{
+    match request {
+        Request::Check { rules } => answer_files(
+            alloc,
+            &Check { limits },
+            limits,
+            rules.as_slice(),
+            outside,
+        ),
+        Request::Convert { rules } => answer_files(
+            alloc,
+            &Convert { limits },
+            limits,
+            rules.as_slice(),
+            outside,
+        ),
     }
 }

@@ -7,11 +7,11 @@ ghost use Rattle.std.specs.Prelude.{◌≡◌};
 pub enum Status {
     /// All was read, and nothing was refused.
     Done,
-    /// Something was refused, with a line of its own.
+    /// Something was refused, with a diagnostic of its own.
     Found,
-    /// The words aren't taken.
+    /// The words aren't accepted.
     Usage,
-    /// A file couldn't be read.
+    /// An input couldn't be read.
     ReadFault,
     /// A stream couldn't be written.
     WriteFault,

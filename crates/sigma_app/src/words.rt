@@ -1,18 +1,19 @@
 //! The words of the command line.
 
-ghost use Rattle.std.specs.Prelude.{◌≡◌, ◌<◌, ◌++◌, true, length, List, ℕ, IfSome, IfNone};
+ghost use Rattle.std.specs.Prelude.{◌≡◌, ◌<◌, ◌∷◌, true, length, List, ℕ, IfSome, IfNone, IfOk, codes};
 ghost use Rattle.std.specs.List.{list_all};
-ghost use Rattle.sigma_app.specs.Commands.{IsTaken, IsUntaken, command_words};
-ghost use Rattle.sigma_app.specs.Commands as commands;
+ghost use Rattle.sigma_app.specs.Words.{IsAccepted, IsUnaccepted};
+ghost use Rattle.sigma_app.specs.Words as accepted_words;
 
-use crate::command::Command;
-use sig_base::Text;
+use crate::request::Request;
+use sig_base::{Text, Texts};
+use std::alloc::{AllocError, Global};
 
-/// So many words, or more, aren't taken.
+/// So many words, or more, aren't accepted.
 const TOO_MANY_WORDS: usize = 1 << 20;
 
 fn is_file(name: &Text) -> bool
-    ensures { result ≡ commands.is_file name.now }
+    ensures { result ≡ accepted_words.is_file name.now }
 {
     match name.as_str().chars().next() {
         Some(first) => first != '-',
@@ -22,23 +23,23 @@ fn is_file(name: &Text) -> bool
 
 /// Whether the words are files, and there is one.
 fn are_files(names: &[Text]) -> bool
-    ensures all { result ≡ true → list_all commands.is_file names.now ≡ true }
+    ensures all { result ≡ true → list_all accepted_words.is_file names.now ≡ true }
     ensures some { result ≡ true → 0 < length names.now }
-    ensures whenever { 0 < length names.now → list_all commands.is_file names.now ≡ true → result ≡ true }
+    ensures whenever { 0 < length names.now → list_all accepted_words.is_file names.now ≡ true → result ≡ true }
 {
     !names.is_empty() && all_files(names)
 }
 
 fn all_files(names: &[Text]) -> bool
-    ensures { result ≡ list_all commands.is_file names.now }
+    ensures { result ≡ list_all accepted_words.is_file names.now }
 {
     names.iter().all(|name| is_file(name))
 }
 
 /// The words behind those of `check`.
 fn behind_check(words: &[Text]) -> Option<&[Text]>
-    ensures some { IfSome result (λ names. words.now ≡ command_words Command.Check ++ names.now) }
-    ensures none { IfNone result ((names : List (List ℕ)) → words.now ≡ command_words Command.Check ++ names → ⊥) }
+    ensures some { IfSome result (λ names. words.now ≡ codes "check" ∷ names.now) }
+    ensures none { IfNone result ((names : List (List ℕ)) → words.now ≡ codes "check" ∷ names → ⊥) }
 {
     match words {
         [check, ..] => {
@@ -54,8 +55,8 @@ fn behind_check(words: &[Text]) -> Option<&[Text]>
 
 /// The words behind those of `convert`.
 fn behind_convert(words: &[Text]) -> Option<&[Text]>
-    ensures some { IfSome result (λ names. words.now ≡ command_words Command.Convert ++ names.now) }
-    ensures none { IfNone result ((names : List (List ℕ)) → words.now ≡ command_words Command.Convert ++ names → ⊥) }
+    ensures some { IfSome result (λ names. words.now ≡ codes "convert" ∷ codes "--backend" ∷ codes "sqlite" ∷ names.now) }
+    ensures none { IfNone result ((names : List (List ℕ)) → words.now ≡ codes "convert" ∷ codes "--backend" ∷ codes "sqlite" ∷ names → ⊥) }
 {
     match words {
         [convert, option, backend, ..] => {
@@ -69,27 +70,42 @@ fn behind_convert(words: &[Text]) -> Option<&[Text]>
     }
 }
 
-/// The command that words name, and its files, where the words are taken.
-pub(super) fn taken(words: &[Text]) -> Option<(Command, &[Text])>
-    ensures taken { IfSome result (λ t. IsTaken words.now t.0 t.1.now) }
-    ensures other { IfNone result (IsUntaken words.now) }
+/// Copies of the names.
+fn copies(alloc: Global, names: &[Text]) -> Option<Texts>
+    ensures { IfSome result (λ all. all ≡ names.now) }
+{
+    let mut all = Texts::new(alloc);
+    for name in names {
+        all.push(Text::copy(alloc, name.as_str()).ok()?).ok()?;
+    }
+    Some(all)
+}
+
+/// The request that the words are, if they are one; an error is want of memory.
+pub(super) fn read_words(alloc: Global, words: &[Text]) -> Result<Option<Request>, AllocError>
+    ensures accepted { IfOk result (λ r. IfSome r (λ request. IsAccepted words.now request)) }
+    ensures unaccepted { IfOk result (λ r. IfNone r (IsUnaccepted words.now)) }
 {
     if words.len() >= TOO_MANY_WORDS {
-        return None;
+        return Ok(None);
     }
     if let Some(names) = behind_check(words) {
-        return if are_files(names) {
-            Some((Command::Check, names))
-        } else {
-            None
+        if !are_files(names) {
+            return Ok(None);
+        }
+        return match copies(alloc, names) {
+            Some(rules) => Ok(Some(Request::Check { rules })),
+            None => Err(AllocError),
         };
     }
     if let Some(names) = behind_convert(words) {
-        return if are_files(names) {
-            Some((Command::Convert, names))
-        } else {
-            None
+        if !are_files(names) {
+            return Ok(None);
+        }
+        return match copies(alloc, names) {
+            Some(rules) => Ok(Some(Request::Convert { rules })),
+            None => Err(AllocError),
         };
     }
-    None
+    Ok(None)
 }

@@ -44,7 +44,7 @@ fn keeps_lines_before_a_fault(rt: HostRuntime) -> Result<(), Fail> {
     Ok(())
 }
 
-/// A shelf that fails, whose line about it can be written or not, and words that aren't taken.
+/// A shelf that fails, with its diagnostic written or cut off, and words that aren't accepted.
 #[test]
 fn tells_of_a_file_that_cannot_be_read(rt: HostRuntime) -> Result<(), Fail> {
     let limits = Limits::standard();

@@ -242,19 +242,17 @@ fn answers_each_document(rt: HostRuntime) -> Result<(), Fail> {
     Ok(())
 }
 
-/// How many bytes stand where each call fails in turn, in pieces of 10 bytes: twice a query of 63 bytes, whose line feed
-/// is a call of its own.
-const KEPT: [(u64, usize); 10] = [
+/// How many bytes stand where each call fails in turn, in pieces of 10 bytes: twice a query of 63 bytes with its line feed.
+const KEPT: [(u64, usize); 9] = [
     (1, 0),
     (2, 10),
     (7, 60),
-    (8, 63),
-    (9, 64),
-    (10, 74),
-    (15, 124),
-    (16, 127),
-    (17, 128),
-    (18, 128),
+    (8, 64),
+    (9, 74),
+    (13, 114),
+    (14, 124),
+    (15, 128),
+    (16, 128),
 ];
 
 #[test]
@@ -270,7 +268,7 @@ fn keeps_queries_before_a_fault(rt: HostRuntime) -> Result<(), Fail> {
         let run = run_over(rt.alloc(), &words, &limits, world)?;
         assert_eq!(rt; run.out.as_slice(), front(twice.as_str(), kept));
         assert_eq!(rt; run.err.as_slice(), b"".as_slice());
-        assert_eq!(rt; run.status.code(), if call < 17 { 4 } else { 0 });
+        assert_eq!(rt; run.status.code(), if call < 15 { 4 } else { 0 });
     }
     let mut world = still(&files);
     world.shelf = 2;

@@ -1,43 +1,28 @@
-use Rattle.std.proofs.Common.{ℕ, List, [], ◌∷◌, ◌++◌, ◌∙◌, ◌+◌, suc, take, drop, ap, subst, Option, Ok, Err, IfSome}
-use Rattle.sigma_app.proofs.Documented.{around}
-use Rattle.sigma_app.proofs.Gone.{known_next, known_stop_at, known_unread}
-use Rattle.sigma_app.specs.Going.{Ends}
+use Rattle.std.proofs.Common.{false}
+use Rattle.answer_parts.proofs.Rows.{ends_none, ends_next, ends_stops}
+use Rattle.answer_parts.specs.Input.{Needs}
+use Rattle.sigma_app.proofs.Filed.{each_part, part_aside, there}
+use Rattle.sigma_app.specs.RuleFiles.{RuleFile}
 use Rattle.sigma_app.proofs.files.answer_files.Goals as goal
+
+pub loop-name-init : goal.loop-name-init
+loop-name-init g c =
+    ends_none (RuleFile (g.T.TreeCommand.gives c.args.command.now) c.args.limits.now) (record { names = c.args.names.now; events = false }) (g.W.Outside.state c.args.outside.now)
 
 pub loop-name-preserved : goal.loop-name-preserved
 loop-name-preserved g c =
-    let i = c.loop-name.invariant in
-    let ends = subst (λ (known : Option (List (List ℕ × List ℕ))). IfSome known (λ files. Ends c.args.command c.args.limits.now files (c.name-item.result ∷ []) (Ok c.in-Ok.refused) (g.O.Sink.taken c.loop-name.out) (g.O.Sink.taken c.answer_file.new.out) (g.E.Sink.taken c.loop-name.err) (g.E.Sink.taken c.answer_file.new.err)))
-    i.files c.in-Ok.ensures.ends in
-    record {
-      whole = known_next c.args.command c.args.limits.now (g.F.Shelf.files c.args.shelf.now) c.args.names.now c.loop-name.name-index c.name-item.result c.loop-name.found c.in-Ok.refused c.either-found.result
-          (g.O.Sink.taken c.args.out.now) (g.O.Sink.taken c.loop-name.out) (g.O.Sink.taken c.answer_file.new.out) (g.E.Sink.taken c.args.err.now) (g.E.Sink.taken c.loop-name.err) (g.E.Sink.taken c.answer_file.new.err)
-          c.loop-name-test.true c.name-item.is c.either-found.ensures i.whole ends;
-      files = c.answer_file.ensures.files ∙ i.files;
-      failed = c.in-Ok.ensures.same.0 ∙ i.failed;
-      out_same = c.in-Ok.ensures.same.1 ∙ i.out_same;
-      err_same = c.in-Ok.ensures.same.2 ∙ i.err_same;
-    }
+    let needs : Needs = record { names = c.args.names.now; events = false } in
+    ends_next (RuleFile (g.T.TreeCommand.gives c.args.command.now) c.args.limits.now) needs c.args.names.now c.loop-name.name-index c.name-item.result c.loop-name.found c.in-Ok.refused c.either-found.result
+    (g.W.Outside.state c.args.outside.now) (g.W.Outside.state c.loop-name.outside) (g.W.Outside.state c.answer_file.new.outside)
+    c.loop-name-test.true c.name-item.is c.either-found.ensures c.loop-name.invariant
+    (c.in-Ok.ensures needs (there c.args.names.now c.loop-name.name-index c.name-item.result c.loop-name-test.true c.name-item.is))
 
-pub returns-in-Err-clause-ends : goal.returns-in-Err-clause-ends
-returns-in-Err-clause-ends g c =
-    let i = c.loop-name.invariant in
-    let ends = subst (λ (known : Option (List (List ℕ × List ℕ))). IfSome known (λ files. Ends c.args.command c.args.limits.now files (c.name-item.result ∷ []) (Err c.in-Err.stop) (g.O.Sink.taken c.loop-name.out) (g.O.Sink.taken c.answer_file.new.out) (g.E.Sink.taken c.loop-name.err) (g.E.Sink.taken c.answer_file.new.err)))
-    i.files c.in-Err.ensures.ends in
-    known_stop_at c.each_verdict.ensures.file c.args.command c.args.limits.now (g.F.Shelf.files c.args.shelf.now) c.args.names.now c.loop-name.name-index c.name-item.result c.loop-name.found c.in-Err.stop
-    (g.O.Sink.taken c.args.out.now) (g.O.Sink.taken c.loop-name.out) (g.O.Sink.taken c.answer_file.new.out) (g.E.Sink.taken c.args.err.now) (g.E.Sink.taken c.loop-name.err) (g.E.Sink.taken c.answer_file.new.err)
-    c.loop-name-test.true c.name-item.is i.whole ends
-
-pub returns-in-Err-clause-unread : goal.returns-in-Err-clause-unread
-returns-in-Err-clause-unread g c is =
-    let i = c.loop-name.invariant in
-    let told = c.in-Err.ensures.unread is in (
-      take c.loop-name.name-index c.args.names.now,
-      c.name-item.result,
-      drop (suc c.loop-name.name-index) c.args.names.now,
-      around c.args.names.now c.loop-name.name-index c.name-item.result c.loop-name-test.true c.name-item.is,
-      told.0 ∙ ap (λ (names : List (List ℕ)). names ++ c.name-item.result ∷ []) i.failed,
-      known_unread c.args.command c.args.limits.now (g.F.Shelf.files c.args.shelf.now) (take c.loop-name.name-index c.args.names.now) c.name-item.result c.loop-name.found
-          (g.O.Sink.taken c.args.out.now) (g.O.Sink.taken c.loop-name.out) (g.O.Sink.taken c.answer_file.new.out) (g.E.Sink.taken c.args.err.now) (g.E.Sink.taken c.loop-name.err) (g.E.Sink.taken c.answer_file.new.err)
-          i.whole told.1 told.2,
-    )
+pub returns-in-Err : goal.returns-in-Err
+returns-in-Err g c =
+    let needs : Needs = record { names = c.args.names.now; events = false } in
+    let by = g.T.TreeCommand.gives c.args.command.now in
+    ends_stops (RuleFile by c.args.limits.now) (each_part by c.args.limits.now c.each_file.ensures) (part_aside by c.args.limits.now)
+    needs c.args.names.now c.loop-name.name-index c.name-item.result c.loop-name.found c.in-Err.stop
+    (g.W.Outside.state c.args.outside.now) (g.W.Outside.state c.loop-name.outside) (g.W.Outside.state c.answer_file.new.outside)
+    c.loop-name-test.true c.name-item.is c.loop-name.invariant
+    (c.in-Err.ensures needs (there c.args.names.now c.loop-name.name-index c.name-item.result c.loop-name-test.true c.name-item.is))

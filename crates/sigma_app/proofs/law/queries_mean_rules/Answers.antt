@@ -1,4 +1,4 @@
-use Rattle.sigma_app.proofs.Converting.{queries_mean}
+use Rattle.sigma_app.proofs.Laws.{queries_mean}
 use Rattle.sigma_app.proofs.law.queries_mean_rules.Goals as goal
 
 pub returns : goal.returns

@@ -1,0 +1,5 @@
+pub mod Shares
+pub mod Wrote
+pub mod Ending
+pub mod Unread
+pub mod Rows

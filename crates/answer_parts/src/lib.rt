@@ -1,0 +1,12 @@
+//! Answers that are written part by part, and what stands of them where they are cut off.
+#![tactic(auto)]
+
+mod outside;
+mod reading;
+mod stop;
+mod writing;
+
+pub use outside::{Lent, Outside};
+pub use reading::read_file;
+pub use stop::Stop;
+pub use writing::{put_line, put_text, tell_diagnostic};

@@ -1,0 +1,76 @@
+-- That each tree has exactly one answer under each command.
+use Rattle.std.proofs.Common.{◌≡◌, ℕ, List, refl, ap, sym, ◌∙◌, Option, Some, None}
+use Rattle.answer_parts.specs.Parts.{Share}
+use Rattle.rule_model.specs.Plain.{PlainRule}
+use Rattle.rule_model.specs.Rules.{rule_refusal}
+use Rattle.rule_queries.specs.Queries.{query_of, query_refusal}
+use Rattle.rule_queries.specs.Verdicts as rules
+use Rattle.sig_base.specs.declared.limits.Limits.{Limits}
+use Rattle.sig_base.specs.declared.refusal.Refusal.{Refusal}
+use Rattle.sigma_app.specs.Check.{CheckGives, is_rule, no_rule}
+use Rattle.sigma_app.specs.Convert.{ConvertGives, has_query, no_query}
+use Rattle.sigma_app.specs.Laws.{EachTree, OneTree, EachRule, OneRule}
+use Rattle.sigma_app.specs.Reports.{ok_line, line_share, refusal_share}
+use Rattle.yaml_tree.specs.Tree.{Tree}
+
+pub each_checks : EachRule → (limits : Limits) → EachTree (CheckGives limits)
+each_checks each limits name t = by (rule_refusal limits t) refl
+  where
+    by : (r : Option Refusal) → rule_refusal limits t ≡ r → (share : Share) × CheckGives limits name t share
+    by None is = let rule = each limits t is in (line_share (ok_line name rule.0.head.place), is_rule rule.0 rule.1 refl)
+    by (Some r) is = (refusal_share name r, no_rule r is refl)
+
+pub each_converts : EachRule → (limits : Limits) → EachTree (ConvertGives limits)
+each_converts each limits name t = by (rule_refusal limits t) refl
+  where
+    queried : (rule : PlainRule) → rules.IsChecked limits t rule → (r : Option Refusal) → query_refusal limits rule ≡ r → (share : Share) × ConvertGives limits name t share
+    queried rule checked None is = (line_share (query_of rule), has_query rule (record { checked = checked; written = is }) refl)
+    queried rule checked (Some r) is = (refusal_share name r, no_query r (rules.no_query rule checked is) refl)
+
+    by : (r : Option Refusal) → rule_refusal limits t ≡ r → (share : Share) × ConvertGives limits name t share
+    by None is = let rule = each limits t is in queried rule.0 rule.1 (query_refusal limits rule.0) refl
+    by (Some r) is = (refusal_share name r, no_query r (rules.no_rule is) refl)
+
+-- ---- one answer
+
+some_is : (a b : Refusal) → Some a ≡ Some b → a ≡ b
+some_is a b same = cc
+
+not_none : (r : Option Refusal) (a : Refusal) → r ≡ None → r ≡ Some a → ⊥
+not_none r a none some = apart (sym none ∙ some)
+  where
+    apart : None ≡ Some a → ⊥
+    apart same = cc
+
+one_cause : (r : Option Refusal) (a b : Refusal) → r ≡ Some a → r ≡ Some b → a ≡ b
+one_cause r a b first second = some_is a b (sym first ∙ second)
+
+same_refusal : (name : List ℕ) (r s : Refusal) (a b : Share) → r ≡ s → a ≡ refusal_share name r → b ≡ refusal_share name s → a ≡ b
+same_refusal name r s a b same first second = first ∙ (ap (λ (x : Refusal). refusal_share name x) same ∙ sym second)
+
+pub one_checks : OneRule → (limits : Limits) → OneTree (CheckGives limits)
+one_checks one limits name t a b (is_rule rule checked is) (is_rule other checked_too too) =
+    is ∙ (ap (λ (r : PlainRule). line_share (ok_line name r.head.place)) (one limits t rule other checked checked_too) ∙ sym too)
+one_checks one limits name t a b (is_rule rule checked is) (no_rule r so too) = absurd (not_none _ r checked.taken so)
+one_checks one limits name t a b (no_rule r so is) (is_rule rule checked too) = absurd (not_none _ r checked.taken so)
+one_checks one limits name t a b (no_rule r so is) (no_rule s so_too too) = same_refusal name r s a b (one_cause _ r s so so_too) is too
+
+-- what has a query isn't refused
+not_both : OneRule → (limits : Limits) (t : Tree) (rule : PlainRule) (r : Refusal) → rules.IsConverted limits t rule → rules.IsRefused limits t r → ⊥
+not_both one limits t rule r converted (rules.no_rule is) = not_none _ r converted.checked.taken is
+not_both one limits t rule r converted (rules.no_query other checked is) =
+    not_none _ r (ap (query_refusal limits) (one limits t other rule checked converted.checked) ∙ converted.written) is
+
+one_refusal : OneRule → (limits : Limits) (t : Tree) (r s : Refusal) → rules.IsRefused limits t r → rules.IsRefused limits t s → r ≡ s
+one_refusal one limits t r s (rules.no_rule is) (rules.no_rule too) = one_cause _ r s is too
+one_refusal one limits t r s (rules.no_rule is) (rules.no_query rule checked too) = absurd (not_none _ r checked.taken is)
+one_refusal one limits t r s (rules.no_query rule checked is) (rules.no_rule too) = absurd (not_none _ s checked.taken too)
+one_refusal one limits t r s (rules.no_query rule checked is) (rules.no_query other checked_too too) =
+    one_cause _ r s is (ap (query_refusal limits) (one limits t rule other checked checked_too) ∙ too)
+
+pub one_converts : OneRule → (limits : Limits) → OneTree (ConvertGives limits)
+one_converts one limits name t a b (has_query rule so is) (has_query other so_too too) =
+    is ∙ (ap (λ (r : PlainRule). line_share (query_of r)) (one limits t rule other so.checked so_too.checked) ∙ sym too)
+one_converts one limits name t a b (has_query rule so is) (no_query r so_too too) = absurd (not_both one limits t rule r so so_too)
+one_converts one limits name t a b (no_query r so is) (has_query rule so_too too) = absurd (not_both one limits t rule r so_too so)
+one_converts one limits name t a b (no_query r so is) (no_query s so_too too) = same_refusal name r s a b (one_refusal one limits t r s so so_too) is too

@@ -1,0 +1,219 @@
+-- What a run leaves, from how answering its request ended.
+use Rattle.std.proofs.Common.{◌≡◌, ℕ, Bool, true, false, List, [], ◌∷◌, refl, ap, subst, Option, Some, None, Ok, Err, inl, inr}
+use Rattle.std.specs.Prelude.{◌⊎◌}
+use Rattle.answer_parts.proofs.Shares.{cut_nothing}
+use Rattle.answer_parts.specs.Cut.{Cut}
+use Rattle.answer_parts.specs.Each.{EachPart}
+use Rattle.answer_parts.specs.Input.{Input, World, IsTold, WasUnread}
+use Rattle.answer_parts.specs.Parts.{Share, Part, share_of, Gains}
+use Rattle.answer_parts.specs.Stands.{Outcome, Cause, Stands, Ends, Writes}
+use Rattle.answer_parts.specs.State.{State, Inputs, SomeWriteFailed}
+use Rattle.answer_parts.specs.declared.stop.Stop.{Stop}
+use Rattle.answer_parts.specs.declared.stop.Stop.TheVariants as stop
+use Rattle.sig_base.specs.declared.limits.Limits.{Limits}
+use Rattle.sigma_app.proofs.Laws.{parts_mean}
+use Rattle.sigma_app.proofs.Wording.{one_request, decided}
+use Rattle.sigma_app.specs.Answers.{Answers, needs_of}
+use Rattle.sigma_app.specs.Convert.{ConvertMeans}
+use Rattle.sigma_app.specs.Laws.{EachAnswer, QueriesMean}
+use Rattle.sigma_app.specs.Reports.{usage_share}
+use Rattle.sigma_app.specs.RuleFiles.{RuleFile}
+use Rattle.sigma_app.specs.Served.{accepted, unaccepted, status_of, Serves, Tells, StandsCut, StandsUnread, MayBeUnread, IsCutOff, IsRead, ReadsNoEvents, usage_part}
+use Rattle.sigma_app.specs.Words.{IsAccepted, IsUnaccepted}
+use Rattle.sigma_app.specs.declared.request.Request.{Request}
+use Rattle.sigma_app.specs.declared.request.Request.TheVariants.{Convert}
+use Rattle.sigma_app.specs.declared.status.Status.TheVariants.{Usage, ReadFault, WriteFault, Memory}
+
+-- ---- how a run of a request ends
+
+not_usage : (found : Bool) → status_of found ≡ Usage → ⊥
+not_usage true is = cc
+not_usage false is = cc
+
+not_unread : (found : Bool) → status_of found ≡ ReadFault → ⊥
+not_unread true is = cc
+not_unread false is = cc
+
+not_unwritten : (found : Bool) → status_of found ≡ WriteFault → ⊥
+not_unwritten true is = cc
+not_unwritten false is = cc
+
+not_cut : (found : Bool) → IsCutOff (status_of found) → ⊥
+not_cut true is = is
+not_cut false is = is
+
+module _ (limits : Limits) (words : List (List ℕ)) (request : Request) (is_accepted : IsAccepted words request) (old new : State) where
+  converted : QueriesMean → (world : World) (parts : List Part) (rules : List (List ℕ)) → Answers limits request world parts → IsAccepted words (Convert rules)
+      → EachPart (RuleFile (ConvertMeans limits) limits) rules world parts
+  converted means world parts rules answers too =
+      parts_mean means limits rules world parts (subst (λ (r : Request). Answers limits r world parts) (one_request words request (Convert rules) is_accepted too) answers)
+
+  pub serves_whole : QueriesMean → (found : Bool) → Ends (needs_of request) (Answers limits request) (Ok found) old new → Serves limits words (status_of found) old.inputs new.inputs old.streams new.streams
+  serves_whole means found e = record {
+    answer = λ _ world tells. let s = e.stands world (tells request is_accepted) in (s.0, accepted request is_accepted s.1 (ap status_of s.2.0), s.2.1);
+    headline = λ _ world tells rules too. let s = e.stands world (tells request is_accepted) in (s.0, converted means world s.0 rules s.1 too, s.2.1);
+    usage = λ _ other. absurd (other request is_accepted);
+    unaccepted = λ is. absurd (not_usage found is);
+    still = λ _. (e.cause.1, e.cause.2);
+    read_fault = λ is. absurd (not_unread found is);
+    write_fault = λ is. absurd (not_unwritten found is);
+    after_fault = λ is. absurd (not_cut found is);
+    apart = λ quiet. e.apart (quiet request is_accepted);
+  }
+
+  pub serves_as : QueriesMean → (found so : Bool) → found ≡ so → Ends (needs_of request) (Answers limits request) (Ok found) old new → Serves limits words (status_of so) old.inputs new.inputs old.streams new.streams
+  serves_as means found so is e = subst (λ (f : Bool). Serves limits words (status_of f) old.inputs new.inputs old.streams new.streams) is (serves_whole means found e)
+
+  unread_by : (unread : Option Input) → Cause (needs_of request) (Err stop.Unread) unread old new
+      → ((world : World) → IsTold (needs_of request) old.inputs world → (parts : List Part) × Answers limits request world parts × Stands (Answers limits request) world (Err stop.Unread) unread parts old new)
+      → (input : Input) × IsRead words input × WasUnread input old.inputs new.inputs × ((world : World) → Tells words old.inputs world → StandsUnread limits words world input new.inputs.left old.streams new.streams)
+  unread_by None cause stands = absurd cause
+  unread_by (Some input) cause stands = (
+    input,
+    (request, is_accepted, cause.0),
+    cause.1,
+    λ world tells. let s = stands world (tells request is_accepted) in (request, is_accepted, s.0, s.1, s.2),
+  )
+
+  pub serves_unread : Ends (needs_of request) (Answers limits request) (Err stop.Unread) old new → Serves limits words ReadFault old.inputs new.inputs old.streams new.streams
+  serves_unread e = record {
+    answer = λ is. absurd is;
+    headline = λ is. absurd is;
+    usage = λ is. absurd is;
+    unaccepted = λ is. absurd (apart is);
+    still = λ is. absurd is;
+    read_fault = λ _. unread_by e.unread e.cause e.stands;
+    write_fault = λ is. absurd (apart_too is);
+    after_fault = λ is. absurd is;
+    apart = λ quiet. e.apart (quiet request is_accepted);
+  }
+    where
+      apart : ReadFault ≡ Usage → ⊥
+      apart is = cc
+
+      apart_too : ReadFault ≡ WriteFault → ⊥
+      apart_too is = cc
+
+  unwritten_by : (unread : Option Input) → Cause (needs_of request) (Err stop.Unwritten) unread old new → MayBeUnread words unread old.inputs new.inputs × SomeWriteFailed old.streams new.streams
+  unwritten_by None cause = (tt, cause)
+  unwritten_by (Some input) cause = (((request, is_accepted, cause.0), cause.1), cause.2)
+
+  pub serves_unwritten : Ends (needs_of request) (Answers limits request) (Err stop.Unwritten) old new → Serves limits words WriteFault old.inputs new.inputs old.streams new.streams
+  serves_unwritten e = record {
+    answer = λ is. absurd is;
+    headline = λ is. absurd is;
+    usage = λ is. absurd is;
+    unaccepted = λ is. absurd (apart is);
+    still = λ is. absurd is;
+    read_fault = λ is. absurd (apart_too is);
+    write_fault = λ _. (unwritten_by e.unread e.cause).1;
+    after_fault = λ _. (
+      e.unread,
+      (unwritten_by e.unread e.cause).0,
+      λ world tells. let s = e.stands world (tells request is_accepted) in (status_of (share_of s.0).refused, s.0, accepted request is_accepted s.1 refl, s.2),
+    );
+    apart = λ quiet. e.apart (quiet request is_accepted);
+  }
+    where
+      apart : WriteFault ≡ Usage → ⊥
+      apart is = cc
+
+      apart_too : WriteFault ≡ ReadFault → ⊥
+      apart_too is = cc
+
+memory_usage : Memory ≡ Usage → ⊥
+memory_usage is = cc
+
+memory_unread : Memory ≡ ReadFault → ⊥
+memory_unread is = cc
+
+memory_unwritten : Memory ≡ WriteFault → ⊥
+memory_unwritten is = cc
+
+-- memory was missing: what stands is cut off
+pub serves_cut : (limits : Limits) (words : List (List ℕ)) (old new : State) → (ReadsNoEvents words → (new.inputs.left ≡ old.inputs.left) × (new.inputs.faults ≡ old.inputs.faults))
+    → ((world : World) → Tells words old.inputs world → StandsCut limits words world None old.streams new.streams) → Serves limits words Memory old.inputs new.inputs old.streams new.streams
+serves_cut limits words old new quiet cut = record {
+  answer = λ is. absurd is;
+  headline = λ is. absurd is;
+  usage = λ is. absurd is;
+  unaccepted = λ is. absurd (memory_usage is);
+  still = λ is. absurd is;
+  read_fault = λ is. absurd (memory_unread is);
+  write_fault = λ is. absurd (memory_unwritten is);
+  after_fault = λ _. (None, tt, cut);
+  apart = quiet;
+}
+
+pub serves_memory : (limits : Limits) (words : List (List ℕ)) (request : Request) → IsAccepted words request → (old new : State)
+    → Ends (needs_of request) (Answers limits request) (Err stop.Memory) old new → Serves limits words Memory old.inputs new.inputs old.streams new.streams
+serves_memory limits words request is_accepted old new e =
+    serves_cut limits words old new (λ quiet. e.apart (quiet request is_accepted))
+    (λ world tells. let s = e.stands world (tells request is_accepted) in
+    (status_of (share_of s.0).refused, s.0, accepted request is_accepted s.1 refl, subst (λ u. Cut u (share_of s.0) old.streams new.streams) e.cause s.2))
+
+-- memory was missing for the words
+pub serves_nothing : EachAnswer → (limits : Limits) (words : List (List ℕ)) (s : State) → Serves limits words Memory s.inputs s.inputs s.streams s.streams
+serves_nothing each limits words s = serves_cut limits words s s (λ _. (refl, refl)) (λ world _. some world (decided words))
+  where
+    some : (world : World) → ((request : Request) × IsAccepted words request) ⊎ IsUnaccepted words → StandsCut limits words world None s.streams s.streams
+    some world (inl (request, is_accepted)) =
+        let a = each limits request world in (status_of (share_of a.0).refused, a.0, accepted request is_accepted a.1 refl, cut_nothing None (share_of a.0) s.streams)
+    some world (inr other) = (Usage, usage_part ∷ [], unaccepted other refl refl, cut_nothing None (share_of (usage_part ∷ [])) s.streams)
+
+-- ---- words that aren't accepted
+
+abbrev IsUsage : Share → Type 0
+IsUsage share = share ≡ usage_share
+
+module _ (limits : Limits) (words : List (List ℕ)) (other : IsUnaccepted words) (old new : State) where
+  same_gains : (share : Share) → IsUsage share → Gains share old.streams new.streams → Gains (share_of (usage_part ∷ [])) old.streams new.streams
+  same_gains share is gains = subst (λ (s : Share). Gains s old.streams new.streams) is gains
+
+  same_cut : (share : Share) → IsUsage share → Cut None share old.streams new.streams → Cut None (share_of (usage_part ∷ [])) old.streams new.streams
+  same_cut share is cut = subst (λ (s : Share). Cut None s old.streams new.streams) is cut
+
+  pub serves_usage : (found : Bool) → Writes IsUsage (Ok found) old new → Serves limits words Usage old.inputs new.inputs old.streams new.streams
+  serves_usage found w = record {
+    answer = λ _ world _. (usage_part ∷ [], unaccepted other refl refl, same_gains w.share w.is w.outcome.1);
+    headline = λ _ world _ rules too. absurd (other (Convert rules) too);
+    usage = λ _ _. refl;
+    unaccepted = λ _. other;
+    still = λ _. ((ap (λ (i : Inputs). i.failed) w.inputs, ap (λ (i : Inputs). i.faults) w.inputs), w.outcome.2);
+    read_fault = λ is. absurd (apart is);
+    write_fault = λ is. absurd (apart_too is);
+    after_fault = λ is. absurd is;
+    apart = λ _. (ap (λ (i : Inputs). i.left) w.inputs, ap (λ (i : Inputs). i.faults) w.inputs);
+  }
+    where
+      apart : Usage ≡ ReadFault → ⊥
+      apart is = cc
+
+      apart_too : Usage ≡ WriteFault → ⊥
+      apart_too is = cc
+
+  pub usage_unwritten : Writes IsUsage (Err stop.Unwritten) old new → Serves limits words WriteFault old.inputs new.inputs old.streams new.streams
+  usage_unwritten w = record {
+    answer = λ is. absurd is;
+    headline = λ is. absurd is;
+    usage = λ is. absurd is;
+    unaccepted = λ _. other;
+    still = λ is. absurd is;
+    read_fault = λ is. absurd (apart is);
+    write_fault = λ _. w.outcome.1;
+    after_fault = λ _. (None, tt, λ world _. (Usage, usage_part ∷ [], unaccepted other refl refl, same_cut w.share w.is w.outcome.0));
+    apart = λ _. (ap (λ (i : Inputs). i.left) w.inputs, ap (λ (i : Inputs). i.faults) w.inputs);
+  }
+    where
+      apart : WriteFault ≡ ReadFault → ⊥
+      apart is = cc
+
+  pub usage_memory : (s : Stop) → Writes IsUsage (Err s) old new → Serves limits words Memory old.inputs new.inputs old.streams new.streams
+  usage_memory s w =
+      serves_cut limits words old new (λ _. (ap (λ (i : Inputs). i.left) w.inputs, ap (λ (i : Inputs). i.faults) w.inputs))
+      (λ world _. (Usage, usage_part ∷ [], unaccepted other refl refl, same_cut w.share w.is (cut s w.outcome)))
+    where
+      cut : (by : Stop) → Outcome w.share (Err by) old.streams new.streams → Cut None w.share old.streams new.streams
+      cut stop.Unread outcome = absurd outcome
+      cut stop.Unwritten outcome = outcome.0
+      cut stop.Memory outcome = outcome

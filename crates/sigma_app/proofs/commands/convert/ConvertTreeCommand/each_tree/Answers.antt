@@ -1,0 +1,5 @@
+use Rattle.sigma_app.proofs.Judged.{each_converts}
+use Rattle.sigma_app.proofs.commands.convert.ConvertTreeCommand.each_tree.Goals as goal
+
+pub returns : goal.returns
+returns c = each_converts c.one_verdict.ensures.each c.args.self.now.limits.now

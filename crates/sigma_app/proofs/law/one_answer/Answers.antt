@@ -1,0 +1,11 @@
+use Rattle.sigma_app.proofs.Laws as laws
+use Rattle.sigma_app.proofs.law.one_answer.Goals as goal
+
+pub returns : goal.returns
+returns c =
+    let files = laws.one_files c.one_verdict.ensures.one c.verdicts.ensures.never_both c.one_verdict-2.ensures.list c.one_verdict-2.ensures.refusal in
+    record {
+      document = laws.one_documents c.one_verdict.ensures.one;
+      file = files;
+      request = laws.one_answer files;
+    }

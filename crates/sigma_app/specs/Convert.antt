@@ -1,0 +1,21 @@
+-- `convert`: the queries of rules.
+use Rattle.std.specs.Prelude.{◌≡◌, ℕ, List}
+use Rattle.answer_parts.specs.Parts.{Share}
+use Rattle.rule_model.specs.Plain.{PlainRule}
+use Rattle.rule_queries.specs.Queries.{query_of, Converts}
+use Rattle.rule_queries.specs.Verdicts.{IsConverted, IsRefused}
+use Rattle.sig_base.specs.declared.limits.Limits.{Limits}
+use Rattle.sig_base.specs.declared.refusal.Refusal.{Refusal}
+use Rattle.sigma_app.specs.Reports.{line_share, refusal_share}
+use Rattle.yaml_tree.specs.Tree.{Tree}
+
+-- the tree is a rule with this query; or it's refused by the first cause for which there is none
+pub data ConvertGives (limits : Limits) (name : List ℕ) (t : Tree) (share : Share) : Type 0 where
+  has_query : (rule : PlainRule) → IsConverted limits t rule → share ≡ line_share (query_of rule) → ConvertGives limits name t share
+  no_query : (r : Refusal) → IsRefused limits t r → share ≡ refusal_share name r → ConvertGives limits name t share
+
+-- The same, with what the query means: it's read as exactly one query within the reader's limits, which selects an event exactly
+-- where the rule matches it.
+pub data ConvertMeans (limits : Limits) (name : List ℕ) (t : Tree) (share : Share) : Type 0 where
+  means_rule : (rule : PlainRule) → IsConverted limits t rule → Converts limits rule (query_of rule) → share ≡ line_share (query_of rule) → ConvertMeans limits name t share
+  means_none : (r : Refusal) → IsRefused limits t r → share ≡ refusal_share name r → ConvertMeans limits name t share

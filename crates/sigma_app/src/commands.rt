@@ -1,0 +1,4 @@
+//! The commands.
+
+pub(super) mod check;
+pub(super) mod convert;

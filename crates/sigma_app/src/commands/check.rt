@@ -1,0 +1,46 @@
+//! `check`: which documents are rules.
+
+ghost use Rattle.std.specs.Prelude.{◌≡◌};
+ghost use Rattle.answer_parts.specs.Stands.{Writes};
+ghost use Rattle.sigma_app.specs.Check.{CheckGives};
+ghost use Rattle.sigma_app.specs.Laws.{EachTree};
+ghost use Rattle.yaml_tree.specs.View.{node_view};
+
+use crate::documents::{TreeCommand, put_refusal};
+use crate::report::ok_text;
+use answer_parts::{Outside, Stop, put_text};
+use rule_queries::check_node;
+use sig_base::{Fault, Limits, Text};
+use std::alloc::Global;
+use yaml_tree::Node;
+
+#[derive(Drop)]
+pub(crate) struct Check<'a> {
+    pub(crate) limits: &'a Limits,
+}
+
+impl TreeCommand for Check<'_> {
+    ghost gives = { λ c. CheckGives c.limits.now };
+
+    fn answer<W: Outside>(
+        &self,
+        alloc: Global,
+        name: &Text,
+        node: &Node,
+        outside: &mut W,
+    ) -> Result<bool, Stop> {
+        self.each_tree();
+        match check_node(alloc, self.limits, node) {
+            Ok(place) => match ok_text(alloc, name, place) {
+                Ok(text) => put_text(text.as_bytes(), outside),
+                Err(_) => Err(Stop::Memory),
+            },
+            Err(Fault::Refused(refusal)) => put_refusal(alloc, name, &refusal, outside),
+            Err(Fault::Memory) => Err(Stop::Memory),
+        }
+    }
+
+    fn each_tree(&self) {
+        rule_queries::one_verdict();
+    }
+}
