@@ -98,7 +98,10 @@ fn names_stand_once_unless_they_clash(rt: HostRuntime) -> Result<(), Fail> {
             [["b"].as_slice(), ["a"].as_slice(), ["b"].as_slice()].as_slice(),
             "events b a",
         ),
-        ([[].as_slice(), ["y", "x"].as_slice()].as_slice(), "events y x"),
+        (
+            [[].as_slice(), ["y", "x"].as_slice()].as_slice(),
+            "events y x",
+        ),
         (
             [["A"].as_slice(), ["b"].as_slice(), ["a"].as_slice()].as_slice(),
             "80 3",
@@ -111,12 +114,7 @@ fn names_stand_once_unless_they_clash(rt: HostRuntime) -> Result<(), Fail> {
 }
 
 /// What refuses a rule under a schema of these fields, all of which keywords search or none.
-fn misfit(
-    alloc: Global,
-    names: &[&str],
-    search: bool,
-    items: &[&[&str]],
-) -> Result<String, Fail> {
+fn misfit(alloc: Global, names: &[&str], search: bool, items: &[&[&str]]) -> Result<String, Fail> {
     let mut fields = event_schema::Fields::new(alloc);
     for name in names {
         fields.push(Field {
@@ -153,7 +151,12 @@ fn the_first_item_without_a_field_is_refused(rt: HostRuntime) -> Result<(), Fail
             [["a"].as_slice(), ["a", "c"].as_slice(), ["d"].as_slice()].as_slice(),
             "81 2",
         ),
-        (["a"].as_slice(), true, [["A"].as_slice()].as_slice(), "81 1"),
+        (
+            ["a"].as_slice(),
+            true,
+            [["A"].as_slice()].as_slice(),
+            "81 1",
+        ),
         (
             ["a"].as_slice(),
             true,
