@@ -54,10 +54,24 @@ fn lower_formula(
     match formula {
         Formula::Detection(number) => lower_numbered(alloc, fields, numbers, detections, *number),
         Formula::OneOf(taken) => {
-            lower_taken(alloc, fields, numbers, detections, Joined::Any, taken.as_slice())
+            lower_taken(
+                alloc,
+                fields,
+                numbers,
+                detections,
+                Joined::Any,
+                taken.as_slice(),
+            )
         }
         Formula::AllOf(taken) => {
-            lower_taken(alloc, fields, numbers, detections, Joined::All, taken.as_slice())
+            lower_taken(
+                alloc,
+                fields,
+                numbers,
+                detections,
+                Joined::All,
+                taken.as_slice(),
+            )
         }
         Formula::Not(part) => {
             let tree = lower_formula(alloc, fields, numbers, detections, part)?;

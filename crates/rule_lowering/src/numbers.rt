@@ -49,11 +49,7 @@ fn number_in(index: &TextIndex, fields: &[Field], name: &Text) -> u32
 }
 
 /// The numbers of the fields that keywords search.
-fn search_fields(
-    alloc: Global,
-    index: &TextIndex,
-    fields: &[Field],
-) -> Result<Vec<u32>, Fault>
+fn search_fields(alloc: Global, index: &TextIndex, fields: &[Field]) -> Result<Vec<u32>, Fault>
     requires few { length fields.now < 2 ^ 32 }
     requires indexed { index.now ≡ names_of fields.now }
     ensures ok { IfOk result (λ numbers. numbers.items ≡ searched fields.now) }

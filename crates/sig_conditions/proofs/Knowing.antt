@@ -1,6 +1,6 @@
 -- What is known of words: what they take.
 use Rattle.std.proofs.Common.{ℕ, ◌≡◌, ◌+◌, Bool, true, false, cond, List, [], ◌∷◌, refl, ap, sym, ◌∙◌, subst}
-use Rattle.std.specs.Prelude.{Option, Some, None, IfSome, ◌||◌, ◌&&◌, not, if◌then◌else◌, encode_utf8_all, String}
+use Rattle.std.specs.Prelude.{Option, Some, IfSome, ◌||◌, ◌&&◌, not, if◌then◌else◌, encode_utf8_all, String}
 use Rattle.std.specs.List.{position_from}
 use Rattle.std.specs.BTreeMap.{BTreeMap, get_by_text}
 use Rattle.std.specs.Str.{bytes_eq, all_scalars, chars, IsUtf8}
@@ -11,7 +11,6 @@ use Rattle.text_index.specs.Numbers.{first_number}
 use Rattle.text_index.proofs.Indexing.{same_bytes}
 use Rattle.sig_conditions.specs.Named.{AreKnown, word_of}
 use Rattle.sig_conditions.specs.Taken.{is_hidden, some_suffix, fits, takes, taken, taken_from, number_from, number_of}
-use Rattle.sig_conditions.specs.Words.{is_empty}
 use Rattle.sig_conditions.specs.declared.selector.Selector.{Selector}
 use Rattle.sig_conditions.specs.declared.selector.Selector.TheVariants.{Them, Names}
 

@@ -7,6 +7,7 @@ use Rattle.std.specs.List.{list_all, list_any}
 use Rattle.std.proofs.lemmas.Bool.Decides.{nat_tests}
 use Rattle.std.proofs.lemmas.Bool.{and_parts}
 use Rattle.sig_conditions.specs.declared.word.Word.{Word}
+use Rattle.sig_conditions.specs.declared.word.Sign.{Sign}
 use Rattle.sig_conditions.specs.declared.word.Word.TheVariants.{Name, Pattern}
 use Rattle.sig_conditions.specs.Words.{ended, is_blank, is_empty, is_identifier, is_run_character, is_star, keyword_in, keywords, name_unless, sign_of, word_of, words, words_from}
 use Rattle.sig_conditions.specs.Spelling.{begins_run, AreWords, no_word, blank, sign, run}
@@ -88,7 +89,7 @@ only_spelled (run front rest e l a b h) =
     ∙ (sym (stops_there front rest b) ∙ (sym (through front rest [] a) ∙ sym (ap words e))))
 
 -- a name alone is one word
-named_word : (star : Bool) (found : Option Word) (name : List ℕ) → not star ≡ true → not (is_some found) ≡ true
+named_word : (star : Bool) (found : Option Sign) (name : List ℕ) → not star ≡ true → not (is_some found) ≡ true
     → (if star then Pattern name else name_unless found name) ≡ Name name
 named_word true found name a b = absurd cc
 named_word false None name a b = refl

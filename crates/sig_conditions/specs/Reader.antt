@@ -3,9 +3,10 @@ use Rattle.std.specs.Prelude.{ℕ, zero, suc, Bool, List, [], ◌∷◌, length,
 use Rattle.std.specs.declared.option.Option.{Option}
 use Rattle.sig_conditions.specs.declared.selector.Selector.{Selector}
 use Rattle.sig_conditions.specs.declared.word.Word.{Word}
-use Rattle.sig_conditions.specs.declared.word.Word.TheVariants.{Open, Close, Or, And, Not, One, All, Of, Them, Name, Pattern, Bad}
+use Rattle.sig_conditions.specs.declared.word.Word.TheVariants.{Fixed, Name, Pattern}
+use Rattle.sig_conditions.specs.declared.word.Sign.TheVariants.{Open, Close, Or, And, Not, One, All, Of}
 use Rattle.sig_conditions.specs.Conditions.{Cond, CName, COneOf, CAllOf, CNot, Conds, no_conds, put, joined_or, joined_and}
-use Rattle.sig_conditions.specs.Words.{is_or, is_and, is_of}
+use Rattle.sig_conditions.specs.Words.{same, is_sign}
 use Rattle.sig_conditions.specs.Grammar.{selector_of}
 
 infixl 10 ◌>>=◌
@@ -34,18 +35,7 @@ chain_in part joins join ws = part ws >>= (λ r. read_map (join r.0) (tail_in pa
 -- a closing parenthesis at the front
 abbrev pub closed : Cond → List Word → Option (Cond × List Word)
 closed c [] = None
-closed c (Open ∷ ws) = None
-closed c (Close ∷ ws) = Some (c, ws)
-closed c (Or ∷ ws) = None
-closed c (And ∷ ws) = None
-closed c (Not ∷ ws) = None
-closed c (One ∷ ws) = None
-closed c (All ∷ ws) = None
-closed c (Of ∷ ws) = None
-closed c (Them ∷ ws) = None
-closed c (Name n ∷ ws) = None
-closed c (Pattern n ∷ ws) = None
-closed c (Bad ∷ ws) = None
+closed c (w ∷ ws) = if is_sign Close w then Some (c, ws) else None
 
 abbrev pub chosen : (Selector → Cond) → Option Selector → List Word → Option (Cond × List Word)
 chosen make None ws = None
@@ -58,21 +48,13 @@ behind_of make (w ∷ ws) = chosen make (selector_of w) ws
 -- the word `of` and a selector
 abbrev pub selected : (Selector → Cond) → List Word → Option (Cond × List Word)
 selected make [] = None
-selected make (w ∷ ws) = if is_of w then behind_of make ws else None
+selected make (w ∷ ws) = if is_sign Of w then behind_of make ws else None
 
 abbrev pub atom_at : (List Word → Option (Cond × List Word)) → Word → List Word → Option (Cond × List Word)
-atom_at inner Open ws = inner ws >>= (λ r. closed r.0 r.1)
-atom_at inner Close ws = None
-atom_at inner Or ws = None
-atom_at inner And ws = None
-atom_at inner Not ws = None
-atom_at inner One ws = selected COneOf ws
-atom_at inner All ws = selected CAllOf ws
-atom_at inner Of ws = None
-atom_at inner Them ws = None
+atom_at inner (Fixed s) ws =
+    if same s Open then (inner ws >>= (λ r. closed r.0 r.1)) else if same s One then selected COneOf ws else if same s All then selected CAllOf ws else None
 atom_at inner (Name n) ws = Some (CName n, ws)
 atom_at inner (Pattern n) ws = None
-atom_at inner Bad ws = None
 
 abbrev pub atom_of : (List Word → Option (Cond × List Word)) → List Word → Option (Cond × List Word)
 atom_of inner [] = None
@@ -80,18 +62,7 @@ atom_of inner (w ∷ ws) = atom_at inner w ws
 
 abbrev pub not_at : (List Word → Option (Cond × List Word)) → (List Word → Option (Cond × List Word)) → List Word → Option (Cond × List Word)
 not_at inner_not inner_or [] = None
-not_at inner_not inner_or (Open ∷ ws) = atom_at inner_or Open ws
-not_at inner_not inner_or (Close ∷ ws) = atom_at inner_or Close ws
-not_at inner_not inner_or (Or ∷ ws) = atom_at inner_or Or ws
-not_at inner_not inner_or (And ∷ ws) = atom_at inner_or And ws
-not_at inner_not inner_or (Not ∷ ws) = read_map CNot (inner_not ws)
-not_at inner_not inner_or (One ∷ ws) = atom_at inner_or One ws
-not_at inner_not inner_or (All ∷ ws) = atom_at inner_or All ws
-not_at inner_not inner_or (Of ∷ ws) = atom_at inner_or Of ws
-not_at inner_not inner_or (Them ∷ ws) = atom_at inner_or Them ws
-not_at inner_not inner_or (Name n ∷ ws) = atom_at inner_or (Name n) ws
-not_at inner_not inner_or (Pattern n ∷ ws) = atom_at inner_or (Pattern n) ws
-not_at inner_not inner_or (Bad ∷ ws) = atom_at inner_or Bad ws
+not_at inner_not inner_or (w ∷ ws) = if is_sign Not w then read_map CNot (inner_not ws) else atom_at inner_or w ws
 
 abbrev pub no_more : List Word → Option (Cond × List Word)
 no_more ws = None
@@ -99,13 +70,13 @@ no_more ws = None
 -- with at most so many words `(` and `not` around each word
 unfoldable pub not_in : ℕ → List Word → Option (Cond × List Word)
 not_in zero ws = not_at no_more no_more ws
-not_in (suc d) ws = not_at (not_in d) (chain_in (chain_in (not_in d) is_and joined_and) is_or joined_or) ws
+not_in (suc d) ws = not_at (not_in d) (chain_in (chain_in (not_in d) (is_sign And) joined_and) (is_sign Or) joined_or) ws
 
 abbrev pub and_in : ℕ → List Word → Option (Cond × List Word)
-and_in d ws = chain_in (not_in d) is_and joined_and ws
+and_in d ws = chain_in (not_in d) (is_sign And) joined_and ws
 
 abbrev pub or_in : ℕ → List Word → Option (Cond × List Word)
-or_in d ws = chain_in (and_in d) is_or joined_or ws
+or_in d ws = chain_in (and_in d) (is_sign Or) joined_or ws
 
 -- what may stand behind a word `not` or `(` where so many more may stand
 abbrev pub inner_not : ℕ → List Word → Option (Cond × List Word)

@@ -5,7 +5,11 @@ use Rattle.std.specs.declared.option.Option.{Option}
 use Rattle.std.specs.List.{list_all, list_any}
 use Rattle.std.specs.Option.{is_some}
 use Rattle.sig_conditions.specs.declared.word.Word.{Word}
-use Rattle.sig_conditions.specs.declared.word.Word.TheVariants.{Open, Close, Or, And, Not, One, All, Of, Them, Name, Pattern, Bad}
+use Rattle.sig_conditions.specs.declared.word.Word.TheVariants.{Fixed, Name, Pattern}
+use Rattle.sig_conditions.specs.declared.word.Sign.{Sign}
+use Rattle.sig_conditions.specs.declared.word.Sign.TheVariants.{Open, Close, Or, And, Not, One, All, Of, Them, Bad}
+use Rattle.sig_conditions.specs.contracts.word.Sign.{the_type}
+use denote.Enum.Bare.{sameb}
 
 -- one of [A-Za-z0-9_*-]
 abbrev pub is_run_character : ℕ → Bool
@@ -18,13 +22,13 @@ is_blank c = c == 32 || c == 9 || c == 10
 
 -- what any other character is: a parenthesis, or no word of a condition
 abbrev pub sign_of : ℕ → Word
-sign_of c = if c == 40 then Open else if c == 41 then Close else Bad
+sign_of c = Fixed (if c == 40 then Open else if c == 41 then Close else Bad)
 
 abbrev pub is_star : ℕ → Bool
 is_star c = c == 42
 
 -- the keywords, all lower or all upper case
-abbrev pub keywords : List (List ℕ × Word)
+abbrev pub keywords : List (List ℕ × Sign)
 keywords =
     (codes "or", Or) ∷ (codes "OR", Or) ∷
     (codes "and", And) ∷ (codes "AND", And) ∷
@@ -36,13 +40,13 @@ keywords =
     []
 
 -- the keyword that a run is, if it is one
-abbrev pub keyword_in : List (List ℕ × Word) → List ℕ → Option Word
+abbrev pub keyword_in : List (List ℕ × Sign) → List ℕ → Option Sign
 keyword_in [] run = None
 keyword_in (row ∷ rows) run = if bytes_eq run row.0 then Some row.1 else keyword_in rows run
 
-abbrev pub name_unless : Option Word → List ℕ → Word
+abbrev pub name_unless : Option Sign → List ℕ → Word
 name_unless None run = Name run
-name_unless (Some keyword) run = keyword
+name_unless (Some keyword) run = Fixed keyword
 
 -- what a run is: a pattern where it has a star, a keyword, or a name
 abbrev pub word_of : List ℕ → Word
@@ -73,20 +77,19 @@ words_from run (c ∷ cs) =
 abbrev pub words : List ℕ → List Word
 words text = words_from [] text
 
+-- the same sign
+abbrev pub same : Sign → Sign → Bool
+same = sameb the_type
+
+-- the word is this sign
+abbrev pub is_sign : Sign → Word → Bool
+is_sign sign (Fixed s) = same s sign
+is_sign sign (Name n) = false
+is_sign sign (Pattern n) = false
+
 -- 1 for the words that nest what stands behind them, `(` and `not`
 abbrev pub nests : Word → ℕ
-nests Open = 1
-nests Close = 0
-nests Or = 0
-nests And = 0
-nests Not = 1
-nests One = 0
-nests All = 0
-nests Of = 0
-nests Them = 0
-nests (Name n) = 0
-nests (Pattern n) = 0
-nests Bad = 0
+nests w = if is_sign Open w || is_sign Not w then 1 else 0
 
 -- how many words `(` and `not` there are
 unfoldable pub nesting : List Word → ℕ
@@ -96,76 +99,6 @@ nesting (w ∷ ws) = nests w + nesting ws
 -- a `|` stands in the text, with which old conditions began an aggregation
 abbrev pub has_bar : List ℕ → Bool
 has_bar text = list_any (λ c. c == 124) text
-
-abbrev pub is_or : Word → Bool
-is_or Open = false
-is_or Close = false
-is_or Or = true
-is_or And = false
-is_or Not = false
-is_or One = false
-is_or All = false
-is_or Of = false
-is_or Them = false
-is_or (Name n) = false
-is_or (Pattern n) = false
-is_or Bad = false
-
-abbrev pub is_and : Word → Bool
-is_and Open = false
-is_and Close = false
-is_and Or = false
-is_and And = true
-is_and Not = false
-is_and One = false
-is_and All = false
-is_and Of = false
-is_and Them = false
-is_and (Name n) = false
-is_and (Pattern n) = false
-is_and Bad = false
-
-abbrev pub is_not : Word → Bool
-is_not Open = false
-is_not Close = false
-is_not Or = false
-is_not And = false
-is_not Not = true
-is_not One = false
-is_not All = false
-is_not Of = false
-is_not Them = false
-is_not (Name n) = false
-is_not (Pattern n) = false
-is_not Bad = false
-
-abbrev pub is_close : Word → Bool
-is_close Open = false
-is_close Close = true
-is_close Or = false
-is_close And = false
-is_close Not = false
-is_close One = false
-is_close All = false
-is_close Of = false
-is_close Them = false
-is_close (Name n) = false
-is_close (Pattern n) = false
-is_close Bad = false
-
-abbrev pub is_of : Word → Bool
-is_of Open = false
-is_of Close = false
-is_of Or = false
-is_of And = false
-is_of Not = false
-is_of One = false
-is_of All = false
-is_of Of = true
-is_of Them = false
-is_of (Name n) = false
-is_of (Pattern n) = false
-is_of Bad = false
 
 -- there is a first word, and it passes the test
 abbrev pub begins : (Word → Bool) → List Word → Bool

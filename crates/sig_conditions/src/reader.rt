@@ -7,10 +7,10 @@ ghost use Rattle.sig_conditions.specs.Reader.{and_in, atom_in, condition_in, not
 
 use crate::condition::Condition;
 use crate::join::{join_and, join_or, negate};
-use crate::look::{begins_and, begins_close, begins_not, begins_or, word_at};
+use crate::look::{begins, word_at};
 use crate::selector::Selector;
 use crate::stop::Stop;
-use crate::word::Word;
+use crate::word::{Sign, Word};
 use sig_base::Text;
 use std::alloc::Global;
 
@@ -30,11 +30,11 @@ fn read_selector(alloc: Global, words: &[Word], at: usize) -> Result<Selector, S
     ensures selects { Selects words.now at result }
     ensures within { IfOk result (λ s. at + 2 ≤ length words.now) }
 {
-    let Some(Word::Of) = word_at(words, at) else {
+    let Some(Word::Fixed(Sign::Of)) = word_at(words, at) else {
         return Err(Stop::Unread);
     };
     match word_at(words, at + 1) {
-        Some(Word::Them) => Ok(Selector::Them),
+        Some(Word::Fixed(Sign::Them)) => Ok(Selector::Them),
         Some(Word::Name(name)) => Ok(Selector::Names(name_of(alloc, name)?)),
         Some(Word::Pattern(name)) => Ok(Selector::Names(name_of(alloc, name)?)),
         _ => Err(Stop::Unread),
@@ -57,7 +57,7 @@ fn read_or(
     let (first, behind) = read_and(alloc, depth, words, at)?;
     let mut more = Vec::new(alloc);
     let mut end = behind;
-    'parts: while begins_or(words, end) {
+    'parts: while begins(words, end, Sign::Or) {
         let (part, behind) = read_and(alloc, depth, words, end + 1)?;
         more.push(part)?;
         end = behind;
@@ -81,7 +81,7 @@ fn read_and(
     let (first, behind) = read_not(alloc, depth, words, at)?;
     let mut more = Vec::new(alloc);
     let mut end = behind;
-    'parts: while begins_and(words, end) {
+    'parts: while begins(words, end, Sign::And) {
         let (part, behind) = read_not(alloc, depth, words, end + 1)?;
         more.push(part)?;
         end = behind;
@@ -102,7 +102,7 @@ fn read_not(
     ensures later { IfOk result (λ p. at < p.1) }
     ensures within { IfOk result (λ p. p.1 ≤ length words.now) }
 {
-    if !begins_not(words, at) {
+    if !begins(words, at, Sign::Not) {
         return read_atom(alloc, depth, words, at);
     }
     if depth == 0 {
@@ -126,22 +126,22 @@ fn read_atom(
     ensures within { IfOk result (λ p. p.1 ≤ length words.now) }
 {
     match word_at(words, at) {
-        Some(Word::Open) => {
+        Some(Word::Fixed(Sign::Open)) => {
             if depth == 0 {
                 return Err(Stop::Unread);
             }
             let (inner, end) = read_or(alloc, depth - 1, words, at + 1)?;
-            if !begins_close(words, end) {
+            if !begins(words, end, Sign::Close) {
                 return Err(Stop::Unread);
             }
             Ok((inner, end + 1))
         }
         Some(Word::Name(name)) => Ok((Condition::Name(name_of(alloc, name)?), at + 1)),
-        Some(Word::One) => Ok((
+        Some(Word::Fixed(Sign::One)) => Ok((
             Condition::OneOf(read_selector(alloc, words, at + 1)?),
             at + 3,
         )),
-        Some(Word::All) => Ok((
+        Some(Word::Fixed(Sign::All)) => Ok((
             Condition::AllOf(read_selector(alloc, words, at + 1)?),
             at + 3,
         )),

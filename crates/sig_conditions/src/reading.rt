@@ -10,7 +10,7 @@ use crate::condition::Condition;
 use crate::reader::read_words;
 use crate::scan::{has_character, scan};
 use crate::stop::Stop;
-use crate::word::Word;
+use crate::word::{Sign, Word};
 use sig_base::{Code, Fault, Limits, Place, refused};
 use std::alloc::Global;
 
@@ -19,11 +19,10 @@ fn weight(word: &Word) -> usize
     ensures value { result ≡ nests word.now }
     ensures small { result ≤ 1 }
 {
-    match word {
-        Word::Open => 1,
-        Word::Not => 1,
-        _ => 0,
+    if word.is(Sign::Open) || word.is(Sign::Not) {
+        return 1;
     }
+    0
 }
 
 /// How many words `(` and `not` there are.

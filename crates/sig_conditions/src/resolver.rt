@@ -49,7 +49,11 @@ fn resolve_one(alloc: Global, selector: &Selector, names: &mut Names) -> Result<
 }
 
 /// All detections that a selector takes.
-fn resolve_each(alloc: Global, selector: &Selector, names: &mut Names) -> Result<Formula, Unresolved>
+fn resolve_each(
+    alloc: Global,
+    selector: &Selector,
+    names: &mut Names,
+) -> Result<Formula, Unresolved>
     ensures formula { Resolves form_view result (chosen FAnd (taken selector.now names.old.names)) (none_taken (taken selector.now names.old.names)) }
     ensures names { OnOk result (names.new.names ≡ names.old.names) }
     ensures left { OnOk result (names.new.left + length (taken selector.now names.old.names) ≡ names.old.left) }

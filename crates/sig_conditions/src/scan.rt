@@ -5,7 +5,7 @@ ghost use Rattle.std.specs.List.{list_all, list_any};
 ghost use Rattle.std.specs.Str.{chars};
 ghost use Rattle.sig_conditions.specs.Words.{ended, is_blank, is_identifier, is_run_character, keyword_in, keywords, sign_of, word_of, words, words_from};
 
-use crate::word::Word;
+use crate::word::{Sign, Word};
 use sig_base::Text;
 use std::alloc::{AllocError, Global};
 use std::mem;
@@ -41,36 +41,36 @@ fn sign(c: char) -> Word
     ensures { result ≡ sign_of c }
 {
     match c {
-        '(' => Word::Open,
-        ')' => Word::Close,
-        _ => Word::Bad,
+        '(' => Word::Fixed(Sign::Open),
+        ')' => Word::Fixed(Sign::Close),
+        _ => Word::Fixed(Sign::Bad),
     }
 }
 
 /// The keyword that a run of characters is, all in lower or all in upper case.
-fn keyword(run: &Text) -> Option<Word>
+fn keyword(run: &Text) -> Option<Sign>
     ensures { result ≡ keyword_in keywords run.now }
 {
     if run.is("or") || run.is("OR") {
-        return Some(Word::Or);
+        return Some(Sign::Or);
     }
     if run.is("and") || run.is("AND") {
-        return Some(Word::And);
+        return Some(Sign::And);
     }
     if run.is("not") || run.is("NOT") {
-        return Some(Word::Not);
+        return Some(Sign::Not);
     }
     if run.is("1") || run.is("any") || run.is("ANY") {
-        return Some(Word::One);
+        return Some(Sign::One);
     }
     if run.is("all") || run.is("ALL") {
-        return Some(Word::All);
+        return Some(Sign::All);
     }
     if run.is("of") || run.is("OF") {
-        return Some(Word::Of);
+        return Some(Sign::Of);
     }
     if run.is("them") || run.is("THEM") {
-        return Some(Word::Them);
+        return Some(Sign::Them);
     }
     None
 }
@@ -83,7 +83,7 @@ fn word(run: Text) -> Word
         return Word::Pattern(run);
     }
     match keyword(&run) {
-        Some(keyword) => keyword,
+        Some(keyword) => Word::Fixed(keyword),
         None => Word::Name(run),
     }
 }

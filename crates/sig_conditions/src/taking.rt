@@ -68,11 +68,7 @@ fn does_take(selector: &Selector, name: &Text) -> bool
 }
 
 /// The numbers of the detections that a selector takes, in the rule's order.
-pub fn take_names(
-    alloc: Global,
-    selector: &Selector,
-    names: &[Text],
-) -> Result<Numbers, AllocError>
+pub fn take_names(alloc: Global, selector: &Selector, names: &[Text]) -> Result<Numbers, AllocError>
     requires { length names.now < 2 ^ 32 }
     ensures { IfOk result (λ all. all ≡ taken selector.now names.now) }
 {

@@ -279,7 +279,11 @@ fn names_that_are_taken_are_bounded(rt: HostRuntime) -> Result<(), Fail> {
         (1023, 3, "memory"),
     ] {
         let text = repeated(rt.alloc(), "1 of a or ", count, "1 of a")?;
-        assert_eq!(rt; answer(rt.alloc(), "a", 2048, text.as_str(), times)?, want, "{count} {times}");
+        assert_eq!(rt;
+            answer(rt.alloc(), "a", 2048, text.as_str(), times)?,
+            want,
+            "{count} {times}"
+        );
     }
     Ok(())
 }
@@ -298,7 +302,11 @@ fn steps_of_comparing_are_bounded(rt: HostRuntime) -> Result<(), Fail> {
     ] {
         let word = repeated(rt.alloc(), "a", length, end)?;
         let text = repeated(rt.alloc(), "1 of ", 1, word.as_str())?;
-        assert_eq!(rt; answer(rt.alloc(), name.as_str(), 1, text.as_str(), times)?, want, "{length} {end} {times}");
+        assert_eq!(rt;
+            answer(rt.alloc(), name.as_str(), 1, text.as_str(), times)?,
+            want,
+            "{length} {end} {times}"
+        );
     }
     Ok(())
 }

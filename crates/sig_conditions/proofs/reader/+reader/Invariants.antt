@@ -1,6 +1,7 @@
 use Rattle.std.proofs.Common.{◌≡◌, ◌≤◌, ◌+◌, ◌-◌, ◌*◌, ℕ, length, drop}
 use Rattle.sig_conditions.specs.Conditions.{conds_view}
-use Rattle.sig_conditions.specs.Words.{is_and, is_or}
+use Rattle.sig_conditions.specs.declared.word.Sign.TheVariants.{Or, And}
+use Rattle.sig_conditions.specs.Words.{is_sign}
 use Rattle.sig_conditions.specs.Reader.{and_in, not_in, read_map, tail_in}
 use Rattle.sig_conditions.proofs.Turns.{prepend}
 use Rattle.sig_conditions.proofs.reader.+reader.Given as goal
@@ -24,8 +25,8 @@ invariant-read_or-parts l = record {
   within : l.end ≤ length l.words;
   fuel : ℕ;
   enough : length l.words ≤ fuel + l.end;
-  tail : read_map (prepend (conds_view l.more.items)) (tail_in (and_in l.depth) is_or fuel (drop l.end l.words))
-      ≡ tail_in (and_in l.depth) is_or (length (drop l.initial.end l.words)) (drop l.initial.end l.words);
+  tail : read_map (prepend (conds_view l.more.items)) (tail_in (and_in l.depth) (is_sign Or) fuel (drop l.end l.words))
+      ≡ tail_in (and_in l.depth) (is_sign Or) (length (drop l.initial.end l.words)) (drop l.initial.end l.words);
 }
 
 abbrev pub decreases-read_or-parts : goal.decreases-read_or-parts
@@ -38,8 +39,8 @@ invariant-read_and-parts l = record {
   within : l.end ≤ length l.words;
   fuel : ℕ;
   enough : length l.words ≤ fuel + l.end;
-  tail : read_map (prepend (conds_view l.more.items)) (tail_in (not_in l.depth) is_and fuel (drop l.end l.words))
-      ≡ tail_in (not_in l.depth) is_and (length (drop l.initial.end l.words)) (drop l.initial.end l.words);
+  tail : read_map (prepend (conds_view l.more.items)) (tail_in (not_in l.depth) (is_sign And) fuel (drop l.end l.words))
+      ≡ tail_in (not_in l.depth) (is_sign And) (length (drop l.initial.end l.words)) (drop l.initial.end l.words);
 }
 
 abbrev pub decreases-read_and-parts : goal.decreases-read_and-parts

@@ -1,12 +1,11 @@
-use Rattle.std.proofs.Common.{◌≡◌, ◌∙◌, ◌+◌, ℕ, List, ap, sym, refl, subst, drop}
+use Rattle.std.proofs.Common.{◌≡◌, ◌∙◌, ◌+◌, ℕ, List, ap, sym, subst, drop}
 use Rattle.std.proofs.lemmas.List.{at_drop_all}
 use Rattle.sig_conditions.specs.Conditions.{cond_view}
-use Rattle.sig_conditions.specs.Formulas.{Why, faults, forms_of, forms_view, formula_of}
+use Rattle.sig_conditions.specs.Formulas.{faults, formula_of}
 use Rattle.sig_conditions.specs.Resolved.{Fails}
 use Rattle.sig_conditions.specs.Selectors.{taken_count}
 use Rattle.sig_conditions.specs.declared.condition.Condition.{Condition}
-use Rattle.sig_conditions.specs.declared.formula.Formula.{Formula}
-use Rattle.sig_conditions.proofs.Parts.{begun, faults_end, faults_go, formula_goes, formulas_end, hands_on, left_end, left_goes, part_fails}
+use Rattle.sig_conditions.proofs.Parts.{faults_end, faults_go, formula_goes, formulas_end, hands_on, left_end, left_goes, part_fails}
 use Rattle.sig_conditions.proofs.resolver.+resolver.Goals as goal
 
 pub resolve_all-loop-part-preserved : goal.resolve_all-loop-part-preserved
