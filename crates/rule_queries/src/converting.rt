@@ -12,7 +12,7 @@ ghost use Rattle.yaml_tree.specs.View.{node_view};
 use event_schema::Schema;
 use rule_lowering::lower;
 use rule_model::Rule;
-use rule_schema::{fit_schema, infer_schema};
+use rule_schema::{fit_inferred, infer_schema};
 use sig_base::{Bytes, Fault, Limits, Place};
 use sqlite_writer::Sqlite;
 use std::alloc::Global;
@@ -35,7 +35,7 @@ fn convert_rule(alloc: Global, limits: &Limits, rule: &Rule) -> Result<Bytes, Fa
     ensures { Judged (λ bytes. bytes ≡ query_of (rule_view rule.now)) (query_refusal limits.now (rule_view rule.now)) result }
 {
     let schema = infer_schema(alloc, rule)?;
-    match fit_schema(rule, &schema) {
+    match fit_inferred(rule) {
         Err(refusal) => Err(Fault::Refused(refusal)),
         Ok(()) => write_rule(alloc, limits, rule, &schema),
     }

@@ -2,10 +2,12 @@
 #![tactic(auto)]
 
 pub use fit::fit_schema;
+pub use inferred::fit_inferred;
 pub use law::keywords_alone;
 pub use schema::infer_schema;
 
 mod fit;
+mod inferred;
 mod law;
 mod names;
 mod schema;

@@ -31,13 +31,13 @@ loop-part-preserved c =
     subst (λ (ms : List (List ℕ)). Judged (λ (f : Formula). IsFormula ms (node_view c.part-item.result) (form_view f)) (condition_refusal c.args.limits.now ms (node_view c.part-item.result)) (Ok c.in_ok-formula.formula))
     c.loop-part.invariant.same c.in_ok-formula.ensures.judged in
     record {
-  same = c.in_ok-formula.ensures.names ∙ c.loop-part.invariant.same;
-  unrefused =
-      c.loop-part.invariant.unrefused
-      ∙ rest_first node_view (condition_refusal c.args.limits.now c.args.names.now.names) c.loop-part.part-index c.parts_of-parts.result.now c.part-item.result
-      c.loop-part-test.true c.part-item.is judged.0;
-  read =
-      subst (λ (fs : List Form). AllZip (IsFormula c.args.names.now.names) (map node_view (take (c.loop-part.part-index + 1) c.parts_of-parts.result.now)) fs) (sym (pushed_view c.loop-part.formulas.items c.push.new.self.items c.in_ok-formula.formula c.in_ok-push.ensures.items))
-      (one_more node_view (IsFormula c.args.names.now.names) c.loop-part.part-index c.parts_of-parts.result.now c.part-item.result
-      (forms_view c.loop-part.formulas.items) (form_view c.in_ok-formula.formula) c.loop-part-test.true c.part-item.is c.loop-part.invariant.read judged.1);
-}
+      same = c.in_ok-formula.ensures.names ∙ c.loop-part.invariant.same;
+      unrefused =
+          c.loop-part.invariant.unrefused
+          ∙ rest_first node_view (condition_refusal c.args.limits.now c.args.names.now.names) c.loop-part.part-index c.parts_of-parts.result.now c.part-item.result
+          c.loop-part-test.true c.part-item.is judged.0;
+      read =
+          subst (λ (fs : List Form). AllZip (IsFormula c.args.names.now.names) (map node_view (take (c.loop-part.part-index + 1) c.parts_of-parts.result.now)) fs) (sym (pushed_view c.loop-part.formulas.items c.push.new.self.items c.in_ok-formula.formula c.in_ok-push.ensures.items))
+          (one_more node_view (IsFormula c.args.names.now.names) c.loop-part.part-index c.parts_of-parts.result.now c.part-item.result
+          (forms_view c.loop-part.formulas.items) (form_view c.in_ok-formula.formula) c.loop-part-test.true c.part-item.is c.loop-part.invariant.read judged.1);
+    }
