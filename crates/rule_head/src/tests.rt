@@ -169,17 +169,18 @@ fn written(text: &Option<Text>) -> &str {
     }
 }
 
-/// What a head says, and how many entries it keeps.
+/// What a head says, and the keys of the entries that it keeps.
 fn said(alloc: Global, head: &Head) -> Result<String, Fail> {
     let title = head.title.as_str();
     let id = written(&head.id);
     let name = written(&head.name);
     let place = head.place;
-    let kept = head.rest.len();
-    Ok(format!(in alloc;
-        "{title} {id} {name} {}:{} {kept}",
-        place.line, place.column
-    )?)
+    let mut text = format!(in alloc; "{title} {id} {name} {}:{}", place.line, place.column)?;
+    for entry in &head.rest {
+        text.push_str(" ")?;
+        text.push_str(entry.key.as_str())?;
+    }
+    Ok(text)
 }
 
 #[test]
@@ -196,11 +197,9 @@ fn heads_keep_other_entries(rt: HostRuntime) -> Result<(), Fail> {
         .as_slice(),
     )?;
     let bare = Head::read_bare(alloc, &node)?;
-    assert_eq!(rt; said(alloc, &bare)?.as_str(), "t - n 1:1 0");
+    assert_eq!(rt; said(alloc, &bare)?.as_str(), "t - n 1:1");
     let head = Head::read(alloc, &node)?.copy(alloc)?;
-    assert_eq!(rt; said(alloc, &head)?.as_str(), "t - n 1:1 2");
-    assert_eq!(rt; head.rest[0].key.as_str(), "author");
-    assert_eq!(rt; head.rest[1].key.as_str(), "tags");
+    assert_eq!(rt; said(alloc, &head)?.as_str(), "t - n 1:1 author tags");
     Ok(())
 }
 
