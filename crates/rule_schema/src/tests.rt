@@ -12,20 +12,25 @@ use std::test::Fail;
 
 const TOP: Place = Place { line: 1, column: 1 };
 
-fn texts(alloc: Global, names: &[&str]) -> Result<Texts, Fail> {
+/// The texts of these two that aren't empty.
+fn texts(alloc: Global, first: &str, second: &str) -> Result<Texts, Fail> {
     let mut all = Texts::new(alloc);
-    for name in names {
-        all.push(Text::copy(alloc, name)?)?;
+    if first != "" {
+        all.push(Text::copy(alloc, first)?)?;
+    }
+    if second != "" {
+        all.push(Text::copy(alloc, second)?)?;
     }
     Ok(all)
 }
 
 /// An item over these names, or a keyword where there is none.
-fn item(alloc: Global, line: u32, names: &[&str]) -> Result<Item, Fail> {
-    let fields = if names.is_empty() {
+fn item(alloc: Global, line: u32, first: &str, second: &str) -> Result<Item, Fail> {
+    let names = texts(alloc, first, second)?;
+    let fields = if first == "" {
         Fields::Keyword
     } else {
-        Fields::Names(texts(alloc, names)?)
+        Fields::Names(names)
     };
     Ok(Item {
         fields,
@@ -35,12 +40,12 @@ fn item(alloc: Global, line: u32, names: &[&str]) -> Result<Item, Fail> {
     })
 }
 
-fn rule(alloc: Global, items: &[&[&str]]) -> Result<Rule, Fail> {
+fn rule(alloc: Global, items: &[(&str, &str)]) -> Result<Rule, Fail> {
     let mut alternatives = Alternatives::new(alloc);
     let mut line = 1u32;
-    for names in items {
+    for (first, second) in items {
         let mut alternative = Alternative::new(alloc);
-        alternative.push(item(alloc, line, names)?)?;
+        alternative.push(item(alloc, line, first, second)?)?;
         alternatives.push(alternative)?;
         line = line.saturating_add(1);
     }
@@ -75,7 +80,7 @@ fn told(alloc: Global, refusal: &Refusal) -> Result<String, Fail> {
 }
 
 /// The table and the fields of the schema that is made of a rule, or what refuses it.
-fn inferred(alloc: Global, items: &[&[&str]]) -> Result<String, Fail> {
+fn inferred(alloc: Global, items: &[(&str, &str)]) -> Result<String, Fail> {
     let rule = rule(alloc, items)?;
     match infer_schema(alloc, &rule) {
         Ok(schema) => {
@@ -94,33 +99,24 @@ fn inferred(alloc: Global, items: &[&[&str]]) -> Result<String, Fail> {
 #[test]
 fn names_stand_once_unless_they_clash(rt: HostRuntime) -> Result<(), Fail> {
     for (items, want) in [
-        (
-            [["b"].as_slice(), ["a"].as_slice(), ["b"].as_slice()].as_slice(),
-            "events b a",
-        ),
-        (
-            [[].as_slice(), ["y", "x"].as_slice()].as_slice(),
-            "events y x",
-        ),
-        (
-            [["A"].as_slice(), ["b"].as_slice(), ["a"].as_slice()].as_slice(),
-            "80 3",
-        ),
-        ([["b", "B"].as_slice()].as_slice(), "80 1"),
+        ([("b", ""), ("a", ""), ("b", "")].as_slice(), "events b a"),
+        ([("", ""), ("y", "x")].as_slice(), "events y x"),
+        ([("A", ""), ("b", ""), ("a", "")].as_slice(), "80 3"),
+        ([("b", "B")].as_slice(), "80 1"),
     ] {
         assert_eq!(rt; inferred(rt.alloc(), items)?.as_str(), want);
     }
     Ok(())
 }
 
-/// What refuses a rule under a schema of these fields, all of which keywords search or none.
-fn misfit(alloc: Global, names: &[&str], search: bool, items: &[&[&str]]) -> Result<String, Fail> {
+/// What refuses a rule under a schema of the fields `a` and `b`, both of which keywords search, or none.
+fn misfit(alloc: Global, search: bool, items: &[(&str, &str)]) -> Result<String, Fail> {
     let mut fields = event_schema::Fields::new(alloc);
-    for name in names {
+    for name in ["a", "b"] {
         fields.push(Field {
             name: Text::copy(alloc, name)?,
             kind: FieldKind::Text,
-            at: texts(alloc, [*name].as_slice())?,
+            at: texts(alloc, name, "")?,
             search,
             cased: false,
         })?;
@@ -138,45 +134,15 @@ fn misfit(alloc: Global, names: &[&str], search: bool, items: &[&[&str]]) -> Res
 
 #[test]
 fn the_first_item_without_a_field_is_refused(rt: HostRuntime) -> Result<(), Fail> {
-    for (names, search, items, want) in [
-        (
-            ["a", "b"].as_slice(),
-            false,
-            [["a"].as_slice(), ["b", "a"].as_slice()].as_slice(),
-            "",
-        ),
-        (
-            ["a"].as_slice(),
-            false,
-            [["a"].as_slice(), ["a", "c"].as_slice(), ["d"].as_slice()].as_slice(),
-            "81 2",
-        ),
-        (
-            ["a"].as_slice(),
-            true,
-            [["A"].as_slice()].as_slice(),
-            "81 1",
-        ),
-        (
-            ["a"].as_slice(),
-            true,
-            [["a"].as_slice(), [].as_slice()].as_slice(),
-            "",
-        ),
-        (
-            ["a"].as_slice(),
-            false,
-            [["a"].as_slice(), [].as_slice(), ["c"].as_slice()].as_slice(),
-            "83 2",
-        ),
-        (
-            ["a"].as_slice(),
-            false,
-            [["c"].as_slice(), [].as_slice()].as_slice(),
-            "81 1",
-        ),
+    for (search, items, want) in [
+        (false, [("a", ""), ("b", "a")].as_slice(), ""),
+        (false, [("a", ""), ("a", "c"), ("d", "")].as_slice(), "81 2"),
+        (true, [("A", "")].as_slice(), "81 1"),
+        (true, [("a", ""), ("", "")].as_slice(), ""),
+        (false, [("a", ""), ("", ""), ("c", "")].as_slice(), "83 2"),
+        (false, [("c", ""), ("", "")].as_slice(), "81 1"),
     ] {
-        assert_eq!(rt; misfit(rt.alloc(), names, search, items)?.as_str(), want);
+        assert_eq!(rt; misfit(rt.alloc(), search, items)?.as_str(), want);
     }
     Ok(())
 }
