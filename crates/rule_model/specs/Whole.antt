@@ -1,6 +1,6 @@
 -- What every rule that is read keeps: its detections are whole, it has a condition, no `and` or `or` of a condition is empty,
 -- and their numbers name its detections.
-use Rattle.std.specs.Prelude.{ℕ, ◌<◌, List, [], ◌∷◌, length, ⊤}
+use Rattle.std.specs.Prelude.{ℕ, ◌<◌, length, ⊤}
 use Rattle.sig_conditions.specs.Formulas.{Form, FDetection, FNot, FAnd, FOr, Forms, no_forms, form}
 use Rattle.sig_modifiers.specs.Lists.{EachOf}
 use Rattle.rule_items.specs.Whole.{IsSome, IsWholeDetection}

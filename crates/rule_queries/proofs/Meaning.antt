@@ -1,6 +1,6 @@
 -- The query of each rule that has one means the rule.
-use Rattle.std.proofs.Common.{ℕ, ◌≡◌, ◌≤◌, ◌<◌, Bool, true, List, [], ◌∷◌, Option, Some, None, refl, sym, ap, ◌∙◌, map}
-use Rattle.std.specs.Prelude.{◌↔◌, codes, nat_le, length}
+use Rattle.std.proofs.Common.{ℕ, ◌≡◌, ◌≤◌, List, Option, None, map}
+use Rattle.std.specs.Prelude.{◌↔◌, codes}
 use Rattle.backend_core.specs.Holds.{TreeHolds}
 use Rattle.backend_core.specs.Sound.{IsSound}
 use Rattle.backend_core.specs.Trees.{Plain}
@@ -9,7 +9,7 @@ use Rattle.event_schema.specs.Inferred.{text_field}
 use Rattle.event_schema.specs.declared.schema.Schema.{Schema}
 use Rattle.event_schema.specs.declared.value.Value.{Value}
 use Rattle.rule_lowering.specs.TreeOf.{tree_of}
-use Rattle.rule_schema.specs.Inferred.{inferred_schema, fit_refusal, schema_refusal, rule_names}
+use Rattle.rule_schema.specs.Inferred.{inferred_schema, fit_refusal, rule_names}
 use Rattle.rule_matching.specs.Matching.{Matches}
 use Rattle.rule_model.specs.Plain.{PlainRule}
 use Rattle.rule_model.specs.Rules.{rule_refusal, IsRule}
@@ -20,8 +20,8 @@ use Rattle.sqlite_writer.specs.Queries.{query_expr, query_bytes, IsQueryOf}
 use Rattle.sqlite_writer.specs.Schemas.{AreScalars, AreApart, IsTextSchema}
 use Rattle.yaml_tree.specs.Texts.{HasScalarTexts}
 use Rattle.yaml_tree.specs.Tree.{Tree}
-use Rattle.rule_queries.specs.Queries.{rule_tree, query_of, query_depth, query_refusal, at_most, Converts}
-use Rattle.rule_queries.specs.Verdicts.{IsChecked, IsConverted}
+use Rattle.rule_queries.specs.Queries.{rule_tree, query_of, query_depth, Converts}
+use Rattle.rule_queries.specs.Verdicts.{IsConverted}
 use Rattle.rule_queries.proofs.Judging.{no_line}
 use Rattle.rule_queries.proofs.Names.{rule_scalars, rule_apart}
 

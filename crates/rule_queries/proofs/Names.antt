@@ -1,8 +1,8 @@
 -- The names of a rule's fields: of characters, and apart where letters of either case are taken for equal.
-use Rattle.std.proofs.Common.{ℕ, ◌≡◌, Bool, true, false, not, cond, ◌&&◌, ◌||◌, ◌⊎◌, inl, inr, List, [], ◌∷◌, ◌++◌, Option, Some, None, refl, sym, subst, ap, ◌∙◌, map}
-use Rattle.std.specs.Prelude.{filter, if◌then◌else◌}
+use Rattle.std.proofs.Common.{ℕ, ◌≡◌, Bool, true, false, not, cond, ◌||◌, ◌⊎◌, inl, inr, List, [], ◌∷◌, ◌++◌, Some, None, refl, sym, subst, ap, ◌∙◌, map}
+use Rattle.std.specs.Prelude.{filter}
 use Rattle.std.specs.List.{list_any, flat_map}
-use Rattle.std.specs.Str.{all_scalars, bytes_eq}
+use Rattle.std.specs.Str.{bytes_eq}
 use Rattle.std.proofs.lemmas.Slice.Eq.{bytes_eq-Decides}
 use Rattle.sig_base.specs.Folding.{folded}
 use Rattle.sig_base.specs.declared.refusal.Place.{Place}

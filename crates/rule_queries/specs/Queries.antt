@@ -4,7 +4,6 @@ use Rattle.std.specs.Str.{all_scalars}
 use Rattle.std.specs.declared.option.Option.{Option}
 use Rattle.backend_core.specs.Trees.{Plain}
 use Rattle.event_schema.specs.Events.{IsEvent}
-use Rattle.event_schema.specs.declared.schema.Schema.{Schema}
 use Rattle.event_schema.specs.declared.value.Value.{Value}
 use Rattle.rule_schema.specs.Inferred.{inferred_schema, schema_refusal, fit_refusal}
 use Rattle.rule_matching.specs.Matching.{Matches}

@@ -1,6 +1,5 @@
 -- What the node of a document is answered: its rule, its query, or the first refusal.
 use Rattle.std.specs.Prelude.{◌≡◌, ⊤, ℕ, List, Some, None, Result, Ok, Err}
-use Rattle.std.specs.declared.option.Option.{Option}
 use Rattle.rule_model.specs.Plain.{PlainRule}
 use Rattle.rule_model.specs.Rules.{rule_refusal, IsRule}
 use Rattle.rule_queries.specs.Queries.{query_of, query_refusal}

@@ -1,5 +1,5 @@
 -- The bytes of texts one behind the other are summed.
-use Rattle.std.proofs.Common.{ℕ, suc, ◌+◌, ◌≡◌, ◌≤◌, ◌<◌, refl, sym, ◌∙◌, ap, Bool, true, false, List, [], ◌∷◌, ◌++◌, length, drop, length-append, get_or, arith}
+use Rattle.std.proofs.Common.{ℕ, suc, ◌+◌, ◌≡◌, ◌≤◌, ◌<◌, sym, ◌∙◌, ap, Bool, true, false, List, [], ◌∷◌, ◌++◌, length, drop, length-append, get_or, arith}
 use Rattle.std.specs.Prelude.{codes, encode_utf8, encode_utf8_all, Result, Ok, Err, IfOk}
 use Rattle.sig_base.specs.declared.refusal.Fault.{Fault}
 use Rattle.std.proofs.lemmas.List.{drop_all}

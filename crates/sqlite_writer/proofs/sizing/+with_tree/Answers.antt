@@ -1,11 +1,10 @@
-use Rattle.std.proofs.Common.{rules, ◌≡◌, ◌+◌, ◌∙◌, ◌++◌, ap, sym, List, ℕ, not, false}
+use Rattle.std.proofs.Common.{rules, ◌≡◌, ◌∙◌, ap, sym, List, not, false}
 use Rattle.std.specs.Prelude.{codes}
 use Rattle.backend_core.specs.View.{tree_view}
 use Rattle.backend_core.specs.declared.tree.Tree.{Tree}
 use Rattle.backend_core.specs.declared.tree.Tree.TheViews.{the_lemmas}
 use Rattle.sqlite_writer.specs.declared.place.Standing.TheVariants.{InOr, InAnd}
 use Rattle.sqlite_writer.specs.Pieces.{enclosed_if, tree_text, items_text}
-use Rattle.sqlite_writer.specs.Sizes.{bytes_in}
 use Rattle.sqlite_writer.proofs.Rows.{row_text}
 use Rattle.sqlite_writer.proofs.SizeLemmas.{size_step, enclosed_ok}
 use Rattle.sqlite_writer.proofs.sizing.+with_tree.Goals as goal
