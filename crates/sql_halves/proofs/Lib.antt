@@ -1,0 +1,3 @@
+pub mod InHalves
+mod Joined
+mod Examples
