@@ -165,18 +165,24 @@ fn parts_refusal(
 
 #[test]
 fn parts_are_judged_in_order(rt: HostRuntime) -> Result<(), Fail> {
-    let product = [("product", "p")].as_slice();
-    for (title, source, value, want) in [
-        ("", [].as_slice(), "~", "72 1 8"),
-        ("t", [].as_slice(), "~", "70 3 3"),
-        ("t", product, "~", "77 6 6"),
-        ("t", product, "x", "60 5 14"),
-    ] {
-        assert_eq!(rt;
-            parts_refusal(rt.alloc(), title, source, value)?.as_str(),
-            want
-        );
-    }
+    let alloc = rt.alloc();
+    assert_eq!(rt;
+        parts_refusal(alloc, "", [].as_slice(), "~")?.as_str(),
+        "72 1 8"
+    );
+    assert_eq!(rt;
+        parts_refusal(alloc, "t", [].as_slice(), "~")?.as_str(),
+        "70 3 3"
+    );
+    let product = [("product", "p")];
+    assert_eq!(rt;
+        parts_refusal(alloc, "t", product.as_slice(), "~")?.as_str(),
+        "77 6 6"
+    );
+    assert_eq!(rt;
+        parts_refusal(alloc, "t", product.as_slice(), "x")?.as_str(),
+        "60 5 14"
+    );
     Ok(())
 }
 

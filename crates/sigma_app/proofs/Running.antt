@@ -109,6 +109,7 @@ module _ (limits : Limits) (words : List (List ℕ)) (request : Request) (is_acc
     write_fault = λ _. (unwritten_by e.unread e.cause).1;
     after_fault = λ _. (
       e.unread,
+      (λ is. absurd (apart_from_memory is)),
       (unwritten_by e.unread e.cause).0,
       λ world tells. let s = e.stands world (tells request is_accepted) in (status_of (share_of s.0).refused, s.0, accepted request is_accepted s.1 refl, s.2),
     );
@@ -120,6 +121,9 @@ module _ (limits : Limits) (words : List (List ℕ)) (request : Request) (is_acc
 
       apart_too : WriteFault ≡ ReadFault → ⊥
       apart_too is = cc
+
+      apart_from_memory : WriteFault ≡ Memory → ⊥
+      apart_from_memory is = cc
 
 memory_usage : Memory ≡ Usage → ⊥
 memory_usage is = cc
@@ -141,7 +145,7 @@ serves_cut limits words old new quiet cut = record {
   still = λ is. absurd is;
   read_fault = λ is. absurd (memory_unread is);
   write_fault = λ is. absurd (memory_unwritten is);
-  after_fault = λ _. (None, tt, cut);
+  after_fault = λ _. (None, (λ _. refl), tt, cut);
   apart = quiet;
 }
 
@@ -201,7 +205,7 @@ module _ (limits : Limits) (words : List (List ℕ)) (other : IsUnaccepted words
     still = λ is. absurd is;
     read_fault = λ is. absurd (apart is);
     write_fault = λ _. w.outcome.1;
-    after_fault = λ _. (None, tt, λ world _. (Usage, usage_part ∷ [], unaccepted other refl refl, same_cut w.share w.is w.outcome.0));
+    after_fault = λ _. (None, (λ _. refl), tt, λ world _. (Usage, usage_part ∷ [], unaccepted other refl refl, same_cut w.share w.is w.outcome.0));
     apart = λ _. (ap (λ (i : Inputs). i.left) w.inputs, ap (λ (i : Inputs). i.faults) w.inputs);
   }
     where

@@ -98,7 +98,7 @@ pub record Serves (limits : Limits) (words : List (List ℕ)) (status : Status) 
   pub read_fault : status ≡ ReadFault → (input : Input) × IsRead words input × WasUnread input before after
       × ((world : World) → Tells words before world → StandsUnread limits words world input after.left old new)
   pub write_fault : status ≡ WriteFault → SomeWriteFailed old new
-  pub after_fault : IsCutOff status → (unread : Option Input) × MayBeUnread words unread before after
+  pub after_fault : IsCutOff status → (unread : Option Input) × (status ≡ Memory → unread ≡ None) × MayBeUnread words unread before after
       × ((world : World) → Tells words before world → StandsCut limits words world unread old new)
   pub apart : ReadsNoEvents words → (after.left ≡ before.left) × (after.faults ≡ before.faults)
 

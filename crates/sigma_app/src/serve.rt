@@ -50,8 +50,9 @@ pub fn serve<F: Shelf, S: Source, O: Sink, E: Sink>(
     ensures write_fault { result ≡ Status.WriteFault
         → SomeWriteFailed (streams_of O.taken O.faults E.taken E.faults out.old err.old) (streams_of O.taken O.faults E.taken E.faults out.new err.new) }
 
-    // What stands where the run was cut off: a diagnostic about an input is begun only where it couldn't be read in this call.
-    ensures after_fault { IsCutOff result → (unread : Option Input)
+    // What stands where the run was cut off: a diagnostic about an input is begun only where it couldn't be read in this call,
+    // and never where memory is missing.
+    ensures after_fault { IsCutOff result → (unread : Option Input) × (result ≡ Status.Memory → unread ≡ None)
         × MayBeUnread words.now unread (inputs_of F.files F.failed S.left S.faults shelf.old events.old) (inputs_of F.files F.failed S.left S.faults shelf.new events.new)
         × ((world : World) → Tells words.now (inputs_of F.files F.failed S.left S.faults shelf.old events.old) world
         → StandsCut limits.now words.now world unread (streams_of O.taken O.faults E.taken E.faults out.old err.old) (streams_of O.taken O.faults E.taken E.faults out.new err.new)) }
