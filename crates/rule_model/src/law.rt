@@ -16,7 +16,8 @@ ghost use Rattle.rule_model.specs.Whole.{IsWhole};
 use sig_conditions::one_condition;
 use sig_modifiers::{one_tests, plain_tests, tests_or_refusal};
 
-/// A text has a condition in the tables, of at most so many words that nest, exactly where the grammar has one.
+/// A condition that a text has in the tables is one of the grammar's, and of a text with at most so many words that nest the
+/// tables have each that the grammar has.
 pub fn condition_of_text()
     ensures sound { (most : ℕ) (text : List ℕ) (c : Cond) → condition_of most text ≡ Some c → ConditionReads (words text) c }
     ensures complete { (most : ℕ) (text : List ℕ) (c : Cond)

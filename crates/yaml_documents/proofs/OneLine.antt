@@ -26,7 +26,7 @@ on_bind l (Err s) f h k = h
 -- ---- places and stops of a line
 
 pub at_on : (l : Line) (n : ℕ) → n ≤ length l.text → IsOn l (at l n)
-at_on l n h = record { line = refl; column = omega arith }
+at_on l n h = record { line = refl; counts = omega arith; column = omega arith }
 
 pub spot_on : (l : Line) (cs : List ℕ) → IsOn l (spot l cs)
 spot_on l cs = at_on l (length l.text - length cs) (omega arith)

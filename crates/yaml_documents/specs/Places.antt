@@ -9,6 +9,7 @@ use Rattle.yaml_blocks.specs.Documents.{IsRefusedAt, IsCode}
 -- the place of a character of the line, or directly behind its last one
 pub record IsOn (l : Line) (a : At) : Type 0 where
   pub line : a.line ≡ l.number
+  pub counts : 1 ≤ a.column
   pub column : a.column ≤ suc (length l.text)
 
 abbrev pub AreOn : Line → List (At × ℕ) → Type 0
