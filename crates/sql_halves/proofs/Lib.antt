@@ -1,3 +1,4 @@
 pub mod InHalves
 mod Joined
+mod Laid
 mod Examples
