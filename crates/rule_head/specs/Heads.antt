@@ -53,7 +53,7 @@ is_date t = is_text t && is_day_text (text_in t)
 abbrev pub head_checks : Tree → List (Option Refusal)
 head_checks t =
     must 71 (place_of t) (is_map t)
-    ∷ required (codes "title") t
+    ∷ required (codes "title") 70 t
     ∷ at_key (codes "title") 72 is_title t
     ∷ at_key (codes "id") 73 is_id t
     ∷ at_key (codes "name") 71 is_text t

@@ -1,5 +1,3 @@
 pub mod ByKind
-pub mod Firsts
-pub mod Lines
 pub mod WholeItems
 pub mod Zips

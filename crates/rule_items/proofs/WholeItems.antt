@@ -23,7 +23,7 @@ use Rattle.rule_items.specs.Whole.{IsSome, IsPatternTest, IsWholeValue, IsWholeI
 use Rattle.rule_items.specs.declared.item.Fields.{Fields}
 use Rattle.rule_items.specs.declared.item.Fields.TheVariants.{Keyword, Names}
 use Rattle.rule_items.specs.declared.item.Item.{Item}
-use Rattle.rule_items.proofs.Lines.{first_holds, must_holds, not_holds}
+use Rattle.sig_base.proofs.Checks.{first_holds, must_holds, not_holds}
 use Rattle.rule_items.proofs.Zips.{zip_some, zip_each}
 
 use_some : (chain : Written) (u : Use) (ts : List Test) → UseTests chain u ts → IsSome ts

@@ -15,8 +15,8 @@ use Rattle.yaml_tree.specs.View.{nodes_view}
 use Rattle.yaml_tree.specs.declared.tree.Node.{Node}
 use Rattle.sig_conditions.specs.Words.{words}
 use Rattle.rule_model.proofs.Faultless.{whole_formula}
-use Rattle.rule_items.proofs.Firsts.{behind, judged_as}
-use Rattle.rule_items.proofs.Lines.{first_one, first_holds, must_holds, must_same, not_holds}
+use Rattle.sig_base.proofs.Firsts.{behind, judged_as}
+use Rattle.sig_base.proofs.Checks.{first_one, first_holds, must_holds, must_same, not_holds}
 use Rattle.rule_items.proofs.Zips.{zip_some}
 use Rattle.rule_model.specs.Conditions.{names_of, IsFormula, listed_refusal, conditions_refusal, conditions_in, AreConditions}
 use Rattle.yaml_tree.specs.Nodes.{is_empty}

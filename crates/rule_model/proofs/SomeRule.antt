@@ -31,7 +31,7 @@ use Rattle.rule_head.specs.Sources.{source_refusal, source_of}
 use Rattle.rule_items.specs.declared.detection.Detection.{Detection}
 use Rattle.rule_items.specs.declared.item.Fields.TheVariants.{Keyword}
 use Rattle.rule_items.specs.declared.item.Item.{Item}
-use Rattle.rule_items.proofs.Lines.{first_holds, must_holds}
+use Rattle.sig_base.proofs.Checks.{first_holds, must_holds}
 
 -- where no element is refused, each has what it is read as
 pub zip_all : {A B : Type 0} (R : A → B → Type 0) (refusal : A → Option Refusal) → ((x : A) → refusal x ≡ None → (y : B) × R x y)

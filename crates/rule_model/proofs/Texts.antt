@@ -20,7 +20,7 @@ use Rattle.sig_base.specs.Judged.{refusal, must, first, Judged}
 use Rattle.yaml_tree.specs.Nodes.{place_of}
 use Rattle.yaml_tree.specs.Tree.{Tree}
 use Rattle.rule_model.proofs.Faultless.{no_faults}
-use Rattle.rule_items.proofs.Lines.{first_one}
+use Rattle.sig_base.proofs.Checks.{first_one}
 use Rattle.rule_model.specs.Conditions.{condition_refusal, first_fault, unresolved, IsFormula}
 use Rattle.yaml_tree.specs.Nodes.{is_text, text_in}
 

@@ -45,7 +45,7 @@ use Rattle.rule_model.specs.Whole.{IsWholeForm, IsWhole}
 use Rattle.rule_items.specs.declared.detection.Detection.{Detection}
 use Rattle.rule_items.specs.declared.item.Item.{Item}
 use Rattle.rule_model.proofs.ConditionLists.{some_conditions, whole_conditions}
-use Rattle.rule_items.proofs.Lines.{first_one, first_holds, must_holds, not_holds}
+use Rattle.sig_base.proofs.Checks.{first_one, first_holds, must_holds, not_holds}
 use Rattle.rule_model.proofs.RuleLemmas.{as_many}
 use Rattle.rule_model.proofs.SomeRule.{two_hold, three_hold, four_hold, six_hold}
 use Rattle.rule_items.proofs.WholeItems.{whole_item, whole_keyword}

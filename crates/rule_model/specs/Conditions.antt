@@ -61,7 +61,7 @@ listed_refusal limits names t = first (
 
 abbrev pub conditions_refusal : Limits → Tree → Option Refusal
 conditions_refusal limits t = first (
-    required (codes "condition") t
+    required (codes "condition") 70 t
     ∷ refused_at (codes "condition") (listed_refusal limits (names_of t)) t
     ∷ [])
 

@@ -16,9 +16,9 @@ use Rattle.rule_head.specs.Sources.{source_refusal, source_of}
 abbrev pub rule_refusal : Limits → Tree → Option Refusal
 rule_refusal limits t = first (
     first (head_checks t)
-    ∷ required (codes "logsource") t
+    ∷ required (codes "logsource") 70 t
     ∷ refused_at (codes "logsource") source_refusal t
-    ∷ required (codes "detection") t
+    ∷ required (codes "detection") 70 t
     ∷ refused_at (codes "detection") (detections_refusal limits) t
     ∷ refused_at (codes "detection") (conditions_refusal limits) t
     ∷ [])

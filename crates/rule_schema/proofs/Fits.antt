@@ -5,7 +5,7 @@ use Rattle.std.proofs.lemmas.List.{drop_more, map-append}
 use Rattle.sig_base.specs.declared.refusal.Refusal.{Refusal}
 use Rattle.sig_base.specs.Judged.{first}
 use Rattle.rule_items.specs.declared.item.Item.{Item}
-use Rattle.rule_items.proofs.Firsts.{first_none, first_some}
+use Rattle.sig_base.proofs.Firsts.{first_none, first_some}
 
 line_at : (line : Item → Option Refusal) (i : ℕ) (xs : List Item) (x : Item) → i < length xs → x ≡ get_or xs i x → map line (drop i xs) ≡ line x ∷ map line (drop (i + 1) xs)
 line_at line i xs x l e = ap (map line) (drop_more xs i x l ∙ ap (λ (y : Item). y ∷ drop (i + 1) xs) (sym e))

@@ -1,3 +1,5 @@
+pub mod Checks
+pub mod Firsts
 pub mod Puts
 pub mod Shelving
 pub mod TextLemmas

@@ -1,6 +1,6 @@
 //! Refusals as readers make them: each check refuses, or lets the next one judge.
 
-ghost use Rattle.std.specs.Prelude.{◌≡◌};
+ghost use Rattle.std.specs.Prelude.{◌≡◌, IfErr};
 ghost use Rattle.sig_base.specs.Judged.{Judged, must, refusal};
 
 use crate::code::Code;
@@ -19,7 +19,8 @@ pub fn refused(code: Code, place: Place) -> Fault
 
 /// Refuses with this code at this place, unless the condition holds.
 pub fn must(code: Code, place: Place, holds: bool) -> Result<(), Fault>
-    ensures { Judged (λ done. Unit {0}) (must code place holds) result }
+    ensures judged { Judged (λ done. Unit {0}) (must code place holds) result }
+    ensures no_memory { IfErr result (λ e. e ≡ Fault.Refused (refusal code place)) }
 {
     if holds {
         return Ok(());

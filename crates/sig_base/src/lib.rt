@@ -12,6 +12,7 @@ pub use memory::{MemoryShelf, MemorySink, MemorySource};
 pub use put::put_all;
 pub use real::{FileShelf, InputSource, OutputSink};
 pub use refusal::{Detail, Fault, Place, Refusal};
+pub use sequence::{Sequence, TryCopy};
 pub use shelf::Shelf;
 pub use streams::{Sink, Source};
 pub use text::Text;
@@ -28,6 +29,7 @@ mod memory;
 mod put;
 mod real;
 mod refusal;
+mod sequence;
 mod shelf;
 mod streams;
 #[cfg(test)]

@@ -1,10 +1,11 @@
 //! What no clause says: that the calls succeed, and that the fakes do what a reader of them expects.
 
 use crate::{
-    Bytes, Code, Limits, MemoryShelf, MemorySink, MemorySource, Shelf, ShelfFault, Sink, Source,
-    Text, Texts, fold, put_all,
+    Bytes, Code, Limits, MemoryShelf, MemorySink, MemorySource, Sequence, Shelf, ShelfFault, Sink,
+    Source, Text, Texts, TryCopy, fold, put_all,
 };
 use std::alloc::Global;
+use std::collections::HashSet;
 use std::test::Fail;
 
 #[test]
@@ -34,6 +35,35 @@ fn keeps_texts_bytes_and_codes(rt: HostRuntime) -> Result<(), Fail> {
     for (c, folded) in [('A', 'a'), ('Z', 'z'), ('@', '@'), ('[', '['), ('Ä', 'Ä')] {
         assert_eq!(rt; fold(c), folded);
     }
+    Ok(())
+}
+
+#[test]
+fn copies_lists_and_compares_texts(rt: HostRuntime) -> Result<(), Fail> {
+    let mut inner = Sequence::with_capacity(rt.alloc(), 2)?;
+    inner.push(Text::copy(rt.alloc(), "Grüße")?)?;
+    inner.push(Text::new(rt.alloc()))?;
+    let mut outer = Sequence::new(rt.alloc());
+    outer.push(inner)?;
+    outer.push(Sequence::from_vec(Vec::new(rt.alloc())))?;
+    let copy = outer.try_copy(rt.alloc())?;
+    assert_eq!(rt; copy.as_slice().len(), 2);
+    assert_eq!(rt; copy.as_slice()[1].as_slice().len(), 0);
+    let mut texts = copy.into_vec();
+    texts.pop();
+    let Some(first) = texts.pop() else {
+        return Err(Fail::new("no list"));
+    };
+    assert_eq!(rt; first.as_slice().len(), 2);
+    assert!(rt; first.as_slice()[0] == Text::copy(rt.alloc(), "Grüße")?);
+    assert!(rt; first.as_slice()[0] != first.as_slice()[1]);
+    let mut known = HashSet::new(rt.alloc());
+    known.insert(Text::copy(rt.alloc(), "Grüße")?)?;
+    assert!(rt; known.contains(&first.as_slice()[0]));
+    assert!(rt; !known.contains(&first.as_slice()[1]));
+    let mut bytes = Text::copy(rt.alloc(), "aü")?.into_bytes();
+    bytes.push(b'!')?;
+    assert_eq!(rt; bytes.as_slice(), b"a\xc3\xbc!".as_slice());
     Ok(())
 }
 

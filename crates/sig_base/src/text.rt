@@ -108,6 +108,13 @@ impl Text {
         self.inner.as_str()
     }
 
+    /// The text's bytes in UTF-8, without a copy.
+    pub fn into_bytes(self) -> Vec<u8>
+        ensures { result.items ≡ encode_utf8_all self }
+    {
+        self.inner.into_bytes()
+    }
+
     /// Adds a character at the end, and leaves the text as it was where memory is missing.
     #[inline(always)]
     pub fn push(&mut self, c: char) -> Result<(), AllocError>
@@ -143,6 +150,7 @@ impl Text {
     {
         self.as_str() == text
     }
+
     /// Whether both texts have the same characters.
     pub fn equals(&self, other: &Text) -> bool
         ensures { result ≡ bytes_eq self.now other.now }

@@ -103,9 +103,9 @@ passes code test (Some t) = must code (place_of t) (test t)
 abbrev pub at_key : List ℕ → ℕ → (Tree → Bool) → Tree → Option Refusal
 at_key key code test t = passes code test (value_in key (entries_in t))
 
--- the map has the key
-abbrev pub required : List ℕ → Tree → Option Refusal
-required key t = must 70 (place_of t) (has_key key t)
+-- the map has the key, or is refused with the code
+abbrev pub required : List ℕ → ℕ → Tree → Option Refusal
+required key code t = must code (place_of t) (has_key key t)
 
 abbrev pub refused_by : (Tree → Option Refusal) → Option Tree → Option Refusal
 refused_by refusal None = None

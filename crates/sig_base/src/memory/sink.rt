@@ -1,6 +1,6 @@
 //! A sink in memory.
 
-ghost use Rattle.std.specs.Prelude.{◌≡◌, ◌≤◌, Some, ◌<◌, [], length, is_some, IfOk, IfErr, MatchResult, true, false};
+ghost use Rattle.std.specs.Prelude.{◌≡◌, ◌≤◌, Some, ◌<◌, [], length, is_some, IfOk, IfErr, OnErr, MatchResult, true, false};
 ghost use Rattle.std.specs.Io.{WritesAtMost};
 ghost use Rattle.std.specs.Io.KnownBytes.{WriteAppends};
 ghost use Rattle.sig_base.specs.Causes.{HasCause};
@@ -81,6 +81,7 @@ impl Sink for MemorySink {
             (λ n. (sink_fails self.old bytes.now ≡ false) × (n ≡ sink_takes self.old bytes.now))
             (λ _. sink_fails self.old bytes.now ≡ true) }
         ensures calls { self.new.calls ≡ next self.old.calls }
+        ensures count { OnErr result (self.new.faults ≡ next self.old.faults) }
         ensures others { (self.new.failing ≡ self.old.failing) × (self.new.most ≡ self.old.most) × (self.new.room ≡ self.old.room) }
     {
         self.calls = self.calls.saturating_add(1);

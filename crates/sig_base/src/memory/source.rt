@@ -1,6 +1,6 @@
 //! A source in memory.
 
-ghost use Rattle.std.specs.Prelude.{◌≡◌, ◌≤◌, Some, length, is_some, MatchResult, true, false};
+ghost use Rattle.std.specs.Prelude.{◌≡◌, ◌≤◌, Some, length, is_some, OnErr, MatchResult, true, false};
 ghost use Rattle.std.specs.Io.{ReadsAtMost};
 ghost use Rattle.std.specs.Io.KnownBytes.{ReadConsumes};
 ghost use Rattle.sig_base.specs.Causes.{HasCause};
@@ -64,6 +64,7 @@ impl Source for MemorySource {
             (λ n. (is_failing self.old.failing self.old.calls ≡ false) × (n ≡ source_moves self.old (length buf.old)))
             (λ _. is_failing self.old.failing self.old.calls ≡ true) }
         ensures calls { self.new.calls ≡ next self.old.calls }
+        ensures count { OnErr result (self.new.faults ≡ next self.old.faults) }
         ensures others { (self.new.failing ≡ self.old.failing) × (self.new.most ≡ self.old.most) }
     {
         self.calls = self.calls.saturating_add(1);

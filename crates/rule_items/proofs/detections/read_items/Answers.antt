@@ -6,7 +6,7 @@ use Rattle.rule_items.specs.Items.{IsItem, item_refusal}
 use Rattle.sig_modifiers.specs.Lists.{EachOf}
 use Rattle.rule_items.specs.Whole.{IsWholeItem}
 use Rattle.rule_items.specs.declared.item.Item.{Item}
-use Rattle.rule_items.proofs.Firsts.{one_more, rest_first}
+use Rattle.sig_base.proofs.Firsts.{one_more, rest_first}
 use Rattle.rule_items.proofs.Zips.{each_more}
 use Rattle.rule_items.proofs.detections.read_items.Goals as goal
 

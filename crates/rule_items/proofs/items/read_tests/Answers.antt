@@ -10,7 +10,7 @@ use Rattle.yaml_tree.specs.View.{node_view, nodes_view}
 use Rattle.rule_items.specs.Items.{shape_refusal, values_refusal}
 use Rattle.yaml_tree.specs.Nodes.{is_empty}
 use Rattle.yaml_tree.specs.Nodes.{parts_in}
-use Rattle.rule_items.proofs.Lines.{skips, first_one, judged_last, must_same}
+use Rattle.sig_base.proofs.Checks.{skips, first_one, judged_last, must_same}
 use Rattle.rule_items.proofs.items.read_tests.Goals as goal
 
 pub returns-clause-judged : goal.returns-clause-judged

@@ -5,7 +5,7 @@ use Rattle.sig_conditions.specs.Formulas.{form_view}
 use Rattle.sig_conditions.specs.declared.formula.Formula.{Formula}
 use Rattle.yaml_tree.specs.View.{node_view}
 use Rattle.rule_model.specs.Conditions.{IsFormula}
-use Rattle.rule_items.proofs.Firsts.{hands_on}
+use Rattle.sig_base.proofs.Firsts.{hands_on}
 use Rattle.rule_model.proofs.Texts.{unread_judged, resolved_judged}
 use Rattle.rule_model.proofs.conditions.read_formula.Goals as goal
 

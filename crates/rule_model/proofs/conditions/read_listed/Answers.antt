@@ -8,7 +8,7 @@ use Rattle.yaml_tree.specs.Tree.{Tree}
 use Rattle.yaml_tree.specs.View.{node_view}
 use Rattle.rule_model.specs.Conditions.{IsFormula, condition_refusal}
 use Rattle.rule_model.proofs.ConditionLists.{unempty, pushed_view}
-use Rattle.rule_items.proofs.Firsts.{hands_on, behind, part_first, rest_first, one_more}
+use Rattle.sig_base.proofs.Firsts.{hands_on, behind, part_first, rest_first, one_more}
 use Rattle.rule_model.proofs.conditions.read_listed.Goals as goal
 
 pub returns-in_err-formula : goal.returns-in_err-formula

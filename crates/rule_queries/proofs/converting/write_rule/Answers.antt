@@ -5,7 +5,7 @@ use Rattle.rule_lowering.specs.Refused.{leaves_refusal}
 use Rattle.rule_lowering.specs.TreeOf.{tree_of}
 use Rattle.rule_schema.specs.Inferred.{fit_refusal}
 use Rattle.rule_model.specs.Plain.{rule_view}
-use Rattle.rule_items.proofs.Firsts.{hands_on}
+use Rattle.sig_base.proofs.Firsts.{hands_on}
 use Rattle.rule_queries.specs.Queries.{query_of, size_checks}
 use Rattle.rule_queries.proofs.Judging.{written, too_many}
 use Rattle.sig_base.specs.Judged.{first}

@@ -9,8 +9,8 @@ use Rattle.yaml_tree.specs.View.{node_view}
 use Rattle.rule_items.specs.Detections.{IsAlternative, IsDetection, content_refusal, detection_refusal, is_detection_key}
 use Rattle.yaml_tree.specs.Nodes.{parts_in}
 use Rattle.rule_items.specs.declared.detection.Detection.{Detection}
-use Rattle.rule_items.proofs.Firsts.{hands_on}
-use Rattle.rule_items.proofs.Lines.{skips, stops, first_one}
+use Rattle.sig_base.proofs.Firsts.{hands_on}
+use Rattle.sig_base.proofs.Checks.{skips, stops, first_one}
 use Rattle.yaml_tree.proofs.NodeViews.{member_of, view-Entry}
 use Rattle.rule_items.proofs.detection.Detection.read.Goals as goal
 

@@ -17,8 +17,8 @@ use Rattle.yaml_tree.specs.Nodes.{parts_in}
 use Rattle.rule_items.specs.Pieces.{IsKey}
 use Rattle.rule_items.specs.declared.item.Fields.TheVariants.{Keyword, Names}
 use Rattle.rule_items.specs.declared.item.Item.{Item}
-use Rattle.rule_items.proofs.Firsts.{hands_on}
-use Rattle.rule_items.proofs.Lines.{skips, stops, first_one}
+use Rattle.sig_base.proofs.Firsts.{hands_on}
+use Rattle.sig_base.proofs.Checks.{skips, stops, first_one}
 use Rattle.yaml_tree.proofs.NodeViews.{member_of, view-Entry}
 use Rattle.rule_items.proofs.WholeItems.{whole_item}
 use Rattle.rule_items.proofs.item.Item.read.Goals as goal

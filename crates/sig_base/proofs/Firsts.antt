@@ -8,7 +8,7 @@ use Rattle.sig_base.specs.declared.refusal.Refusal.{Refusal}
 use Rattle.sig_base.specs.declared.refusal.Fault.{Fault}
 use Rattle.sig_base.specs.declared.refusal.Fault.TheVariants.{Memory, Refused}
 use Rattle.sig_base.specs.Judged.{first, Judged}
-use Rattle.rule_items.proofs.Lines.{first_one}
+use Rattle.sig_base.proofs.Checks.{first_one}
 
 pub first_none : (a b : List (Option Refusal)) → first a ≡ None → first (a ++ b) ≡ first b
 first_none [] b h = refl
