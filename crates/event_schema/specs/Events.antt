@@ -1,8 +1,9 @@
--- Events of a schema: each field has no value, or one value of its kind.
-use Rattle.std.specs.Prelude.{◌≡◌, ℕ, ◌-◌, ◌^◌, nat_lt, ℤ, pos, negsuc, ◌≤ℤ◌, true, List, [], ◌∷◌, Option, Some, None, ⊤}
+-- Events of a schema: each field has a list of values of its kind, of at most one where the field isn't one of several.
+use Rattle.std.specs.Prelude.{◌≡◌, ℕ, ◌-◌, ◌^◌, ◌≤◌, nat_lt, ℤ, pos, negsuc, ◌≤ℤ◌, true, false, List, [], ◌∷◌, length, ⊤}
 use Rattle.std.specs.List.{list_all}
 use Rattle.std.specs.Str.{all_scalars}
 use Rattle.event_schema.specs.Addresses.{IsAddress}
+use Rattle.event_schema.specs.Lists.{EachOf}
 use Rattle.event_schema.specs.declared.schema.Field.{Field}
 use Rattle.event_schema.specs.declared.schema.FieldKind.{FieldKind}
 use Rattle.event_schema.specs.declared.schema.FieldKind.TheVariants as kinds
@@ -25,13 +26,14 @@ IsOfKind kinds.Whole (values.Whole n) = IsWholeNumber n
 IsOfKind kinds.Address (values.Text text) = IsPlainText text × IsAddress text
 IsOfKind kinds.Address (values.Whole n) = ⊥
 
-abbrev pub IsIfAny : FieldKind → Option Value → Type 0
-IsIfAny kind None = ⊤
-IsIfAny kind (Some value) = IsOfKind kind value
+-- each is of the field's kind, and where the field isn't one of several values there is at most one
+pub record AreValuesOf (field : Field) (all : List Value) : Type 0 where
+  pub kinds : EachOf (IsOfKind field.kind) all
+  pub few : field.many ≡ false → length all ≤ 1
 
 -- the values of an event, in the order of the fields
-abbrev pub IsEvent : List Field → List (Option Value) → Type 0
+abbrev pub IsEvent : List Field → List (List Value) → Type 0
 IsEvent [] [] = ⊤
-IsEvent [] (value ∷ values) = ⊥
+IsEvent [] (row ∷ rows) = ⊥
 IsEvent (field ∷ fields) [] = ⊥
-IsEvent (field ∷ fields) (value ∷ values) = IsIfAny field.kind value × IsEvent fields values
+IsEvent (field ∷ fields) (row ∷ rows) = AreValuesOf field row × IsEvent fields rows

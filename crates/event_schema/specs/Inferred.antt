@@ -6,7 +6,7 @@ use Rattle.event_schema.specs.declared.schema.Schema.{Schema}
 
 -- a field of texts, found under its own name
 abbrev pub text_field : List ℕ → Field
-text_field name = record { name = name; kind = Text; at = name ∷ []; search = false; cased = false }
+text_field name = record { name = name; kind = Text; at = name ∷ []; search = false; cased = false; many = false }
 
 -- the table `events` with one field of texts
 abbrev pub text_schema : List ℕ → Schema

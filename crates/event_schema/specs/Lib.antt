@@ -1,5 +1,9 @@
 pub mod Addresses
 pub mod Events
 pub mod Inferred
+pub mod Lists
+pub mod Names
 pub mod Occurrence
 pub mod Rows
+pub mod Schemas
+pub mod Values

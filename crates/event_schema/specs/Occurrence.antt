@@ -2,9 +2,9 @@
 use Rattle.std.specs.Prelude.{◌-◌, ◌^◌, ℤ, pos, negsuc, ◌≤ℤ◌, List, Option, Some, None, ⊤}
 use Rattle.event_schema.specs.declared.value.Value.{Value}
 
--- the values in the order of the schema's fields, and the moment in nanoseconds since 1970 in UTC
+-- the values of each field, in the order of the schema's fields, and the moment in nanoseconds since 1970 in UTC
 pub record Occurrence : Type 0 where
-  pub values : List (Option Value)
+  pub values : List (List Value)
   pub moment : Option ℤ
 
 -- from -2^100 to 2^100

@@ -1,25 +1,26 @@
 //! Events and their values, by hand.
 
-use crate::{Event, Field, FieldKind, Fields, Schema, Value, decimal};
+use crate::{Event, Field, FieldKind, FieldValues, Fields, Schema, Value, decimal};
 use sig_base::{Text, Texts};
 use std::alloc::Global;
 use std::test::Fail;
 
-fn field(alloc: Global, name: &str, kind: FieldKind) -> Result<Field, Fail> {
+fn field(alloc: Global, name: &str, kind: FieldKind, many: bool) -> Result<Field, Fail> {
     Ok(Field {
         name: Text::copy(alloc, name)?,
         kind,
         at: Texts::new(alloc),
         search: false,
         cased: false,
+        many,
     })
 }
 
 fn schema(alloc: Global) -> Result<Schema, Fail> {
     let mut fields = Fields::new(alloc);
-    fields.push(field(alloc, "Image", FieldKind::Text)?)?;
-    fields.push(field(alloc, "Size", FieldKind::Whole)?)?;
-    fields.push(field(alloc, "User", FieldKind::Text)?)?;
+    fields.push(field(alloc, "Image", FieldKind::Text, false)?)?;
+    fields.push(field(alloc, "Size", FieldKind::Whole, true)?)?;
+    fields.push(field(alloc, "User", FieldKind::Text, true)?)?;
     Ok(Schema {
         table: Text::copy(alloc, "events")?,
         fields,
@@ -27,11 +28,16 @@ fn schema(alloc: Global) -> Result<Schema, Fail> {
     })
 }
 
+/// One text, three numbers, and no value.
 fn event(alloc: Global) -> Result<Event, Fail> {
+    let mut sizes = Vec::new(alloc);
+    sizes.push(Value::Whole(-40))?;
+    sizes.push(Value::Whole(7))?;
+    sizes.push(Value::Whole(0))?;
     let mut values = Vec::new(alloc);
-    values.push(Some(Value::Text(Text::copy(alloc, "a.exe")?)))?;
-    values.push(Some(Value::Whole(-40)))?;
-    values.push(None)?;
+    values.push(FieldValues::one(Value::Text(Text::copy(alloc, "a.exe")?)))?;
+    values.push(FieldValues::from_vec(sizes))?;
+    values.push(FieldValues::none())?;
     Ok(Event::new(values, Some(-5)))
 }
 
@@ -42,21 +48,39 @@ fn shown(alloc: Global, value: Option<&Value>) -> Result<Text, Fail> {
     }
 }
 
+/// The values' texts, with a blank behind each.
+fn listed(alloc: Global, values: &[Value]) -> Result<Text, Fail> {
+    let mut all = Text::new(alloc);
+    for value in values {
+        all.push_str(value.text(alloc)?.as_str())?;
+        all.push(' ')?;
+    }
+    Ok(all)
+}
+
 #[test]
 fn values_by_names_and_numbers(rt: HostRuntime) -> Result<(), Fail> {
     let alloc = rt.alloc();
     let schema = schema(alloc)?;
     let event = event(alloc)?.copy(alloc)?;
-    for (name, number, want) in [
-        ("Image", 0, "a.exe"),
-        ("Size", 1, "-40"),
-        ("User", 2, "none"),
+    for (name, number, first, all) in [
+        ("Image", 0, "a.exe", "a.exe "),
+        ("Size", 1, "-40", "-40 7 0 "),
+        ("User", 2, "none", ""),
     ] {
         assert_eq!(rt; schema.find(name), Some(number));
-        assert_eq!(rt; shown(alloc, event.at(&schema, name))?.as_str(), want);
-        assert_eq!(rt; shown(alloc, event.get(number))?.as_str(), want);
+        assert_eq!(rt; shown(alloc, event.get(number))?.as_str(), first);
+        assert_eq!(rt; listed(alloc, event.values(number))?.as_str(), all);
+        assert_eq!(rt;
+            listed(alloc, event.values_at(&schema, name))?.as_str(),
+            all
+        );
     }
     assert_eq!(rt; schema.find("image"), None);
+    assert_eq!(rt;
+        listed(alloc, event.values_at(&schema, "image"))?.as_str(),
+        ""
+    );
     assert_eq!(rt; shown(alloc, event.get(3))?.as_str(), "none");
     assert_eq!(rt; event.moment(), Some(-5));
     Ok(())

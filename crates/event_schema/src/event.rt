@@ -4,18 +4,19 @@ ghost use Rattle.std.specs.Prelude.{◌≡◌, IfOk, IfErr};
 ghost use Rattle.std.specs.Option.{option_copied};
 ghost use Rattle.std.specs.Str.{chars};
 ghost use Rattle.event_schema.specs.Occurrence.{IsMomentIfAny};
-ghost use Rattle.event_schema.specs.Rows.{field_value, value_at};
+ghost use Rattle.event_schema.specs.Rows.{field_values, first_value, values_at};
 
 use crate::schema::Schema;
 use crate::value::Value;
+use crate::values::{FieldValues, first_of};
 use sig_base::Fault;
 use std::alloc::Global;
 use std::marker::Model;
 
-/// An event: for each field of its schema no value or one, and its moment, if it has one.
+/// An event: for each field of its schema a list of values, and its moment, if it has one.
 #[derive(Drop, Debug)]
 pub struct Event {
-    values: Vec<Option<Value>>,
+    values: Vec<FieldValues>,
     moment: Option<i128>,
 }
 
@@ -29,40 +30,30 @@ impl Model for Event {
     ghost invariant = { λ e. IsMomentIfAny e.moment };
 }
 
-/// The value of the field of this number.
-fn value_in(values: &[Option<Value>], field: usize) -> Option<&Value>
-    ensures { option_copied result ≡ field_value values.now field }
+/// The values of the field of this number; none behind the last field.
+fn values_in(row: &[FieldValues], field: usize) -> &[Value]
+    ensures { result.now ≡ field_values row.now field }
 {
-    if field >= values.len() {
-        return None;
+    if field >= row.len() {
+        return &[];
     }
-    values[field].as_ref()
+    row[field].as_slice()
 }
 
-fn copy_value(alloc: Global, value: &Option<Value>) -> Result<Option<Value>, Fault>
-    ensures ok { IfOk result (λ v. v ≡ value.now) }
+fn copy_row(alloc: Global, row: &[FieldValues]) -> Result<Vec<FieldValues>, Fault>
+    ensures ok { IfOk result (λ v. v.items ≡ row.now) }
     ensures err { IfErr result (λ e. e ≡ Fault.Memory) }
 {
-    match value {
-        Some(value) => Ok(Some(value.copy(alloc)?)),
-        None => Ok(None),
-    }
-}
-
-fn copy_values(alloc: Global, values: &[Option<Value>]) -> Result<Vec<Option<Value>>, Fault>
-    ensures ok { IfOk result (λ v. v.items ≡ values.now) }
-    ensures err { IfErr result (λ e. e ≡ Fault.Memory) }
-{
-    let mut copies = Vec::new(alloc);
-    for value in values {
-        copies.push(copy_value(alloc, value)?)?;
+    let mut copies = Vec::with_capacity(alloc, row.len())?;
+    for values in row {
+        copies.push(values.copy(alloc)?)?;
     }
     Ok(copies)
 }
 
 impl Event {
     /// The event of these values, in the order of the fields, and of this moment in nanoseconds since 1970 in UTC.
-    pub fn new(values: Vec<Option<Value>>, moment: Option<i128>) -> Event
+    pub fn new(values: Vec<FieldValues>, moment: Option<i128>) -> Event
         requires { IsMomentIfAny moment }
         ensures values { result.values ≡ values.items }
         ensures moment { result.moment ≡ moment }
@@ -70,18 +61,28 @@ impl Event {
         Event { values, moment }
     }
 
-    /// The value of the field of this number.
-    pub fn get(&self, field: usize) -> Option<&Value>
-        ensures { option_copied result ≡ field_value self.now.values field }
+    /// The values of the field of this number, in their order; none behind the last field.
+    pub fn values(&self, field: usize) -> &[Value]
+        ensures { result.now ≡ field_values self.now.values field }
     {
-        value_in(self.values.as_slice(), field)
+        values_in(self.values.as_slice(), field)
     }
 
-    /// The value of the field of this name in the event's schema.
-    pub fn at(&self, schema: &Schema, name: &str) -> Option<&Value>
-        ensures { option_copied result ≡ value_at schema.now self.now (chars name.now) }
+    /// The first value of the field of this number.
+    pub fn get(&self, field: usize) -> Option<&Value>
+        ensures { option_copied result ≡ first_value (field_values self.now.values field) }
     {
-        self.get(schema.find(name)?)
+        first_of(self.values(field))
+    }
+
+    /// The values of the field of this name in the event's schema; none where the schema has no such field.
+    pub fn values_at(&self, schema: &Schema, name: &str) -> &[Value]
+        ensures { result.now ≡ values_at schema.now self.now (chars name.now) }
+    {
+        match schema.find(name) {
+            Some(field) => self.values(field),
+            None => &[],
+        }
     }
 
     /// The moment in nanoseconds since 1970 in UTC.
@@ -97,7 +98,7 @@ impl Event {
         ensures ok { IfOk result (λ event. event ≡ self.now) }
         ensures err { IfErr result (λ e. e ≡ Fault.Memory) }
     {
-        let values = copy_values(alloc, self.values.as_slice())?;
+        let values = copy_row(alloc, self.values.as_slice())?;
         Ok(Event {
             values,
             moment: self.moment,

@@ -5,6 +5,7 @@ pub use event::Event;
 pub use fields::Fields;
 pub use schema::{Field, FieldKind, Schema, Time, TimeForm};
 pub use value::{Value, decimal, decimal_in};
+pub use values::FieldValues;
 
 #[cfg(test)]
 mod checks;
@@ -12,3 +13,4 @@ mod event;
 mod fields;
 mod schema;
 mod value;
+mod values;

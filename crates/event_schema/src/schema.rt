@@ -15,8 +15,8 @@ pub enum FieldKind {
     Address,
 }
 
-/// A field: its name, its kind, the keys that lead to its value in an event, whether keywords search it, and whether
-/// a Lucene index keeps its case in a twin.
+/// A field: its name, its kind, the keys that lead to its value in an event, whether keywords search it, whether a Lucene
+/// index keeps its case in a twin, and whether an event may have several values of it.
 #[derive(Drop, Debug)]
 pub struct Field {
     pub name: Text,
@@ -24,6 +24,7 @@ pub struct Field {
     pub at: Texts,
     pub search: bool,
     pub cased: bool,
+    pub many: bool,
 }
 
 /// How an event's time is written.

@@ -1,5 +1,5 @@
 use Rattle.std.proofs.Common.{◌≡◌, ◌++◌, drop}
-use Rattle.event_schema.proofs.event.copy_values.Given as goal
+use Rattle.event_schema.proofs.values.copy_all.Given as goal
 
 abbrev pub invariant-loop-value : goal.invariant-loop-value
 invariant-loop-value l = l.copies.items ++ drop l.value-index l.values ≡ l.values
