@@ -1,14 +1,17 @@
 //! Whether tests hold of the values of events.
 
-ghost use Rattle.std.specs.Prelude.{◌≡◌, ◌↔◌, IsTrue, None, Some};
+ghost use Rattle.std.specs.Prelude.{◌≡◌, ◌↔◌, IsTrue};
 ghost use Rattle.std.specs.Fmt.{signed_decimal};
 ghost use Rattle.std.specs.Str.{chars};
-ghost use Rattle.event_schema.specs.Rows.{value_at};
-ghost use Rattle.sig_modifiers.specs.Holds.{Holds, HoldsOf, HoldsWithout};
+ghost use Rattle.event_schema.specs.Lists.{SomeOf, IsNone};
+ghost use Rattle.event_schema.specs.Rows.{value_text, values_at};
+ghost use Rattle.sig_modifiers.specs.Holds.{Holds};
+ghost use Rattle.sig_strings.specs.Fits.{Fits};
 
 use crate::test::Test;
 use event_schema::{Event, Schema, Value, decimal_in};
 use itoa::Buffer;
+use sig_strings::Pattern;
 
 fn is_decimal(text: &str, number: i64) -> bool
     ensures { IsTrue result ↔ (chars text.now ≡ signed_decimal number) }
@@ -17,48 +20,76 @@ fn is_decimal(text: &str, number: i64) -> bool
     text == decimal_in(&mut buffer, number)
 }
 
+/// Whether a value is this number, or a text that is its decimal.
+fn is_number(value: &Value, number: &i64) -> bool
+    ensures { IsTrue result ↔ (value_text value.now ≡ signed_decimal number.now) }
+{
+    match value {
+        Value::Text(text) => is_decimal(text.as_str(), *number),
+        Value::Whole(own) => {
+            let mut buffer = Buffer::new();
+            is_decimal(decimal_in(&mut buffer, *own), *number)
+        }
+    }
+}
+
+fn fits_value(pattern: &Pattern, cased: bool, value: &Value) -> bool
+    ensures { IsTrue result ↔ Fits pattern.now (value_text value.now) cased }
+{
+    match value {
+        Value::Text(text) => pattern.fits(text.as_str(), cased),
+        Value::Whole(number) => {
+            let mut buffer = Buffer::new();
+            pattern.fits(decimal_in(&mut buffer, *number), cased)
+        }
+    }
+}
+
+fn is_none(values: &[Value]) -> bool
+    ensures { IsTrue result ↔ IsNone values.now }
+{
+    values.is_empty()
+}
+
+fn some_is_number(values: &[Value], number: &i64) -> bool
+    ensures { IsTrue result ↔ SomeOf (λ value. value_text value ≡ signed_decimal number.now) values.now }
+{
+    for value in values {
+        if is_number(value, number) {
+            return true;
+        }
+    }
+    false
+}
+
+fn some_fits(values: &[Value], pattern: &Pattern, cased: bool) -> bool
+    ensures { IsTrue result ↔ SomeOf (λ value. Fits pattern.now (value_text value) cased) values.now }
+{
+    for value in values {
+        if fits_value(pattern, cased, value) {
+            return true;
+        }
+    }
+    false
+}
+
 impl Test {
-    fn holds_without(&self) -> bool
-        ensures { IsTrue result ↔ HoldsWithout self.now }
+    fn holds_of(&self, values: &[Value]) -> bool
+        ensures { IsTrue result ↔ Holds self.now values.now }
     {
         match self {
-            Test::Absent => true,
-            Test::Exists(exists) => !*exists,
-            Test::Fits { .. } | Test::Equals(_) => false,
+            Test::Absent | Test::Exists(false) => is_none(values),
+            Test::Exists(true) => !is_none(values),
+            Test::Fits { pattern, cased } => some_fits(values, pattern, *cased),
+            Test::Equals(number) => some_is_number(values, number),
         }
     }
 
-    fn holds_of_text(&self, text: &str) -> bool
-        ensures { IsTrue result ↔ HoldsOf self.now (chars text.now) }
-    {
-        match self {
-            Test::Absent => false,
-            Test::Exists(exists) => *exists,
-            Test::Fits { pattern, cased } => pattern.fits(text, *cased),
-            Test::Equals(number) => is_decimal(text, *number),
-        }
-    }
-
-    fn holds_of(&self, value: &Value) -> bool
-        ensures { IsTrue result ↔ Holds self.now (Some value.now) }
-    {
-        match value {
-            Value::Text(text) => self.holds_of_text(text.as_str()),
-            Value::Whole(number) => {
-                let mut buffer = Buffer::new();
-                self.holds_of_text(decimal_in(&mut buffer, *number))
-            }
-        }
-    }
-
-    /// Whether the test holds of the value of the field of this name, without memory of its own. The schema is the
+    /// Whether the test holds of the values of the field of this name, without memory of its own. The schema is the
     /// event's; a field that it hasn't has no value.
     pub fn holds(&self, schema: &Schema, name: &str, event: &Event) -> bool
-        ensures { IsTrue result ↔ Holds self.now (value_at schema.now event.now (chars name.now)) }
+        ensures { IsTrue result ↔ Holds self.now (values_at schema.now event.now (chars name.now)) }
     {
-        match event.at(schema, name) {
-            Some(value) => self.holds_of(value),
-            None => self.holds_without(),
-        }
+        self.holds_of(event.values_at(schema, name))
     }
 }

@@ -1,7 +1,7 @@
 //! Tests and values, reckoned by hand.
 
 use crate::Test;
-use event_schema::{Event, Field, FieldKind, Fields, Schema, Value};
+use event_schema::{Event, Field, FieldKind, FieldValues, Fields, Schema, Value};
 use sig_base::{Limits, Place, Text, Texts};
 use sig_strings::Pattern;
 use std::alloc::Global;
@@ -16,6 +16,7 @@ fn field(alloc: Global, name: &str, kind: FieldKind) -> Result<Field, Fail> {
         at,
         search: false,
         cased: false,
+        many: true,
     })
 }
 
@@ -32,8 +33,8 @@ fn schema(alloc: Global) -> Result<Schema, Fail> {
 
 fn event(alloc: Global, image: &str, size: i64) -> Result<Event, Fail> {
     let mut values = Vec::new(alloc);
-    values.push(Some(Value::Text(Text::copy(alloc, image)?)))?;
-    values.push(Some(Value::Whole(size)))?;
+    values.push(FieldValues::one(Value::Text(Text::copy(alloc, image)?)))?;
+    values.push(FieldValues::one(Value::Whole(size)))?;
     Ok(Event::new(values, None))
 }
 
@@ -72,8 +73,8 @@ fn tests_without_values(rt: HostRuntime) -> Result<(), Fail> {
     let alloc = rt.alloc();
     let schema = schema(alloc)?;
     let mut values = Vec::new(alloc);
-    values.push(None)?;
-    values.push(None)?;
+    values.push(FieldValues::none())?;
+    values.push(FieldValues::none())?;
     let event = Event::new(values, None);
     for (test, want) in [
         (Test::Absent, true),
@@ -98,6 +99,66 @@ fn numbers_in_texts(rt: HostRuntime) -> Result<(), Fail> {
             want,
             "{text}"
         );
+    }
+    Ok(())
+}
+
+/// Three texts and three numbers.
+fn several(alloc: Global) -> Result<Event, Fail> {
+    let mut images = Vec::new(alloc);
+    for image in ["a.exe", "B.exe", "7"] {
+        images.push(Value::Text(Text::copy(alloc, image)?))?;
+    }
+    let mut sizes = Vec::new(alloc);
+    for size in [1, -20, 300] {
+        sizes.push(Value::Whole(size))?;
+    }
+    let mut values = Vec::new(alloc);
+    values.push(FieldValues::from_vec(images))?;
+    values.push(FieldValues::from_vec(sizes))?;
+    Ok(Event::new(values, None))
+}
+
+#[test]
+fn tests_of_several_values(rt: HostRuntime) -> Result<(), Fail> {
+    let alloc = rt.alloc();
+    let schema = schema(alloc)?;
+    let event = several(alloc)?;
+    for (test, name, want) in [
+        (Test::Absent, "Image", false),
+        (Test::Exists(true), "Image", true),
+        (Test::Exists(false), "Image", false),
+        (fits(alloc, "a.exe", false)?, "Image", true),
+        (fits(alloc, "b.exe", false)?, "Image", true),
+        (fits(alloc, "b.exe", true)?, "Image", false),
+        (fits(alloc, "?", true)?, "Image", true),
+        (fits(alloc, "c.exe", false)?, "Image", false),
+        (Test::Equals(7), "Image", true),
+        (Test::Equals(8), "Image", false),
+        (Test::Equals(1), "Size", true),
+        (Test::Equals(-20), "Size", true),
+        (fits(alloc, "30?", false)?, "Size", true),
+        (fits(alloc, "3?", false)?, "Size", false),
+    ] {
+        assert_eq!(rt; test.holds(&schema, name, &event), want, "{test:?}");
+    }
+    Ok(())
+}
+
+#[test]
+fn a_list_without_values(rt: HostRuntime) -> Result<(), Fail> {
+    let alloc = rt.alloc();
+    let schema = schema(alloc)?;
+    let mut values = Vec::new(alloc);
+    values.push(FieldValues::none())?;
+    values.push(FieldValues::from_vec(Vec::new(alloc)))?;
+    let event = Event::new(values, None);
+    for (test, want) in [
+        (Test::Absent, true),
+        (Test::Exists(true), false),
+        (Test::Exists(false), true),
+    ] {
+        assert_eq!(rt; test.holds(&schema, "Size", &event), want, "{test:?}");
     }
     Ok(())
 }
