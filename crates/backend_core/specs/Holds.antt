@@ -1,29 +1,27 @@
--- Whether a tree holds of an event's row: of each leaf its field's value decides, and the rest is two-valued.
-use Rattle.std.specs.Prelude.{List, ◌⊎◌, Option, Some, None, ⊤}
-use Rattle.event_schema.specs.Rows.{field_value, value_text}
+-- Whether a tree holds of an event's row: of each leaf its field's values decide, and the rest is two-valued.
+use Rattle.std.specs.Prelude.{List, ◌⊎◌, ⊤}
+use Rattle.event_schema.specs.Lists.{SomeOf, IsSome, IsNone}
+use Rattle.event_schema.specs.Rows.{field_values, value_text}
 use Rattle.event_schema.specs.declared.value.Value.{Value}
 use Rattle.sig_strings.specs.Fits.{Fits}
 use Rattle.backend_core.specs.declared.tree.LeafTest.{LeafTest}
 use Rattle.backend_core.specs.declared.tree.LeafTest.TheVariants as tests
 use Rattle.backend_core.specs.Trees.{Plain, all, any, negated, leaf, Plains, no_parts, a_part}
 
--- what a test says of a field's value; where there is none, no pattern fits
-abbrev pub TestHolds : LeafTest → Option Value → Type 0
-TestHolds tests.Has None = ⊥
-TestHolds tests.Has (Some v) = ⊤
-TestHolds tests.Absent None = ⊤
-TestHolds tests.Absent (Some v) = ⊥
-TestHolds (tests.Fits pattern cased) None = ⊥
-TestHolds (tests.Fits pattern cased) (Some v) = Fits pattern (value_text v) cased
+-- what a test says of a field's values: whether there is one, or whether the pattern fits some value
+abbrev pub TestHolds : LeafTest → List Value → Type 0
+TestHolds tests.Has values = IsSome values
+TestHolds tests.Absent values = IsNone values
+TestHolds (tests.Fits pattern cased) values = SomeOf (λ value. Fits pattern (value_text value) cased) values
 
 -- an all where each of its parts holds, an any where one of them does, and a negated tree where its part doesn't
-module _ (row : List (Option Value)) where
+module _ (row : List (List Value)) where
   abbrev mutual
     pub TreeHolds : Plain → Type 0
     TreeHolds (all ts) = EachHolds ts
     TreeHolds (any ts) = OneHolds ts
     TreeHolds (negated t) = TreeHolds t → ⊥
-    TreeHolds (leaf l) = TestHolds l.test (field_value row l.field)
+    TreeHolds (leaf l) = TestHolds l.test (field_values row l.field)
 
     pub EachHolds : Plains → Type 0
     EachHolds no_parts = ⊤

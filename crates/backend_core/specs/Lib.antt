@@ -1,4 +1,5 @@
 pub mod Holds
+pub mod Lacks
 pub mod Sound
 pub mod Trees
 pub mod View

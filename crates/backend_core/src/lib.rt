@@ -2,8 +2,10 @@
 #![tactic(auto)]
 
 mod copying;
+mod lack;
 #[cfg(test)]
 mod tests;
 mod tree;
 
+pub use lack::{Lack, Lacking, judge_lacks};
 pub use tree::{Leaf, LeafTest, Tree};

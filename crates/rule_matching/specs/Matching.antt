@@ -1,9 +1,8 @@
 -- When a rule matches an event (Sigma specification 2.0, detection and condition).
 use Rattle.std.specs.Prelude.{ℕ, zero, suc, ◌≡◌, true, List, [], ◌∷◌, ◌⊎◌, ⊤}
-use Rattle.std.specs.declared.option.Option.{Option}
 use Rattle.event_schema.specs.declared.schema.Field.{Field}
 use Rattle.event_schema.specs.declared.value.Value.{Value}
-use Rattle.event_schema.specs.Rows.{field_number, value_if_any}
+use Rattle.event_schema.specs.Rows.{field_number, values_if_any}
 use Rattle.sig_conditions.specs.Formulas.{Form, FDetection, FNot, FAnd, FOr, Forms, no_forms, form}
 use Rattle.sig_modifiers.specs.Holds.{Holds}
 use Rattle.sig_modifiers.specs.declared.modifier.Joined.{Joined}
@@ -22,11 +21,11 @@ abbrev pub JoinedHolds : Joined → (List Test → Type 0) → List (List Test) 
 JoinedHolds All Satisfied values = EachOf Satisfied values
 JoinedHolds Any Satisfied values = SomeOf Satisfied values
 
--- Of an event that has for each of these fields one value or none: the row has them in the fields' order.
-module _ (fields : List Field) (row : List (Option Value)) where
-  -- a value is satisfied by a field where one of its tests holds of what the field has
+-- Of an event that has for each of these fields a list of values: the row has them in the fields' order.
+module _ (fields : List Field) (row : List (List Value)) where
+  -- a value is satisfied by a field where one of its tests holds of the field's values
   abbrev pub FieldSatisfies : List ℕ → List Test → Type 0
-  FieldSatisfies name tests = SomeOf (λ test. Holds test (value_if_any row (field_number fields name))) tests
+  FieldSatisfies name tests = SomeOf (λ test. Holds test (values_if_any row (field_number fields name))) tests
 
   -- a keyword is satisfied by some field that keywords search
   abbrev pub KeywordSatisfied : List Test → Type 0

@@ -1,0 +1,30 @@
+-- What a backend lacks for a tree: some leaf asks what no query of its language can say.
+use Rattle.std.specs.Prelude.{ℕ, List, [], ◌∷◌, Option, Some, None, codes}
+use Rattle.sig_base.specs.Judged.{first}
+use Rattle.sig_base.specs.declared.refusal.Detail.TheVariants as details
+use Rattle.sig_base.specs.declared.refusal.Refusal.{Refusal}
+use Rattle.backend_core.specs.declared.lack.Lack.{Lack}
+use Rattle.backend_core.specs.declared.lack.Lack.TheVariants as lack
+use Rattle.backend_core.specs.declared.tree.Leaf.{Leaf}
+use Rattle.backend_core.specs.Trees.{Plain, all, any, negated, leaf, Plains, no_parts, a_part}
+
+abbrev pub lack_name : Lack → List ℕ
+lack_name lack.Many = codes "Many"
+
+-- the refusal where a leaf lacks something, at its place
+abbrev pub leaf_refusal : Leaf → Option Lack → Option Refusal
+leaf_refusal l None = None
+leaf_refusal l (Some what) = Some (record { code = 111; place = l.place; detail = details.Text (lack_name what) })
+
+-- the first leaf in the tree's order that lacks something
+module _ (lacks : Leaf → Option Lack) where
+  abbrev mutual
+    pub lack_refusal : Plain → Option Refusal
+    lack_refusal (all ts) = lacks_refusal ts
+    lack_refusal (any ts) = lacks_refusal ts
+    lack_refusal (negated t) = lack_refusal t
+    lack_refusal (leaf l) = leaf_refusal l (lacks l)
+
+    pub lacks_refusal : Plains → Option Refusal
+    lacks_refusal no_parts = None
+    lacks_refusal (a_part t ts) = first (lack_refusal t ∷ lacks_refusal ts ∷ [])

@@ -1,0 +1,90 @@
+//! What backends lack.
+
+ghost use Rattle.std.specs.Prelude.{◌≡◌, List, Option};
+ghost use Rattle.std.specs.Str.{chars};
+ghost use Rattle.event_schema.specs.declared.schema.Field.{Field};
+ghost use Rattle.backend_core.specs.Lacks.{lack_name, leaf_refusal, lack_refusal, lacks_refusal};
+ghost use Rattle.backend_core.specs.View.{tree_view, plains_of};
+ghost use Rattle.backend_core.specs.declared.lack.Lack.{Lack};
+ghost use Rattle.backend_core.specs.declared.tree.Leaf.{Leaf};
+ghost use Rattle.sig_base.specs.Judged.{Judged, first};
+
+use crate::tree::{Leaf, Tree};
+use event_schema::Schema;
+use sig_base::{Code, Detail, Fault, Refusal, Text};
+use std::alloc::Global;
+
+/// What a leaf asks that no query of a backend's language can say.
+#[derive(Clone, Copy, Debug, PartialEq, Eq)]
+pub enum Lack {
+    /// a test of a field that may have several values
+    Many,
+}
+
+impl Lack {
+    /// The word for it in a refusal.
+    pub fn name(&self) -> &str
+        ensures { chars result.now ≡ lack_name self.now }
+    {
+        match self {
+            Lack::Many => "Many",
+        }
+    }
+}
+
+/// A backend that can't say every leaf.
+pub trait Lacking {
+    ghost lacks: { Self → List Field → Leaf → Option Lack };
+
+    /// What it lacks for a leaf, if anything. Takes no memory.
+    fn lack(&self, schema: &Schema, leaf: &Leaf) -> Option<Lack>
+        ensures { result ≡ lacks self.now schema.now.fields leaf.now };
+}
+
+/// Refuses a leaf at its place where something is lacking for it (111).
+fn judge_lack(alloc: Global, leaf: &Leaf, lack: Option<Lack>) -> Result<(), Fault>
+    ensures { Judged (λ done. Unit {0}) (leaf_refusal leaf.now lack) result }
+{
+    let Some(lack) = lack else {
+        return Ok(());
+    };
+    let name = Text::copy(alloc, lack.name())?;
+    Err(Fault::Refused(Refusal {
+        code: Code::LACKS,
+        place: leaf.place,
+        detail: Detail::Text(name),
+    }))
+}
+
+/// Refuses the first leaf in a tree's order for which the backend lacks something (111), at the leaf's place.
+#[cycle(lacks)]
+pub fn judge_lacks<B: Lacking>(
+    alloc: Global,
+    backend: &B,
+    schema: &Schema,
+    tree: &Tree,
+) -> Result<(), Fault>
+    ensures { Judged (λ done. Unit {0}) (lack_refusal (B.lacks backend.now schema.now.fields) (tree_view tree.now)) result }
+{
+    match tree {
+        Tree::All(parts) => judge_parts(alloc, backend, schema, parts.as_slice()),
+        Tree::Any(parts) => judge_parts(alloc, backend, schema, parts.as_slice()),
+        Tree::Not(part) => judge_lacks(alloc, backend, schema, part),
+        Tree::Leaf(leaf) => judge_lack(alloc, leaf, backend.lack(schema, leaf)),
+    }
+}
+
+#[cycle(lacks)]
+fn judge_parts<B: Lacking>(
+    alloc: Global,
+    backend: &B,
+    schema: &Schema,
+    parts: &[Tree],
+) -> Result<(), Fault>
+    ensures { Judged (λ done. Unit {0}) (lacks_refusal (B.lacks backend.now schema.now.fields) (plains_of parts.now)) result }
+{
+    for part in parts {
+        judge_lacks(alloc, backend, schema, part)?;
+    }
+    Ok(())
+}
