@@ -3,6 +3,7 @@
 
 pub use event::Event;
 pub use fields::Fields;
+pub use names::is_legal;
 pub use schema::{Field, FieldKind, Schema, Time, TimeForm};
 pub use value::{Value, decimal, decimal_in};
 pub use values::FieldValues;
@@ -11,6 +12,7 @@ pub use values::FieldValues;
 mod checks;
 mod event;
 mod fields;
+mod names;
 mod schema;
 mod value;
 mod values;

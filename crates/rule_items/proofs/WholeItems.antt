@@ -15,11 +15,13 @@ use Rattle.sig_modifiers.specs.Written.{Written}
 use Rattle.sig_modifiers.specs.declared.form.Form.TheVariants.{Texts}
 use Rattle.sig_modifiers.specs.declared.test.Test.{Test}
 use Rattle.rule_items.specs.Items.{IsItem, IsKeyword, bare_chain, key_chain, shape_refusal, values_refusal, item_refusal}
-use Rattle.rule_items.specs.Keys.{name_in, words_in, is_legal, is_item_key, is_keyword_key}
+use Rattle.event_schema.specs.Names.{is_legal}
+use Rattle.rule_items.specs.Keys.{name_in, words_in, is_item_key, is_keyword_key}
 use Rattle.yaml_tree.specs.Nodes.{is_empty}
 use Rattle.sig_modifiers.specs.Lists.{EachOf}
 use Rattle.yaml_tree.specs.Nodes.{parts_in, key_place}
-use Rattle.rule_items.specs.Whole.{IsSome, IsPatternTest, IsWholeValue, IsWholeItem, AreWholeFields}
+use Rattle.event_schema.specs.Lists.{IsSome}
+use Rattle.rule_items.specs.Whole.{IsPatternTest, IsWholeValue, IsWholeItem, AreWholeFields}
 use Rattle.rule_items.specs.declared.item.Fields.{Fields}
 use Rattle.rule_items.specs.declared.item.Fields.TheVariants.{Keyword, Names}
 use Rattle.rule_items.specs.declared.item.Item.{Item}

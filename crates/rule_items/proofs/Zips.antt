@@ -7,7 +7,7 @@ use Rattle.sig_base.specs.declared.refusal.Refusal.{Refusal}
 use Rattle.sig_base.specs.Judged.{first}
 use Rattle.yaml_tree.specs.Nodes.{is_empty}
 use Rattle.sig_modifiers.specs.Lists.{EachOf}
-use Rattle.rule_items.specs.Whole.{IsSome}
+use Rattle.event_schema.specs.Lists.{IsSome}
 use Rattle.sig_base.proofs.Firsts.{list_at, taken_at, zip_push}
 
 pub each_more : {A : Type 0} (P : A → Type 0) (done : List A) (y : A) → EachOf P done → P y → EachOf P (done ++ y ∷ [])

@@ -1,21 +1,16 @@
 -- What the detections of every rule that is read keep: nothing in them is empty, their names are legal, and their patterns can
 -- be written.
 use Rattle.std.specs.Prelude.{ℕ, ◌≡◌, true, List, [], ◌∷◌, ⊤}
-use Rattle.std.specs.Str.{all_scalars}
 use Rattle.sig_modifiers.specs.Lists.{EachOf}
 use Rattle.sig_modifiers.specs.PlainTests.{ArePlainTests}
 use Rattle.sig_modifiers.specs.declared.test.Test.{Test}
 use Rattle.sig_modifiers.specs.declared.test.Test.TheVariants.{Absent, Exists, Fits, Equals}
-use Rattle.rule_items.specs.Keys.{is_legal}
+use Rattle.event_schema.specs.Lists.{IsSome}
+use Rattle.event_schema.specs.Names.{IsName}
 use Rattle.rule_items.specs.declared.detection.Detection.{Detection}
 use Rattle.rule_items.specs.declared.item.Fields.{Fields}
 use Rattle.rule_items.specs.declared.item.Fields.TheVariants.{Keyword, Names}
 use Rattle.rule_items.specs.declared.item.Item.{Item}
-
--- the list has an element
-abbrev pub IsSome : {A : Type 0} → List A → Type 0
-IsSome [] = ⊥
-IsSome (x ∷ xs) = ⊤
 
 abbrev pub IsPatternTest : Test → Type 0
 IsPatternTest Absent = ⊥
@@ -27,14 +22,10 @@ pub record IsWholeValue (tests : List Test) : Type 0 where
   pub some : IsSome tests
   pub each : ArePlainTests tests
 
-pub record IsWholeName (name : List ℕ) : Type 0 where
-  pub legal : is_legal name ≡ true
-  pub scalars : all_scalars name ≡ true
-
 -- at least one name, or patterns alone for a keyword
 abbrev pub AreWholeFields : Fields → List (List Test) → Type 0
 AreWholeFields Keyword values = EachOf (λ tests. EachOf IsPatternTest tests) values
-AreWholeFields (Names names) values = IsSome names × EachOf IsWholeName names
+AreWholeFields (Names names) values = IsSome names × EachOf IsName names
 
 pub record IsWholeItem (i : Item) : Type 0 where
   pub fields : AreWholeFields i.fields i.tests

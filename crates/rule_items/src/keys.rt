@@ -1,14 +1,14 @@
 //! The keys of items, divided at each `|`.
 
 ghost use Rattle.std.specs.Prelude.{◌≡◌, ◌<◌, ◌&&◌, not, true, length, IfOk, IfErr, IfSome};
-ghost use Rattle.std.specs.List.{list_all};
 ghost use Rattle.std.specs.Str.{chars, all_scalars};
 ghost use Rattle.rule_items.specs.Keys as spec;
 ghost use Rattle.yaml_tree.specs.Nodes as nodes;
 ghost use Rattle.sig_base.specs.Judged.{Judged, must};
 ghost use Rattle.rule_items.specs.Pieces.{IsKey, pieces_behind};
 
-use sig_base::{Code, Fault, Place, Text, Texts, count_of, first_char, must};
+use event_schema::is_legal;
+use sig_base::{Code, Fault, Place, Text, Texts, first_char, must};
 use std::alloc::Global;
 
 /// A field's name, the words of its modifiers, and whether there is no name, so that the values are keywords.
@@ -46,28 +46,6 @@ fn read_piece(alloc: Global, text: &str) -> Result<(Text, Option<&str>), Fault>
         piece.push(c)?;
         left = rest;
     }
-}
-
-/// Whether a character may stand in the name of a field.
-fn is_name_char(c: char) -> bool
-    ensures { result ≡ spec.is_name_char c }
-{
-    c >= ' ' && c != '\u{7f}' && c != '|'
-}
-
-fn has_name_chars(name: &str) -> bool
-    ensures { result ≡ list_all spec.is_name_char (chars name.now) }
-{
-    name.chars().all(is_name_char)
-}
-
-/// Whether this may be the name of a field.
-fn is_legal(name: &Text) -> bool
-    ensures legal { result ≡ spec.is_legal name.now }
-    ensures scalars { all_scalars name.now ≡ true }
-{
-    let count = count_of(name.as_str());
-    1 <= count && count <= 128 && has_name_chars(name.as_str())
 }
 
 /// The texts behind each `|`, of what stands behind the first.

@@ -9,7 +9,7 @@ use Rattle.std.proofs.lemmas.Slice.Eq.{bytes_eq-Decides}
 use Rattle.event_schema.specs.declared.schema.Field.{Field}
 use Rattle.rule_schema.specs.Inferred.{is_field}
 use Rattle.sig_modifiers.specs.Lists.{EachOf}
-use Rattle.rule_items.specs.Whole.{IsSome}
+use Rattle.event_schema.specs.Lists.{IsSome}
 use Rattle.sig_base.specs.declared.refusal.Place.{Place}
 use Rattle.sig_base.specs.declared.refusal.Refusal.{Refusal}
 use Rattle.sig_base.specs.Judged.{must, first}

@@ -92,6 +92,12 @@ some_step : {A B : Type 0} (p : A → Bool) (g : A → B) (P : B → Type 0) (Q 
 some_step p g P Q same x xs rest true is = rw is (iff_either ((λ h. (refl, (same x).0 h)), (λ h. (same x).1 h.1)) rest)
 some_step p g P Q same x xs rest false is = rw is ((λ h. inr (rest.0 h)), (λ h. elim h [ inl e ↦ absurd (let f : false ≡ true = e.0 in cc) | inr e ↦ rest.1 e ]))
 
+-- what each element's two words say of it, they say of some element
+pub some_same : {A : Type 0} (P Q : A → Type 0) → ((x : A) → P x ↔ Q x) → (xs : List A) → SomeOf P xs ↔ SomeOf Q xs
+some_same P Q same [] = iff_same
+some_same P Q same (x ∷ xs) = iff_either (same x) (some_same P Q same xs)
+
+
 pub some_filtered : {A B : Type 0} (p : A → Bool) (g : A → B) (P : B → Type 0) (Q : A → Type 0) → ((x : A) → P (g x) ↔ Q x)
     → (xs : List A) → SomeOf P (map g (filter p xs)) ↔ SomeOf (λ y. (p y ≡ true) × Q y) xs
 some_filtered p g P Q same [] = iff_same

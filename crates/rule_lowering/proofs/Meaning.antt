@@ -2,10 +2,11 @@
 use Rattle.std.proofs.Common.{ℕ, zero, suc, ◌≡◌, ◌↔◌, true, false, List, [], ◌∷◌, length, map, refl, sym, ap, subst, ◌∙◌}
 use Rattle.std.specs.Prelude.{Option, Some, None, unwrap_or}
 use Rattle.std.specs.Fmt.{signed_decimal}
+use Rattle.std.specs.List.{list_all}
 use Rattle.backend_core.specs.Holds.{TestHolds, TreeHolds}
 use Rattle.backend_core.specs.Trees.{Plain}
 use Rattle.event_schema.specs.Events.{IsEvent}
-use Rattle.event_schema.specs.Rows.{field_number, field_value, value_if_any, value_text}
+use Rattle.event_schema.specs.Rows.{field_number, field_values, values_if_any, value_text}
 use Rattle.event_schema.specs.declared.schema.Field.{Field}
 use Rattle.event_schema.specs.declared.schema.Schema.{Schema}
 use Rattle.event_schema.specs.declared.value.Value.{Value}
@@ -30,20 +31,20 @@ use Rattle.sig_strings.specs.Fits.{Fits}
 use Rattle.sig_strings.specs.declared.part.Part.{Part}
 use Rattle.rule_lowering.specs.Joining.{join}
 use Rattle.rule_lowering.specs.TreeOf.{leaf_test, test_tree, value_tree, number_of, searched, keyword_tree, fields_tree, item_tree, alternative_tree, detection_tree, numbered_tree, form_tree, form_trees, tree_of}
-use Rattle.rule_lowering.proofs.Decimals.{characters, no_wildcard, own_text, low_decimal, low_text}
-use Rattle.rule_lowering.proofs.JoiningLemmas.{iff_same, iff_then, iff_not, iff_both, iff_either, some_filtered, join_holds, join_map}
+use Rattle.rule_lowering.proofs.Decimals.{is_low, characters, no_wildcard, own_text, low_decimal, low_text}
+use Rattle.rule_lowering.proofs.JoiningLemmas.{some_same, iff_same, iff_then, iff_not, iff_both, iff_either, some_filtered, join_holds, join_map}
 
 -- where there is no value behind the last field's
-behind_last : (fields : List Field) (row : List (Option Value)) → IsEvent fields row → field_value row (length fields) ≡ None
+behind_last : (fields : List Field) (row : List (List Value)) → IsEvent fields row → field_values row (length fields) ≡ []
 behind_last [] [] h = refl
 behind_last [] (v ∷ vs) h = absurd h
 behind_last (f ∷ fs) [] h = absurd h
 behind_last (f ∷ fs) (v ∷ vs) h = behind_last fs vs h.1
 
-numbered_value : (fields : List Field) (row : List (Option Value)) → IsEvent fields row → (number : Option ℕ)
-    → field_value row (unwrap_or number (length fields)) ≡ value_if_any row number
-numbered_value fields row h None = behind_last fields row h
-numbered_value fields row h (Some k) = refl
+numbered_values : (fields : List Field) (row : List (List Value)) → IsEvent fields row → (number : Option ℕ)
+    → field_values row (unwrap_or number (length fields)) ≡ values_if_any row number
+numbered_values fields row h None = behind_last fields row h
+numbered_values fields row h (Some k) = refl
 
 -- where a pattern of characters alone fits, without regard to case, the texts that are its own after folding
 module _ (plain : (parts : List Part) (text : List ℕ) → has_wildcard parts ≡ false → Fits parts text false ↔ (folded text ≡ folded (plain_text parts))) where
@@ -54,32 +55,32 @@ module _ (plain : (parts : List Part) (text : List ℕ) → has_wildcard parts �
   fits_decimal : (low text : List ℕ) → Fits (characters low) text false → folded text ≡ folded low
   fits_decimal low text h = (plain (characters low) text (no_wildcard low)).0 h ∙ ap folded (own_text low)
 
-  test_means : (test : Test) (v : Option Value) → TestHolds (leaf_test test) v ↔ Holds test v
-  test_means tests.Absent None = iff_same
-  test_means tests.Absent (Some v) = iff_same
-  test_means (tests.Exists true) None = ((λ h. absurd h), (λ h. absurd (let f : true ≡ false = h in cc)))
-  test_means (tests.Exists true) (Some v) = ((λ h. refl), (λ h. tt))
-  test_means (tests.Exists false) None = ((λ h. refl), (λ h. tt))
-  test_means (tests.Exists false) (Some v) = ((λ h. absurd h), (λ h. absurd (let f : false ≡ true = h in cc)))
-  test_means (tests.Fits parts cased) None = iff_same
-  test_means (tests.Fits parts cased) (Some v) = iff_same
-  test_means (tests.Equals n) None = iff_same
-  test_means (tests.Equals n) (Some v) = (
-    (λ h. low_text (value_text v) (signed_decimal n) (low_decimal n) (fits_decimal (signed_decimal n) (value_text v) h)),
-    (λ h. decimal_fits (signed_decimal n) (value_text v) (ap folded h)),
+  decimal_means : (low text : List ℕ) → list_all is_low low ≡ true → Fits (characters low) text false ↔ (text ≡ low)
+  decimal_means low text lows = (
+    (λ h. low_text text low lows (fits_decimal low text h)),
+    (λ h. decimal_fits low text (ap folded h)),
   )
 
-  module _ (fields : List Field) (row : List (Option Value)) (event : IsEvent fields row) where
+  test_means : (test : Test) (values : List Value) → TestHolds (leaf_test test) values ↔ Holds test values
+  test_means tests.Absent values = iff_same
+  test_means (tests.Exists true) values = iff_same
+  test_means (tests.Exists false) values = iff_same
+  test_means (tests.Fits parts cased) values = iff_same
+  test_means (tests.Equals n) values =
+      some_same (λ v. Fits (characters (signed_decimal n)) (value_text v) false) (λ v. value_text v ≡ signed_decimal n)
+      (λ v. decimal_means (signed_decimal n) (value_text v) (low_decimal n)) values
+
+  module _ (fields : List Field) (row : List (List Value)) (event : IsEvent fields row) where
     leaf_means : (place : Place) (name : List ℕ) (test : Test)
-        → TreeHolds row (test_tree place (number_of fields name) test) ↔ Holds test (value_if_any row (field_number fields name))
+        → TreeHolds row (test_tree place (number_of fields name) test) ↔ Holds test (values_if_any row (field_number fields name))
     leaf_means place name test =
-        subst (λ (v : Option Value). TestHolds (leaf_test test) (field_value row (number_of fields name)) ↔ Holds test v)
-        (numbered_value fields row event (field_number fields name)) (test_means test (field_value row (number_of fields name)))
+        subst (λ (values : List Value). TestHolds (leaf_test test) (field_values row (number_of fields name)) ↔ Holds test values)
+        (numbered_values fields row event (field_number fields name)) (test_means test (field_values row (number_of fields name)))
 
     value_means : (place : Place) (name : List ℕ) (ts : List Test)
         → TreeHolds row (value_tree place (number_of fields name) ts) ↔ FieldSatisfies fields row name ts
     value_means place name ts =
-        join_map row Any (test_tree place (number_of fields name)) (λ t. Holds t (value_if_any row (field_number fields name))) (leaf_means place name) ts
+        join_map row Any (test_tree place (number_of fields name)) (λ t. Holds t (values_if_any row (field_number fields name))) (leaf_means place name) ts
 
     joined_means : (j : Joined) (f : List Test → Plain) (Q : List Test → Type 0) → ((ts : List Test) → TreeHolds row (f ts) ↔ Q ts)
         → (values : List (List Test)) → TreeHolds row (join j (map f values)) ↔ JoinedHolds j Q values
@@ -131,7 +132,7 @@ module _ (plain : (parts : List Part) (text : List ℕ) → has_wildcard parts �
       some_forms_mean ds no_forms = iff_same
       some_forms_mean ds (form f fs) = iff_either (form_means ds f) (some_forms_mean ds fs)
 
-  pub tree_means : (schema : Schema) (rule : PlainRule) (row : List (Option Value)) → IsEvent schema.fields row
+  pub tree_means : (schema : Schema) (rule : PlainRule) (row : List (List Value)) → IsEvent schema.fields row
       → TreeHolds row (tree_of schema rule) ↔ Matches schema.fields row rule
   tree_means schema rule row event =
       join_map row Any (form_tree schema.fields rule.detections) (FormHolds schema.fields row rule.detections)

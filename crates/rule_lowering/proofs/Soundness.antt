@@ -12,7 +12,8 @@ use Rattle.rule_schema.specs.Inferred.{fields_refusal, fit_refusal, items_of}
 use Rattle.sig_modifiers.specs.Lists.{EachOf}
 use Rattle.rule_model.specs.Plain.{PlainRule}
 use Rattle.sig_modifiers.specs.PlainTests.{IsPlainTest}
-use Rattle.rule_items.specs.Whole.{IsSome, IsWholeValue, AreWholeFields, IsWholeItem, IsWholeAlternative, IsWholeDetection}
+use Rattle.event_schema.specs.Lists.{IsSome}
+use Rattle.rule_items.specs.Whole.{IsWholeValue, AreWholeFields, IsWholeItem, IsWholeAlternative, IsWholeDetection}
 use Rattle.rule_model.specs.Whole.{IsWholeForm, AreSomeForms, AreWholeForms, IsWhole}
 use Rattle.rule_items.specs.declared.detection.Detection.{Detection}
 use Rattle.rule_items.specs.declared.item.Fields.{Fields}

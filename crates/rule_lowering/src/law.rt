@@ -16,7 +16,7 @@ use sig_strings::plain_fits;
 
 /// The tree of a rule holds of an event exactly where the rule matches it.
 pub fn tree_means_rule()
-    ensures { (schema : Schema) (rule : PlainRule) (row : List (Option Value))
+    ensures { (schema : Schema) (rule : PlainRule) (row : List (List Value))
         → IsEvent schema.fields row → TreeHolds row (tree_of schema rule) ↔ Matches schema.fields row rule }
 {
     plain_fits();

@@ -44,7 +44,7 @@ pub fn lower(alloc: Global, limits: &Limits, rule: &Rule, schema: &Schema) -> Re
     ensures tree { Judged (λ t. tree_view t ≡ tree_of schema.now (rule_view rule.now)) (leaves_refusal limits.now schema.now (rule_view rule.now)) result }
     ensures sound { IsWhole (rule_view rule.now) → fit_refusal schema.now (rule_view rule.now) ≡ None
         → IfOk result (λ t. IsSound schema.now.fields (tree_view t)) }
-    ensures means { IfOk result (λ t. (row : List (Option Value))
+    ensures means { IfOk result (λ t. (row : List (List Value))
         → IsEvent schema.now.fields row → TreeHolds row (tree_view t) ↔ Matches schema.now.fields row (rule_view rule.now)) }
 {
     tree_means_rule();

@@ -31,6 +31,7 @@ fn schema(alloc: Global, names: &[(&str, bool)]) -> Result<Schema, Fail> {
             at,
             search: *search,
             cased: false,
+            many: false,
         })?;
     }
     Ok(Schema {

@@ -22,7 +22,7 @@ use Rattle.rule_model.specs.Conditions.{names_of, IsFormula, listed_refusal, con
 use Rattle.yaml_tree.specs.Nodes.{is_empty}
 use Rattle.yaml_tree.specs.Nodes.{parts_in, value_in, entries_in, refused_by, text_in}
 use Rattle.sig_modifiers.specs.Lists.{EachOf}
-use Rattle.rule_items.specs.Whole.{IsSome}
+use Rattle.event_schema.specs.Lists.{IsSome}
 use Rattle.rule_model.specs.Whole.{IsWholeForm}
 
 -- a list that isn't empty isn't refused as such

@@ -3,7 +3,8 @@
 use Rattle.std.specs.Prelude.{ℕ, ◌<◌, length, ⊤}
 use Rattle.sig_conditions.specs.Formulas.{Form, FDetection, FNot, FAnd, FOr, Forms, no_forms, form}
 use Rattle.sig_modifiers.specs.Lists.{EachOf}
-use Rattle.rule_items.specs.Whole.{IsSome, IsWholeDetection}
+use Rattle.event_schema.specs.Lists.{IsSome}
+use Rattle.rule_items.specs.Whole.{IsWholeDetection}
 use Rattle.rule_model.specs.Plain.{PlainRule}
 
 -- the numbers are below this one, and no `and` or `or` is empty

@@ -9,7 +9,7 @@ ghost use Rattle.rule_model.specs.Conditions as spec;
 ghost use Rattle.rule_items.specs.Detections.{is_key};
 ghost use Rattle.sig_modifiers.specs.Lists.{EachOf};
 ghost use Rattle.yaml_tree.specs.Nodes.{parts_in};
-ghost use Rattle.rule_items.specs.Whole.{IsSome};
+ghost use Rattle.event_schema.specs.Lists.{IsSome};
 ghost use Rattle.rule_model.specs.Whole.{IsWholeForm};
 
 use sig_base::{Code, Fault, Limits, Text, Texts, must, refused};

@@ -13,7 +13,7 @@ use Rattle.rule_schema.specs.Inferred.{Use, clashes, clash_behind, distinct, use
 use Rattle.sig_modifiers.specs.Lists.{EachOf}
 use Rattle.rule_model.specs.Plain.{PlainRule}
 use Rattle.rule_model.specs.Whole.{IsWhole}
-use Rattle.rule_items.specs.Whole.{IsWholeName, IsWholeItem, IsWholeAlternative, IsWholeDetection, AreWholeFields}
+use Rattle.rule_items.specs.Whole.{IsWholeItem, IsWholeAlternative, IsWholeDetection, AreWholeFields}
 use Rattle.rule_items.specs.declared.detection.Detection.{Detection}
 use Rattle.rule_items.specs.declared.item.Fields.{Fields}
 use Rattle.rule_items.specs.declared.item.Fields.TheVariants.{Keyword, Names}

@@ -26,6 +26,7 @@ fn text_field(alloc: Global, name: &Text) -> Result<Field, Fault>
         at,
         search: false,
         cased: false,
+        many: false,
     })
 }
 

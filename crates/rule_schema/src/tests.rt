@@ -119,6 +119,7 @@ fn misfit(alloc: Global, search: bool, items: &[(&str, &str)]) -> Result<String,
             at: texts(alloc, name, "")?,
             search,
             cased: false,
+            many: false,
         })?;
     }
     let schema = Schema {

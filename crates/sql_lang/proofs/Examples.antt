@@ -20,7 +20,7 @@ use Rattle.sql_lang.specs.Verdict.{verdict, IsVerdict}
 use Rattle.sql_lang.proofs.Judged.{verdict_is}
 
 abbrev pub field : List ℕ → FieldKind → Field
-field name kind = record { name = name; kind = kind; at = name ∷ []; search = false; cased = false }
+field name kind = record { name = name; kind = kind; at = name ∷ []; search = false; cased = false; many = false }
 
 abbrev pub schema : Schema
 schema = record {

@@ -6,7 +6,8 @@ use Rattle.sig_base.specs.Folding.{folded}
 use Rattle.event_schema.specs.Inferred.{text_field}
 use Rattle.sql_lang.specs.Names.{is_named, column_of}
 use Rattle.sqlite_writer.specs.Guarded.{name_at}
-use Rattle.sqlite_writer.specs.Schemas.{AreTexts, AreScalars, IsOther, AreApart}
+use Rattle.event_schema.specs.Schemas.{IsOther, AreApart}
+use Rattle.sqlite_writer.specs.Schemas.{AreTexts, AreScalars}
 
 named_itself : (name : List ℕ) → is_named name name ≡ true
 named_itself name = (bytes_eq-Decides (folded name) (folded name)).1 refl

@@ -1,5 +1,5 @@
 -- What a written test says of a row: unknown without a value, and else whether the pattern fits.
-use Rattle.std.proofs.Common.{ℕ, zero, suc, ◌≡◌, ◌<◌, refl, sym, ap, Bool, true, false, List, [], ◌∷◌, length, subst}
+use Rattle.std.proofs.Common.{ℕ, zero, suc, ◌≡◌, ◌<◌, ◌≤◌, ◌⊎◌, inl, inr, refl, sym, ap, Bool, true, false, if◌then◌else◌, List, [], ◌∷◌, length, subst, arith}
 use Rattle.std.specs.Prelude.{◌↔◌, Option, Some, None, ⊤}
 use Rattle.std.specs.Str.{bytes_eq}
 use Rattle.std.proofs.lemmas.Slice.Eq.{bytes_eq-Decides}
@@ -8,7 +8,8 @@ use Rattle.event_schema.specs.declared.schema.Field.{Field}
 use Rattle.event_schema.specs.declared.schema.FieldKind.TheVariants as kinds
 use Rattle.event_schema.specs.declared.value.Value.{Value}
 use Rattle.event_schema.specs.declared.value.Value.TheVariants as values
-use Rattle.event_schema.specs.Events.{IsEvent, IsIfAny, IsOfKind}
+use Rattle.event_schema.specs.Events.{IsEvent, IsOfKind}
+use Rattle.event_schema.specs.Lists.{EachOf}
 use Rattle.sig_strings.specs.Edits.{all_written, has_wildcard, plain_text}
 use Rattle.sig_strings.specs.Fits.{Fits}
 use Rattle.sig_strings.specs.declared.part.Part.{Part}
@@ -23,13 +24,16 @@ use Rattle.sql_layout.specs.Escaped.{like_text, glob_text, characters}
 use Rattle.sql_lang.specs.Meaning.{Truth, Yes, Unknown, truth, negation, both, value_at, is_absent, like_fits, glob_fits, on_text, compared, test_value}
 use Rattle.sql_patterns.specs.Writable.{is_writable, sql_parts}
 use Rattle.backend_core.specs.Holds.{TestHolds}
-use Rattle.event_schema.specs.Rows.{field_value}
+use Rattle.backend_core.specs.Lacks.{leaf_refusal}
+use Rattle.backend_core.specs.declared.lack.Lack.TheVariants.{Many}
+use Rattle.event_schema.specs.Rows.{field_values, first_value, first_values}
 use Rattle.backend_core.specs.declared.tree.LeafTest.{LeafTest}
 use Rattle.backend_core.specs.declared.tree.LeafTest.TheVariants as tests
 use Rattle.backend_core.specs.declared.tree.Leaf.{Leaf}
 use Rattle.backend_core.specs.Trees.{leaf}
 use Rattle.backend_core.specs.Sound.{IsSoundTest, IsSound}
 use Rattle.sqlite_writer.specs.Guarded.{name_at, written_test, is_unsure, guarded_test, sql_tree}
+use Rattle.sqlite_writer.specs.Lacking.{is_many, sqlite_lacks}
 use Rattle.sqlite_writer.specs.Schemas.{AreTexts}
 use Rattle.sqlite_writer.proofs.PolarityLemmas.{EvenIs, OddIs}
 
@@ -49,10 +53,31 @@ same_characters (Run ∷ parts) = same_characters parts
 same_characters (Dash ∷ parts) = same_characters parts
 same_characters (Hole name ∷ parts) = same_characters parts
 
-pub same_value : (row : List (Option Value)) (k : ℕ) → value_at row k ≡ field_value row k
-same_value [] k = refl
-same_value (v ∷ vs) zero = refl
-same_value (v ∷ vs) (suc k) = same_value vs k
+-- ---- one value, or none
+
+-- the values of a field that has one or none
+abbrev one_value : Option Value → List Value
+one_value None = []
+one_value (Some v) = v ∷ []
+
+few_values : (all : List Value) → length all ≤ 1 → all ≡ one_value (first_value all)
+few_values [] h = refl
+few_values (v ∷ []) h = refl
+few_values (v ∷ w ∷ all) h = absurd (omega arith)
+
+-- a field that may not have several values has what its column has
+pub one_at : (fields : List Field) (row : List (List Value)) (k : ℕ) → k < length fields → IsEvent fields row → is_many fields k ≡ false
+    → field_values row k ≡ one_value (value_at (first_values row) k)
+one_at [] row k h event one = absurd (omega arith)
+one_at (field ∷ fields) [] k h event one = absurd event
+one_at (field ∷ fields) (all ∷ row) zero h event one = few_values all (event.0.few one)
+one_at (field ∷ fields) (all ∷ row) (suc k) h event one = one_at fields row k (omega arith) event.1 one
+
+not_many : (fields : List Field) (l : Leaf) → leaf_refusal l (sqlite_lacks fields l) ≡ None → is_many fields l.field ≡ false
+not_many fields l none = by (is_many fields l.field) refl none where
+  by : (b : Bool) → is_many fields l.field ≡ b → leaf_refusal l (if b then Some Many else None) ≡ None → is_many fields l.field ≡ false
+  by true is some = absurd cc
+  by false is some = is
 
 -- no value, or a text
 abbrev pub IsTextIfAny : Option Value → Type 0
@@ -60,17 +85,17 @@ IsTextIfAny None = ⊤
 IsTextIfAny (Some (values.Text text)) = ⊤
 IsTextIfAny (Some (values.Whole n)) = ⊥
 
-text_if_any : (field : Field) (v : Option Value) → field.kind ≡ kinds.Text → IsIfAny field.kind v → IsTextIfAny v
-text_if_any field None kind h = tt
-text_if_any field (Some (values.Text text)) kind h = tt
-text_if_any field (Some (values.Whole n)) kind h = subst (λ k. IsOfKind k (values.Whole n)) kind h
+first_text : (field : Field) (all : List Value) → field.kind ≡ kinds.Text → EachOf (IsOfKind field.kind) all → IsTextIfAny (first_value all)
+first_text field [] kind h = tt
+first_text field (values.Text text ∷ all) kind h = tt
+first_text field (values.Whole n ∷ all) kind h = subst (λ k. IsOfKind k (values.Whole n)) kind h.0
 
-pub event_texts : (fields : List Field) (row : List (Option Value)) (k : ℕ) → AreTexts fields → IsEvent fields row → IsTextIfAny (field_value row k)
+pub event_texts : (fields : List Field) (row : List (List Value)) (k : ℕ) → AreTexts fields → IsEvent fields row → IsTextIfAny (value_at (first_values row) k)
 event_texts [] [] k texts event = tt
-event_texts [] (v ∷ vs) k texts event = absurd event
+event_texts [] (all ∷ row) k texts event = absurd event
 event_texts (field ∷ fields) [] k texts event = absurd event
-event_texts (field ∷ fields) (v ∷ vs) zero texts event = text_if_any field v texts.0 event.0
-event_texts (field ∷ fields) (v ∷ vs) (suc k) texts event = event_texts fields vs k texts.2 event.1
+event_texts (field ∷ fields) (all ∷ row) zero texts event = first_text field all texts.0 event.0.kinds
+event_texts (field ∷ fields) (all ∷ row) (suc k) texts event = event_texts fields row k texts.2 event.1
 
 -- ---- what a test says of a value
 
@@ -82,22 +107,26 @@ Says P (Some (values.Whole n)) value = ⊥
 abbrev FitsIt : List Part → Bool → List ℕ → Type 0
 FitsIt parts cased text = Fits parts text cased
 
+-- what a test says of one value, or of none
+abbrev OneSays : LeafTest → Option Value → Type 0
+OneSays test v = TestHolds test (one_value v)
+
 pub says_even : (parts : List Part) (cased : Bool) (v : Option Value) (value : Truth) → IsTextIfAny v → Says (FitsIt parts cased) v value
-    → EvenIs value (TestHolds (tests.Fits parts cased) v)
+    → EvenIs value (OneSays (tests.Fits parts cased) v)
 says_even parts cased None value text h = subst (λ w. EvenIs w ⊥) (sym h) (λ x. x)
 says_even parts cased (Some (values.Text text)) value t h = by h.0 h.1 h.2 where
-  by : (b : Bool) → value ≡ truth b → (b ≡ true) ↔ Fits parts text cased → EvenIs value (Fits parts text cased)
-  by true is so = subst (λ w. EvenIs w (Fits parts text cased)) (sym is) (so.0 refl)
-  by false is so = subst (λ w. EvenIs w (Fits parts text cased)) (sym is) (λ x. let e = so.1 x in absurd cc)
+  by : (b : Bool) → value ≡ truth b → (b ≡ true) ↔ Fits parts text cased → EvenIs value (Fits parts text cased ⊎ ⊥)
+  by true is so = subst (λ w. EvenIs w (Fits parts text cased ⊎ ⊥)) (sym is) (inl (so.0 refl))
+  by false is so = subst (λ w. EvenIs w (Fits parts text cased ⊎ ⊥)) (sym is) (λ x. elim x [ inl y ↦ (let e = so.1 y in absurd cc) | inr n ↦ n ])
 says_even parts cased (Some (values.Whole n)) value text h = absurd h
 
 pub says_odd : (parts : List Part) (cased : Bool) (v : Option Value) (value : Truth) → IsTextIfAny v → Says (FitsIt parts cased) v value
-    → OddIs (both (negation (truth (is_absent v))) (both value Yes)) (TestHolds (tests.Fits parts cased) v)
+    → OddIs (both (negation (truth (is_absent v))) (both value Yes)) (OneSays (tests.Fits parts cased) v)
 says_odd parts cased None value text h = λ x. x
 says_odd parts cased (Some (values.Text text)) value t h = by h.0 h.1 h.2 where
-  by : (b : Bool) → value ≡ truth b → (b ≡ true) ↔ Fits parts text cased → OddIs (both value Yes) (Fits parts text cased)
-  by true is so = subst (λ w. OddIs (both w Yes) (Fits parts text cased)) (sym is) (so.0 refl)
-  by false is so = subst (λ w. OddIs (both w Yes) (Fits parts text cased)) (sym is) (λ x. let e = so.1 x in absurd cc)
+  by : (b : Bool) → value ≡ truth b → (b ≡ true) ↔ Fits parts text cased → OddIs (both value Yes) (Fits parts text cased ⊎ ⊥)
+  by true is so = subst (λ w. OddIs (both w Yes) (Fits parts text cased ⊎ ⊥)) (sym is) (inl (so.0 refl))
+  by false is so = subst (λ w. OddIs (both w Yes) (Fits parts text cased ⊎ ⊥)) (sym is) (λ x. elim x [ inl y ↦ (let e = so.1 y in absurd cc) | inr n ↦ n ])
 says_odd parts cased (Some (values.Whole n)) value text h = absurd h
 
 -- ---- the tests that are written
@@ -155,24 +184,24 @@ module _
       has_is : test_value (test_of fields (has_value name)) row ≡ negation (truth (is_absent (value_at row k)))
       has_is = rw named refl
 
-      has_even : (v : Option Value) → EvenIs (negation (truth (is_absent v))) (TestHolds tests.Has v)
+      has_even : (v : Option Value) → EvenIs (negation (truth (is_absent v))) (OneSays tests.Has v)
       has_even None = λ x. x
       has_even (Some v) = tt
 
-      has_odd : (v : Option Value) → OddIs (negation (truth (is_absent v))) (TestHolds tests.Has v)
+      has_odd : (v : Option Value) → OddIs (negation (truth (is_absent v))) (OneSays tests.Has v)
       has_odd None = λ x. x
       has_odd (Some v) = tt
 
-      absent_even : (v : Option Value) → EvenIs (truth (is_absent v)) (TestHolds tests.Absent v)
+      absent_even : (v : Option Value) → EvenIs (truth (is_absent v)) (OneSays tests.Absent v)
       absent_even None = tt
       absent_even (Some v) = λ x. x
 
-      absent_odd : (v : Option Value) → OddIs (truth (is_absent v)) (TestHolds tests.Absent v)
+      absent_odd : (v : Option Value) → OddIs (truth (is_absent v)) (OneSays tests.Absent v)
       absent_odd None = tt
       absent_odd (Some v) = λ x. x
 
       test_even : (test : LeafTest) → IsSoundTest test
-          → EvenIs (tree_value fields row (guarded_test false name test)) (TestHolds test (value_at row k))
+          → EvenIs (tree_value fields row (guarded_test false name test)) (OneSays test (value_at row k))
       test_even tests.Has sound = rw named (has_even (value_at row k))
       test_even tests.Absent sound = rw named (absent_even (value_at row k))
       test_even (tests.Fits parts cased) sound =
@@ -180,27 +209,26 @@ module _
           (test_says cased parts sound.written)
 
       test_odd : (test : LeafTest) → IsSoundTest test
-          → OddIs (tree_value fields row (guarded_test (is_unsure test) name test)) (TestHolds test (value_at row k))
+          → OddIs (tree_value fields row (guarded_test (is_unsure test) name test)) (OneSays test (value_at row k))
       test_odd tests.Has sound = rw named (has_odd (value_at row k))
       test_odd tests.Absent sound = rw named (absent_odd (value_at row k))
       test_odd (tests.Fits parts cased) sound =
           let value = test_value (test_of fields (written_test name (tests.Fits parts cased))) row in
-          subst (λ (w : Truth). OddIs (both w (both value Yes)) (TestHolds (tests.Fits parts cased) (value_at row k))) (sym has_is)
+          subst (λ (w : Truth). OddIs (both w (both value Yes)) (OneSays (tests.Fits parts cased) (value_at row k))) (sym has_is)
           (says_odd parts cased (value_at row k) value text (test_says cased parts sound.written))
 
-    module _ (fields : List Field) (row : List (Option Value)) (texts : AreTexts fields) (event : IsEvent fields row)
+    module _ (fields : List Field) (row : List (List Value)) (texts : AreTexts fields) (event : IsEvent fields row)
         (found : (k : ℕ) → k < length fields → column_of fields (name_at fields k) ≡ Some k) where
-      text_at : (k : ℕ) → IsTextIfAny (value_at row k)
-      text_at k = subst IsTextIfAny (sym (same_value row k)) (event_texts fields row k texts event)
+      pub leaf_even : (l : Leaf) → IsSound fields (leaf l) → leaf_refusal l (sqlite_lacks fields l) ≡ None
+          → EvenIs (tree_value fields (first_values row) (sql_tree fields false (leaf l))) (TestHolds l.test (field_values row l.field))
+      leaf_even l sound none =
+          subst (λ (all : List Value). EvenIs (tree_value fields (first_values row) (sql_tree fields false (leaf l))) (TestHolds l.test all))
+          (sym (one_at fields row l.field sound.0 event (not_many fields l none)))
+          (test_even fields (first_values row) (name_at fields l.field) l.field (found l.field sound.0) (event_texts fields row l.field texts event) l.test sound.1)
 
-      pub leaf_even : (l : Leaf) → IsSound fields (leaf l)
-          → EvenIs (tree_value fields row (sql_tree fields false (leaf l))) (TestHolds l.test (field_value row l.field))
-      leaf_even l sound =
-          subst (λ (v : Option Value). EvenIs (tree_value fields row (sql_tree fields false (leaf l))) (TestHolds l.test v)) (same_value row l.field)
-          (test_even fields row (name_at fields l.field) l.field (found l.field sound.0) (text_at l.field) l.test sound.1)
-
-      pub leaf_odd : (l : Leaf) → IsSound fields (leaf l)
-          → OddIs (tree_value fields row (sql_tree fields true (leaf l))) (TestHolds l.test (field_value row l.field))
-      leaf_odd l sound =
-          subst (λ (v : Option Value). OddIs (tree_value fields row (sql_tree fields true (leaf l))) (TestHolds l.test v)) (same_value row l.field)
-          (test_odd fields row (name_at fields l.field) l.field (found l.field sound.0) (text_at l.field) l.test sound.1)
+      pub leaf_odd : (l : Leaf) → IsSound fields (leaf l) → leaf_refusal l (sqlite_lacks fields l) ≡ None
+          → OddIs (tree_value fields (first_values row) (sql_tree fields true (leaf l))) (TestHolds l.test (field_values row l.field))
+      leaf_odd l sound none =
+          subst (λ (all : List Value). OddIs (tree_value fields (first_values row) (sql_tree fields true (leaf l))) (TestHolds l.test all))
+          (sym (one_at fields row l.field sound.0 event (not_many fields l none)))
+          (test_odd fields (first_values row) (name_at fields l.field) l.field (found l.field sound.0) (event_texts fields row l.field texts event) l.test sound.1)

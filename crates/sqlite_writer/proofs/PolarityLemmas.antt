@@ -1,7 +1,10 @@
 -- Below an even number of words NOT a tree is yes exactly where it holds, and below an odd number it is no exactly where it
 -- doesn't.
-use Rattle.std.proofs.Common.{◌≡◌, refl, ◌⊎◌, inl, inr, List, true, false}
-use Rattle.std.specs.Prelude.{◌↔◌, Option}
+use Rattle.std.proofs.Common.{◌≡◌, refl, sym, ◌∙◌, ◌⊎◌, inl, inr, List, [], ◌∷◌, true, false}
+use Rattle.std.specs.Prelude.{◌↔◌, Option, None}
+use Rattle.sig_base.specs.Judged.{first}
+use Rattle.sig_base.specs.declared.refusal.Refusal.{Refusal}
+use Rattle.sig_base.proofs.Checks.{first_one, first_holds}
 use Rattle.event_schema.specs.declared.schema.Field.{Field}
 use Rattle.event_schema.specs.declared.value.Value.{Value}
 use Rattle.sql_lang.specs.Meaning.{Truth, Yes, No, Unknown, both, either, negation}
@@ -9,7 +12,9 @@ use Rattle.sql_layout.specs.Trees.{tree_value, all_trees, any_tree}
 use Rattle.backend_core.specs.declared.tree.Leaf.{Leaf}
 use Rattle.backend_core.specs.Trees.{Plain, Plains, no_parts, a_part, all, any, negated, leaf}
 use Rattle.backend_core.specs.Holds.{TreeHolds, EachHolds, OneHolds}
+use Rattle.backend_core.specs.Lacks.{leaf_refusal, lack_refusal, lacks_refusal}
 use Rattle.backend_core.specs.Sound.{IsSound, AreSound}
+use Rattle.backend_core.specs.declared.lack.Lack.{Lack}
 use Rattle.sqlite_writer.specs.Guarded.{sql_tree, sql_trees}
 
 -- yes exactly where H holds
@@ -80,54 +85,75 @@ negation_odd Yes H h = λ x. x h
 negation_odd No H h = h
 negation_odd Unknown H h = h
 
-module _ (fields : List Field) (row : List (Option Value))
-    (leaf_even : (l : Leaf) → IsSound fields (leaf l) → EvenIs (tree_value fields row (sql_tree fields false (leaf l))) (TreeHolds row (leaf l)))
-    (leaf_odd : (l : Leaf) → IsSound fields (leaf l) → OddIs (tree_value fields row (sql_tree fields true (leaf l))) (TreeHolds row (leaf l))) where
+-- where nothing is lacking for two parts one after another, nothing is for either
+two_lack : (a b : Option Refusal) → first (a ∷ b ∷ []) ≡ None → (a ≡ None) × (b ≡ None)
+two_lack a b none = let both = first_holds a (b ∷ []) none in (both.0, sym (first_one b) ∙ both.1)
+
+-- The cells are what the row's query looks at, and the row is what its tree does.
+module _ (fields : List Field) (lacks : Leaf → Option Lack) (cells : List (Option Value)) (row : List (List Value))
+    (leaf_even : (l : Leaf) → IsSound fields (leaf l) → leaf_refusal l (lacks l) ≡ None
+    → EvenIs (tree_value fields cells (sql_tree fields false (leaf l))) (TreeHolds row (leaf l)))
+    (leaf_odd : (l : Leaf) → IsSound fields (leaf l) → leaf_refusal l (lacks l) ≡ None
+    → OddIs (tree_value fields cells (sql_tree fields true (leaf l))) (TreeHolds row (leaf l))) where
   mutual
-    pub tree_even : (t : Plain) → IsSound fields t → EvenIs (tree_value fields row (sql_tree fields false t)) (TreeHolds row t)
-    tree_even (all no_parts) s = absurd s.0
-    tree_even (all (a_part t ts)) s =
-        both_even (tree_value fields row (sql_tree fields false t)) (all_trees fields row (sql_trees fields false ts)) (TreeHolds row t) (EachHolds row ts)
-        (tree_even t s.1.0) (each_even ts s.1.1)
-    tree_even (any no_parts) s = absurd s.0
-    tree_even (any (a_part t ts)) s =
-        either_even (tree_value fields row (sql_tree fields false t)) (any_tree fields row (sql_trees fields false ts)) (TreeHolds row t) (OneHolds row ts)
-        (tree_even t s.1.0) (one_even ts s.1.1)
-    tree_even (negated t) s = negation_even (tree_value fields row (sql_tree fields true t)) (TreeHolds row t) (tree_odd t s)
-    tree_even (leaf l) s = leaf_even l s
+    pub tree_even : (t : Plain) → IsSound fields t → lack_refusal lacks t ≡ None
+        → EvenIs (tree_value fields cells (sql_tree fields false t)) (TreeHolds row t)
+    tree_even (all no_parts) s n = absurd s.0
+    tree_even (all (a_part t ts)) s n =
+        let none = two_lack (lack_refusal lacks t) (lacks_refusal lacks ts) n in
+        both_even (tree_value fields cells (sql_tree fields false t)) (all_trees fields cells (sql_trees fields false ts)) (TreeHolds row t) (EachHolds row ts)
+        (tree_even t s.1.0 none.0) (each_even ts s.1.1 none.1)
+    tree_even (any no_parts) s n = absurd s.0
+    tree_even (any (a_part t ts)) s n =
+        let none = two_lack (lack_refusal lacks t) (lacks_refusal lacks ts) n in
+        either_even (tree_value fields cells (sql_tree fields false t)) (any_tree fields cells (sql_trees fields false ts)) (TreeHolds row t) (OneHolds row ts)
+        (tree_even t s.1.0 none.0) (one_even ts s.1.1 none.1)
+    tree_even (negated t) s n = negation_even (tree_value fields cells (sql_tree fields true t)) (TreeHolds row t) (tree_odd t s n)
+    tree_even (leaf l) s n = leaf_even l s n
 
-    each_even : (ts : Plains) → AreSound fields ts → EvenIs (all_trees fields row (sql_trees fields false ts)) (EachHolds row ts)
-    each_even no_parts s = tt
-    each_even (a_part t ts) s =
-        both_even (tree_value fields row (sql_tree fields false t)) (all_trees fields row (sql_trees fields false ts)) (TreeHolds row t) (EachHolds row ts)
-        (tree_even t s.0) (each_even ts s.1)
+    each_even : (ts : Plains) → AreSound fields ts → lacks_refusal lacks ts ≡ None
+        → EvenIs (all_trees fields cells (sql_trees fields false ts)) (EachHolds row ts)
+    each_even no_parts s n = tt
+    each_even (a_part t ts) s n =
+        let none = two_lack (lack_refusal lacks t) (lacks_refusal lacks ts) n in
+        both_even (tree_value fields cells (sql_tree fields false t)) (all_trees fields cells (sql_trees fields false ts)) (TreeHolds row t) (EachHolds row ts)
+        (tree_even t s.0 none.0) (each_even ts s.1 none.1)
 
-    one_even : (ts : Plains) → AreSound fields ts → EvenIs (any_tree fields row (sql_trees fields false ts)) (OneHolds row ts)
-    one_even no_parts s = λ h. h
-    one_even (a_part t ts) s =
-        either_even (tree_value fields row (sql_tree fields false t)) (any_tree fields row (sql_trees fields false ts)) (TreeHolds row t) (OneHolds row ts)
-        (tree_even t s.0) (one_even ts s.1)
+    one_even : (ts : Plains) → AreSound fields ts → lacks_refusal lacks ts ≡ None
+        → EvenIs (any_tree fields cells (sql_trees fields false ts)) (OneHolds row ts)
+    one_even no_parts s n = λ h. h
+    one_even (a_part t ts) s n =
+        let none = two_lack (lack_refusal lacks t) (lacks_refusal lacks ts) n in
+        either_even (tree_value fields cells (sql_tree fields false t)) (any_tree fields cells (sql_trees fields false ts)) (TreeHolds row t) (OneHolds row ts)
+        (tree_even t s.0 none.0) (one_even ts s.1 none.1)
 
-    pub tree_odd : (t : Plain) → IsSound fields t → OddIs (tree_value fields row (sql_tree fields true t)) (TreeHolds row t)
-    tree_odd (all no_parts) s = absurd s.0
-    tree_odd (all (a_part t ts)) s =
-        both_odd (tree_value fields row (sql_tree fields true t)) (all_trees fields row (sql_trees fields true ts)) (TreeHolds row t) (EachHolds row ts)
-        (tree_odd t s.1.0) (each_odd ts s.1.1)
-    tree_odd (any no_parts) s = absurd s.0
-    tree_odd (any (a_part t ts)) s =
-        either_odd (tree_value fields row (sql_tree fields true t)) (any_tree fields row (sql_trees fields true ts)) (TreeHolds row t) (OneHolds row ts)
-        (tree_odd t s.1.0) (one_odd ts s.1.1)
-    tree_odd (negated t) s = negation_odd (tree_value fields row (sql_tree fields false t)) (TreeHolds row t) (tree_even t s)
-    tree_odd (leaf l) s = leaf_odd l s
+    pub tree_odd : (t : Plain) → IsSound fields t → lack_refusal lacks t ≡ None
+        → OddIs (tree_value fields cells (sql_tree fields true t)) (TreeHolds row t)
+    tree_odd (all no_parts) s n = absurd s.0
+    tree_odd (all (a_part t ts)) s n =
+        let none = two_lack (lack_refusal lacks t) (lacks_refusal lacks ts) n in
+        both_odd (tree_value fields cells (sql_tree fields true t)) (all_trees fields cells (sql_trees fields true ts)) (TreeHolds row t) (EachHolds row ts)
+        (tree_odd t s.1.0 none.0) (each_odd ts s.1.1 none.1)
+    tree_odd (any no_parts) s n = absurd s.0
+    tree_odd (any (a_part t ts)) s n =
+        let none = two_lack (lack_refusal lacks t) (lacks_refusal lacks ts) n in
+        either_odd (tree_value fields cells (sql_tree fields true t)) (any_tree fields cells (sql_trees fields true ts)) (TreeHolds row t) (OneHolds row ts)
+        (tree_odd t s.1.0 none.0) (one_odd ts s.1.1 none.1)
+    tree_odd (negated t) s n = negation_odd (tree_value fields cells (sql_tree fields false t)) (TreeHolds row t) (tree_even t s n)
+    tree_odd (leaf l) s n = leaf_odd l s n
 
-    each_odd : (ts : Plains) → AreSound fields ts → OddIs (all_trees fields row (sql_trees fields true ts)) (EachHolds row ts)
-    each_odd no_parts s = tt
-    each_odd (a_part t ts) s =
-        both_odd (tree_value fields row (sql_tree fields true t)) (all_trees fields row (sql_trees fields true ts)) (TreeHolds row t) (EachHolds row ts)
-        (tree_odd t s.0) (each_odd ts s.1)
+    each_odd : (ts : Plains) → AreSound fields ts → lacks_refusal lacks ts ≡ None
+        → OddIs (all_trees fields cells (sql_trees fields true ts)) (EachHolds row ts)
+    each_odd no_parts s n = tt
+    each_odd (a_part t ts) s n =
+        let none = two_lack (lack_refusal lacks t) (lacks_refusal lacks ts) n in
+        both_odd (tree_value fields cells (sql_tree fields true t)) (all_trees fields cells (sql_trees fields true ts)) (TreeHolds row t) (EachHolds row ts)
+        (tree_odd t s.0 none.0) (each_odd ts s.1 none.1)
 
-    one_odd : (ts : Plains) → AreSound fields ts → OddIs (any_tree fields row (sql_trees fields true ts)) (OneHolds row ts)
-    one_odd no_parts s = λ h. h
-    one_odd (a_part t ts) s =
-        either_odd (tree_value fields row (sql_tree fields true t)) (any_tree fields row (sql_trees fields true ts)) (TreeHolds row t) (OneHolds row ts)
-        (tree_odd t s.0) (one_odd ts s.1)
+    one_odd : (ts : Plains) → AreSound fields ts → lacks_refusal lacks ts ≡ None
+        → OddIs (any_tree fields cells (sql_trees fields true ts)) (OneHolds row ts)
+    one_odd no_parts s n = λ h. h
+    one_odd (a_part t ts) s n =
+        let none = two_lack (lack_refusal lacks t) (lacks_refusal lacks ts) n in
+        either_odd (tree_value fields cells (sql_tree fields true t)) (any_tree fields cells (sql_trees fields true ts)) (TreeHolds row t) (OneHolds row ts)
+        (tree_odd t s.0 none.0) (one_odd ts s.1 none.1)

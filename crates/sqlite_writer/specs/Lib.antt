@@ -1,4 +1,5 @@
 pub mod Guarded
+pub mod Lacking
 pub mod Schemas
 pub mod Pieces
 pub mod Depths

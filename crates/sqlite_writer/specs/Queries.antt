@@ -1,9 +1,10 @@
 -- The query that a tree is, and what bytes have to say to be one.
-use Rattle.std.specs.Prelude.{ℕ, ◌≡◌, ◌↔◌, false, true, List, Option, encode_utf8_all}
+use Rattle.std.specs.Prelude.{ℕ, ◌≡◌, ◌↔◌, false, true, List, encode_utf8_all}
 use Rattle.std.specs.Str.{all_scalars}
 use Rattle.event_schema.specs.declared.schema.Schema.{Schema}
 use Rattle.event_schema.specs.declared.value.Value.{Value}
 use Rattle.event_schema.specs.Events.{IsEvent}
+use Rattle.event_schema.specs.Rows.{first_values}
 use Rattle.sql_lang.specs.Expression.{Expr, or_expr}
 use Rattle.sql_lang.specs.Meaning.{SqlSelects}
 use Rattle.sql_lang.specs.Reading.{Reads, ReadsWithin}
@@ -28,8 +29,8 @@ query_bytes schema t = encode_utf8_all (query_text schema t)
 abbrev pub query_expr : Schema → Plain → Expr
 query_expr schema t = or_expr schema.fields (layout (query_tree schema t))
 
--- The bytes are read as one query within this limit of depth, and it selects an event exactly where the tree holds. Their
--- characters spell a query, and no query that they spell has a needless pair of parentheses.
+-- The bytes are read as one query within this limit of depth, and it selects an event, by the first value of each
+-- field, exactly where the tree holds. Their characters spell a query, and no query that they spell has a needless pair of parentheses.
 pub record IsQueryOf (limit : ℕ) (schema : Schema) (t : Plain) (bytes : List ℕ) : Type 0 where
   pub characters : List ℕ
   pub scalars : all_scalars characters ≡ true
@@ -40,4 +41,4 @@ pub record IsQueryOf (limit : ℕ) (schema : Schema) (t : Plain) (bytes : List �
   pub query : Query
   pub spelled : spell_query query ≡ sorts (tokens characters)
   pub fine : (q : Query) → spell_query q ≡ sorts (tokens characters) → fine_or q.condition ≡ true
-  pub selects : (row : List (Option Value)) → IsEvent schema.fields row → (SqlSelects expr row ↔ TreeHolds row t)
+  pub selects : (row : List (List Value)) → IsEvent schema.fields row → (SqlSelects expr (first_values row) ↔ TreeHolds row t)

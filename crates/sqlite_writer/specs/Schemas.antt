@@ -1,7 +1,6 @@
 -- Schemas whose fields are all texts, each found by its name; and names of which such a schema can be made.
 use Rattle.std.specs.Prelude.{ℕ, ◌≡◌, ◌<◌, true, List, [], ◌∷◌, length, Some, ⊤}
 use Rattle.std.specs.Str.{all_scalars}
-use Rattle.sig_base.specs.Folding.{folded}
 use Rattle.event_schema.specs.declared.schema.Field.{Field}
 use Rattle.event_schema.specs.declared.schema.FieldKind.TheVariants as kinds
 use Rattle.event_schema.specs.declared.schema.Schema.{Schema}
@@ -22,13 +21,3 @@ pub record IsTextSchema (schema : Schema) : Type 0 where
 abbrev pub AreScalars : List (List ℕ) → Type 0
 AreScalars [] = ⊤
 AreScalars (name ∷ names) = (all_scalars name ≡ true) × AreScalars names
-
--- letters of either case taken for equal, no name in a list is this one
-abbrev pub IsOther : List ℕ → List (List ℕ) → Type 0
-IsOther name [] = ⊤
-IsOther name (later ∷ names) = (folded later ≡ folded name → ⊥) × IsOther name names
-
--- and no later name is an earlier one
-abbrev pub AreApart : List (List ℕ) → Type 0
-AreApart [] = ⊤
-AreApart (name ∷ names) = IsOther name names × AreApart names

@@ -1,19 +1,23 @@
 //! Laws of written trees, each the contract of a function that does nothing.
 
-ghost use Rattle.std.specs.Prelude.{◌≡◌, ◌≤◌, ◌↔◌, ℕ, true, false, List, map, codes, Option, None};
+ghost use Rattle.std.specs.Prelude.{◌≡◌, ◌≤◌, ◌↔◌, ℕ, true, false, List, map, codes, None};
 ghost use Rattle.event_schema.specs.declared.schema.Schema.{Schema};
 ghost use Rattle.event_schema.specs.declared.value.Value.{Value};
 ghost use Rattle.event_schema.specs.Events.{IsEvent};
+ghost use Rattle.event_schema.specs.Rows.{first_values};
+ghost use Rattle.event_schema.specs.Schemas.{AreApart};
 ghost use Rattle.event_schema.specs.Inferred.{text_field};
 ghost use Rattle.backend_core.specs.Trees.{Plain};
 ghost use Rattle.backend_core.specs.Holds.{TreeHolds};
+ghost use Rattle.backend_core.specs.Lacks.{lack_refusal};
 ghost use Rattle.backend_core.specs.Sound.{IsSound};
 ghost use Rattle.sql_lang.specs.Expression.{depth};
 ghost use Rattle.sql_lang.specs.Meaning.{Yes, No};
 ghost use Rattle.sql_layout.specs.Trees.{tree_value};
 ghost use Rattle.sqlite_writer.specs.Guarded.{sql_tree};
 ghost use Rattle.sqlite_writer.specs.Queries.{query_text, query_bytes, query_expr, IsQueryOf};
-ghost use Rattle.sqlite_writer.specs.Schemas.{IsTextSchema, AreScalars, AreApart};
+ghost use Rattle.sqlite_writer.specs.Lacking.{sqlite_lacks};
+ghost use Rattle.sqlite_writer.specs.Schemas.{IsTextSchema, AreScalars};
 
 use sig_strings::plain_fits;
 use sql_lang::{one_reading, one_spelling};
@@ -22,25 +26,25 @@ use sql_layout::{
 };
 use sql_patterns::{glob_means, like_means};
 
-/// Below an even number of words NOT a tree is yes exactly where it holds, and below an odd number
-/// it's no exactly where it doesn't hold.
+/// Of a tree for which nothing is lacking: below an even number of words NOT it's yes exactly where it holds, and below an odd
+/// number it's no exactly where it doesn't hold.
 pub fn polarity()
-    ensures even { (schema : Schema) (t : Plain) (row : List (Option Value)) → IsTextSchema schema
-        → IsSound schema.fields t → IsEvent schema.fields row
-        → (tree_value schema.fields row (sql_tree schema.fields false t) ≡ Yes) ↔ TreeHolds row t }
-    ensures odd { (schema : Schema) (t : Plain) (row : List (Option Value)) → IsTextSchema schema
-        → IsSound schema.fields t → IsEvent schema.fields row
-        → (tree_value schema.fields row (sql_tree schema.fields true t) ≡ No) ↔ (TreeHolds row t → ⊥) }
+    ensures even { (schema : Schema) (t : Plain) (row : List (List Value)) → IsTextSchema schema
+        → IsSound schema.fields t → lack_refusal (sqlite_lacks schema.fields) t ≡ None → IsEvent schema.fields row
+        → (tree_value schema.fields (first_values row) (sql_tree schema.fields false t) ≡ Yes) ↔ TreeHolds row t }
+    ensures odd { (schema : Schema) (t : Plain) (row : List (List Value)) → IsTextSchema schema
+        → IsSound schema.fields t → lack_refusal (sqlite_lacks schema.fields) t ≡ None → IsEvent schema.fields row
+        → (tree_value schema.fields (first_values row) (sql_tree schema.fields true t) ≡ No) ↔ (TreeHolds row t → ⊥) }
 {
     like_means();
     glob_means();
     plain_fits();
 }
 
-/// The text of a sound tree is one query, and it selects an event exactly where the tree holds.
+/// The text of a sound tree for which nothing is lacking is one query, and it selects an event exactly where the tree holds.
 pub fn tree_is_query()
     ensures { (limit : ℕ) (schema : Schema) (t : Plain) → IsTextSchema schema → IsSound schema.fields t
-        → 1 ≤ limit → depth (query_expr schema t) ≤ limit → IsQueryOf limit schema t (query_bytes schema t) }
+        → lack_refusal (sqlite_lacks schema.fields) t ≡ None → 1 ≤ limit → depth (query_expr schema t) ≤ limit → IsQueryOf limit schema t (query_bytes schema t) }
 {
     polarity();
     leaves_are_sound();

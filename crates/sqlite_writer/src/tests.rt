@@ -20,6 +20,7 @@ fn schema(alloc: Global) -> Result<Schema, Fail> {
             at: Texts::new(alloc),
             search: false,
             cased: false,
+            many: false,
         })?;
     }
     Ok(Schema {

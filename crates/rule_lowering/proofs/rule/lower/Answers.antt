@@ -49,6 +49,6 @@ pub returns-clause-means : goal.returns-clause-means
 returns-clause-means c =
     let schema = c.args.schema.now in
     let rule = rule_view c.args.rule.now in
-    kept (λ t. (row : List (Option Value)) → IsEvent schema.fields row → TreeHolds row t ↔ Matches schema.fields row rule) _ (tree_of schema rule) c.lower_formulas.result
+    kept (λ t. (row : List (List Value)) → IsEvent schema.fields row → TreeHolds row t ↔ Matches schema.fields row rule) _ (tree_of schema rule) c.lower_formulas.result
     (tree_is schema c.args.rule.now c.as_slice-fields.result.now c.as_slice.result.now c.deref.result.now c.as_slice-fields.ensures c.as_slice.ensures c.deref.ensures.value)
     (λ row event. c.tree_means_rule.ensures schema rule row event) c.lower_formulas.ensures.ok

@@ -3,6 +3,7 @@ use Rattle.std.specs.Str.{all_scalars}
 use Rattle.std.proofs.lemmas.Str.{encodes_same}
 use Rattle.sql_lang.specs.Grammar.{Query}
 use Rattle.sql_layout.specs.Trees.{layout_query, fine_or, IsSound as IsSoundLeaf}
+use Rattle.event_schema.specs.Rows.{first_values}
 use Rattle.sqlite_writer.specs.Guarded.{name_at}
 use Rattle.sqlite_writer.specs.Queries.{query_tree, query_text, query_bytes, query_expr}
 use Rattle.sqlite_writer.proofs.Nested.{IsCalm}
@@ -12,7 +13,7 @@ use Rattle.sqlite_writer.proofs.Laws.{writable_layout, within}
 use Rattle.sqlite_writer.proofs.law.tree_is_query.Goals as goal
 
 pub returns : goal.returns
-returns c = λ limit schema t texts sound some deep.
+returns c = λ limit schema t texts sound none some deep.
     let fields = schema.fields in
     let leaves = c.leaves_are_sound.ensures in
     let sound_named = named_sound fields (leaves.value fields) (leaves.no_value fields) (leaves.text fields) (leaves.like fields) (leaves.glob fields)
@@ -37,7 +38,7 @@ returns c = λ limit schema t texts sound some deep.
           let same : layout_query schema.table tree ≡ q = c.one_spelling.ensures (layout_query schema.table tree) q (sym scanned ∙ sym is) in
           subst (λ (p : Query). fine_or p.condition ≡ true) same (c.layout_is_fine.ensures tree);
       selects = λ row event.
-          let same = c.layout_means_tree.ensures fields tree row in
-          let holds = c.polarity.ensures.even schema t row texts sound event in
+          let same = c.layout_means_tree.ensures fields tree (first_values row) in
+          let holds = c.polarity.ensures.even schema t row texts sound none event in
           ((λ h. holds.0 (sym same ∙ h)), (λ h. same ∙ holds.1 h));
     }
