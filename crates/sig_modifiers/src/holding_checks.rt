@@ -24,6 +24,7 @@ fn schema(alloc: Global) -> Result<Schema, Fail> {
     let mut fields = Fields::new(alloc);
     fields.push(field(alloc, "Image", FieldKind::Text)?)?;
     fields.push(field(alloc, "Size", FieldKind::Whole)?)?;
+    fields.push(field(alloc, "Ip", FieldKind::Address)?)?;
     Ok(Schema {
         table: Text::copy(alloc, "events")?,
         fields,
@@ -35,6 +36,7 @@ fn event(alloc: Global, image: &str, size: i64) -> Result<Event, Fail> {
     let mut values = Vec::new(alloc);
     values.push(FieldValues::one(Value::Text(Text::copy(alloc, image)?)))?;
     values.push(FieldValues::one(Value::Whole(size)))?;
+    values.push(FieldValues::one(Value::Text(Text::copy(alloc, "10.0.0.1")?)))?;
     Ok(Event::new(values, None))
 }
 
@@ -61,6 +63,8 @@ fn tests_of_values(rt: HostRuntime) -> Result<(), Fail> {
         (Test::Equals(-7), "Size", true),
         (Test::Equals(7), "Size", false),
         (Test::Equals(-7), "Image", false),
+        (fits(alloc, "10.0.0.*", false)?, "Ip", true),
+        (fits(alloc, "10.0.0.?0", false)?, "Ip", false),
         (Test::Absent, "image", true),
     ] {
         assert_eq!(rt; test.holds(&schema, name, &event), want, "{test:?}");
@@ -73,8 +77,9 @@ fn tests_without_values(rt: HostRuntime) -> Result<(), Fail> {
     let alloc = rt.alloc();
     let schema = schema(alloc)?;
     let mut values = Vec::new(alloc);
-    values.push(FieldValues::none())?;
-    values.push(FieldValues::none())?;
+    for _ in 0..3 {
+        values.push(FieldValues::none())?;
+    }
     let event = Event::new(values, None);
     for (test, want) in [
         (Test::Absent, true),
@@ -83,7 +88,13 @@ fn tests_without_values(rt: HostRuntime) -> Result<(), Fail> {
         (fits(alloc, "*", false)?, false),
         (Test::Equals(0), false),
     ] {
-        assert_eq!(rt; test.holds(&schema, "Size", &event), want, "{test:?}");
+        for name in ["Image", "Size", "Ip"] {
+            assert_eq!(rt;
+                test.holds(&schema, name, &event),
+                want,
+                "{test:?} of {name}"
+            );
+        }
     }
     Ok(())
 }
@@ -103,7 +114,7 @@ fn numbers_in_texts(rt: HostRuntime) -> Result<(), Fail> {
     Ok(())
 }
 
-/// Three texts and three numbers.
+/// Three texts, three numbers and three addresses.
 fn several(alloc: Global) -> Result<Event, Fail> {
     let mut images = Vec::new(alloc);
     for image in ["a.exe", "B.exe", "7"] {
@@ -113,9 +124,14 @@ fn several(alloc: Global) -> Result<Event, Fail> {
     for size in [1, -20, 300] {
         sizes.push(Value::Whole(size))?;
     }
+    let mut addresses = Vec::new(alloc);
+    for address in ["10.0.0.1", "host", "192.168.0.7"] {
+        addresses.push(Value::Text(Text::copy(alloc, address)?))?;
+    }
     let mut values = Vec::new(alloc);
     values.push(FieldValues::from_vec(images))?;
     values.push(FieldValues::from_vec(sizes))?;
+    values.push(FieldValues::from_vec(addresses))?;
     Ok(Event::new(values, None))
 }
 
@@ -139,6 +155,10 @@ fn tests_of_several_values(rt: HostRuntime) -> Result<(), Fail> {
         (Test::Equals(-20), "Size", true),
         (fits(alloc, "30?", false)?, "Size", true),
         (fits(alloc, "3?", false)?, "Size", false),
+        (Test::Exists(false), "Ip", false),
+        (fits(alloc, "192.168.*", false)?, "Ip", true),
+        (fits(alloc, "HOST", false)?, "Ip", true),
+        (fits(alloc, "192.168.0.?0", false)?, "Ip", false),
     ] {
         assert_eq!(rt; test.holds(&schema, name, &event), want, "{test:?}");
     }
