@@ -1,0 +1,4 @@
+pub mod Coming
+pub mod Examples
+pub mod Feeds
+pub mod Turns

@@ -1,0 +1,121 @@
+//! Lines of small sources.
+
+use crate::LineReader;
+use sig_base::{Bytes, Limits, LineFault, LineStep, MemorySource};
+use std::alloc::Global;
+use std::test::Fail;
+
+fn told(
+    alloc: Global,
+    bytes: &[u8],
+    most: usize,
+    line_bytes: usize,
+    events_bytes: usize,
+    failing: Vec<u64>,
+) -> Result<String, Fail> {
+    let mut limits = Limits::standard();
+    limits.line_bytes = line_bytes;
+    limits.events_bytes = events_bytes;
+    let mut source = MemorySource::new(Bytes::copy(alloc, bytes)?, most.max(1), failing);
+    let mut reader = LineReader::new(alloc, &limits)?;
+    let mut all = String::new(alloc);
+    for _turn in 0..12 {
+        match reader.next_line(&mut source) {
+            Ok(LineStep::Line { number, bytes }) => {
+                let size = bytes.as_slice().len();
+                all.push_str(format!(in alloc; "{number}:{size} ")?.as_str())?;
+            }
+            Ok(LineStep::TooLong { number }) => {
+                all.push_str(format!(in alloc; "{number}:long ")?.as_str())?;
+            }
+            Ok(LineStep::TooMuch { number }) => {
+                all.push_str(format!(in alloc; "{number}:much ")?.as_str())?;
+            }
+            Ok(LineStep::End) => {
+                all.push_str("end")?;
+                return Ok(all);
+            }
+            Err(LineFault::Read) => all.push_str("read ")?,
+            Err(LineFault::Memory) => all.push_str("memory ")?,
+        }
+    }
+    Ok(all)
+}
+
+/// The calls that fail, from 1.
+fn one(alloc: Global, call: u64) -> Result<Vec<u64>, Fail> {
+    let mut all = Vec::new(alloc);
+    all.push(call)?;
+    Ok(all)
+}
+
+#[test]
+fn lines_within_limits(rt: HostRuntime) -> Result<(), Fail> {
+    let alloc = rt.alloc();
+    for most in [1, 2, 3, 65_536] {
+        for (bytes, line_bytes, events_bytes, want) in [
+            ("", 8, 100, "end"),
+            ("\n", 8, 100, "1:0 end"),
+            ("ab\n\ncde", 8, 100, "1:2 2:0 3:3 end"),
+            ("ab\r\ncde\n", 8, 100, "1:3 2:3 end"),
+            ("12345678\n123456789\n1", 8, 100, "1:8 2:long 3:1 end"),
+            ("123456789", 8, 100, "1:long end"),
+            ("ab\ncd\n", 8, 6, "1:2 2:2 end"),
+            ("ab\ncd\n\n", 8, 6, "1:2 2:2 3:much end"),
+            ("ab\ncd\n", 8, 5, "1:2 2:much end"),
+            ("ab\ncdefghijklmn\n", 8, 5, "1:2 2:much end"),
+            ("ab\ncd", 8, 5, "1:2 2:2 end"),
+            ("abc", 8, 2, "1:much end"),
+        ] {
+            let got = told(
+                alloc,
+                bytes.as_bytes(),
+                most,
+                line_bytes,
+                events_bytes,
+                Vec::new(alloc),
+            )?;
+            assert_eq!(rt; got.as_str(), want);
+        }
+    }
+    Ok(())
+}
+
+#[test]
+fn each_call_fails_once(rt: HostRuntime) -> Result<(), Fail> {
+    let alloc = rt.alloc();
+    for (call, want) in [
+        (1, "read end"),
+        (2, "1:2 read end"),
+        (3, "1:2 2:2 read end"),
+        (4, "1:2 2:2 3:2 read end"),
+        (5, "1:2 2:2 3:2 end"),
+    ] {
+        let got = told(alloc, b"ab\ncd\nef\n", 4, 8, 100, one(alloc, call)?)?;
+        assert_eq!(rt; got.as_str(), want);
+    }
+    Ok(())
+}
+
+#[test]
+fn a_line_longer_than_a_piece(rt: HostRuntime) -> Result<(), Fail> {
+    let alloc = rt.alloc();
+    let mut bytes = Vec::new(alloc);
+    bytes.resize(65_536, b'a')?;
+    bytes.push(b'\n')?;
+    bytes.resize(65_537 + 65_537, b'b')?;
+    bytes.push(b'\n')?;
+    bytes.push(b'c')?;
+    for most in [1_000, 65_536] {
+        let got = told(
+            alloc,
+            bytes.as_slice(),
+            most,
+            65_536,
+            1_000_000,
+            Vec::new(alloc),
+        )?;
+        assert_eq!(rt; got.as_str(), "1:65536 2:long 3:1 end");
+    }
+    Ok(())
+}
