@@ -5,6 +5,14 @@ use sig_base::{Bytes, Limits, LineFault, LineStep, MemorySource};
 use std::alloc::Global;
 use std::test::Fail;
 
+/// The standard limits but for these.
+fn within(line_bytes: usize, events_bytes: usize) -> Limits {
+    let mut limits = Limits::standard();
+    limits.line_bytes = line_bytes.max(1).min(65_536);
+    limits.events_bytes = events_bytes.max(1).min(268_435_456);
+    limits
+}
+
 fn told(
     alloc: Global,
     bytes: &[u8],
@@ -13,9 +21,7 @@ fn told(
     events_bytes: usize,
     failing: Vec<u64>,
 ) -> Result<String, Fail> {
-    let mut limits = Limits::standard();
-    limits.line_bytes = line_bytes;
-    limits.events_bytes = events_bytes;
+    let limits = within(line_bytes, events_bytes);
     let mut source = MemorySource::new(Bytes::copy(alloc, bytes)?, most.max(1), failing);
     let mut reader = LineReader::new(alloc, &limits)?;
     let mut all = String::new(alloc);

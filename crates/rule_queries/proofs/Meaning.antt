@@ -17,19 +17,24 @@ use Rattle.rule_model.specs.Whole.{IsWhole}
 use Rattle.sig_base.specs.declared.limits.Limits.{Limits}
 use Rattle.sql_lang.specs.Expression.{depth}
 use Rattle.sqlite_writer.specs.Queries.{query_expr, query_bytes, IsQueryOf}
-use Rattle.sqlite_writer.specs.Schemas.{AreScalars, AreApart, IsTextSchema}
+use Rattle.event_schema.specs.Lists.{EachOf}
+use Rattle.event_schema.specs.Names.{IsName}
+use Rattle.event_schema.specs.Schemas.{AreApart}
+use Rattle.backend_core.specs.Lacks.{lack_refusal}
+use Rattle.sqlite_writer.specs.Lacking.{sqlite_lacks}
+use Rattle.sqlite_writer.specs.Schemas.{AreScalars, IsTextSchema}
 use Rattle.yaml_tree.specs.Texts.{HasScalarTexts}
 use Rattle.yaml_tree.specs.Tree.{Tree}
 use Rattle.rule_queries.specs.Queries.{rule_tree, query_of, query_depth, Converts}
 use Rattle.rule_queries.specs.Verdicts.{IsConverted}
 use Rattle.rule_queries.proofs.Judging.{no_line}
-use Rattle.rule_queries.proofs.Names.{rule_scalars, rule_apart}
+use Rattle.rule_schema.proofs.NamesApart.{rule_legal, rule_apart}
 
 abbrev WholeRules : Type 0
 WholeRules = (limits : Limits) (t : Tree) (rule : PlainRule) → rule_refusal limits t ≡ None → IsRule t rule → HasScalarTexts t → IsWhole rule
 
 abbrev TreesMean : Type 0
-TreesMean = (schema : Schema) (rule : PlainRule) (row : List (Option Value)) → IsEvent schema.fields row → TreeHolds row (tree_of schema rule) ↔ Matches schema.fields row rule
+TreesMean = (schema : Schema) (rule : PlainRule) (row : List (List Value)) → IsEvent schema.fields row → TreeHolds row (tree_of schema rule) ↔ Matches schema.fields row rule
 
 abbrev TreesSound : Type 0
 TreesSound = (schema : Schema) (rule : PlainRule) → IsWhole rule → fit_refusal schema rule ≡ None → IsSound schema.fields (tree_of schema rule)

@@ -1,4 +1,5 @@
 pub mod Fits
-pub mod Gathering
 pub mod Gathered
+pub mod Gathering
 pub mod Keywords
+pub mod NamesApart

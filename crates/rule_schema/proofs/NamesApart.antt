@@ -1,5 +1,5 @@
--- The names of a rule's fields: of characters, and apart where letters of either case are taken for equal.
-use Rattle.std.proofs.Common.{ℕ, ◌≡◌, Bool, true, false, not, cond, ◌||◌, ◌⊎◌, inl, inr, List, [], ◌∷◌, ◌++◌, Some, None, refl, sym, subst, ap, ◌∙◌, map}
+-- The names of a rule's fields: legal, and apart where letters of either case are taken for equal.
+use Rattle.std.proofs.Common.{ℕ, suc, ◌≡◌, ◌<◌, ◌^◌, length, Bool, true, false, not, cond, ◌||◌, ◌⊎◌, inl, inr, List, [], ◌∷◌, ◌++◌, Some, None, refl, sym, subst, ap, ◌∙◌, map}
 use Rattle.std.specs.Prelude.{filter}
 use Rattle.std.specs.List.{list_any, flat_map}
 use Rattle.std.specs.Str.{bytes_eq}
@@ -8,8 +8,11 @@ use Rattle.sig_base.specs.Folding.{folded}
 use Rattle.sig_base.specs.declared.refusal.Place.{Place}
 use Rattle.sig_base.specs.declared.refusal.Refusal.{Refusal}
 use Rattle.sig_base.specs.Judged.{refusal}
-use Rattle.sqlite_writer.specs.Schemas.{AreScalars, IsOther, AreApart}
-use Rattle.rule_schema.specs.Inferred.{Use, clashes, clash_behind, distinct, uses_of, items_of, names_in, rule_names, schema_refusal}
+use Rattle.event_schema.specs.Names.{IsName}
+use Rattle.event_schema.specs.Inferred.{text_field}
+use Rattle.event_schema.specs.Schemas.{IsOther, AreApart, twin, IsField, names_of, IsSchema}
+use Rattle.event_schema.specs.declared.schema.Field.{Field}
+use Rattle.rule_schema.specs.Inferred.{Use, clashes, clash_behind, distinct, uses_of, items_of, names_in, rule_names, inferred_schema, schema_refusal}
 use Rattle.sig_modifiers.specs.Lists.{EachOf}
 use Rattle.rule_model.specs.Plain.{PlainRule}
 use Rattle.rule_model.specs.Whole.{IsWhole}
@@ -20,11 +23,11 @@ use Rattle.rule_items.specs.declared.item.Fields.TheVariants.{Keyword, Names}
 use Rattle.rule_items.specs.declared.item.Item.{Item}
 use Rattle.sig_modifiers.specs.declared.test.Test.{Test}
 
--- ---- of characters
+-- ---- legal
 
-both_scalars : (a b : List (List ℕ)) → AreScalars a → AreScalars b → AreScalars (a ++ b)
-both_scalars [] b x y = y
-both_scalars (n ∷ ns) b x y = (x.0, both_scalars ns b x.1 y)
+each_and : {A : Type 0} (P : A → Type 0) (xs ys : List A) → EachOf P xs → EachOf P ys → EachOf P (xs ++ ys)
+each_and P [] ys a b = b
+each_and P (x ∷ xs) ys a b = (a.0, each_and P xs ys a.1 b)
 
 abbrev use_names : List Use → List (List ℕ)
 use_names us = map (λ u. u.0) us
@@ -33,28 +36,24 @@ joined : (a b : List Use) → use_names (a ++ b) ≡ use_names a ++ use_names b
 joined [] b = refl
 joined (u ∷ us) b = ap (λ (ns : List (List ℕ)). u.0 ∷ ns) (joined us b)
 
-joined_scalars : (a b : List Use) → AreScalars (use_names a) → AreScalars (use_names b) → AreScalars (use_names (a ++ b))
-joined_scalars a b x y = subst AreScalars (sym (joined a b)) (both_scalars (use_names a) (use_names b) x y)
+joined_legal : (a b : List Use) → EachOf IsName (use_names a) → EachOf IsName (use_names b) → EachOf IsName (use_names (a ++ b))
+joined_legal a b x y = subst (EachOf IsName) (sym (joined a b)) (each_and IsName (use_names a) (use_names b) x y)
 
-names_scalars : (place : Place) (names : List (List ℕ)) → EachOf IsWholeName names → AreScalars (use_names (map (λ name. (name, place)) names))
-names_scalars place [] each = tt
-names_scalars place (n ∷ ns) each = (each.0.scalars, names_scalars place ns each.1)
+names_legal : (place : Place) (names : List (List ℕ)) → EachOf IsName names → EachOf IsName (use_names (map (λ name. (name, place)) names))
+names_legal place [] each = tt
+names_legal place (n ∷ ns) each = (each.0, names_legal place ns each.1)
 
-fields_scalars : (place : Place) (f : Fields) (values : List (List Test)) → AreWholeFields f values → AreScalars (use_names (map (λ name. (name, place)) (names_in f)))
-fields_scalars place Keyword values w = tt
-fields_scalars place (Names names) values w = names_scalars place names w.1
+fields_legal : (place : Place) (f : Fields) (values : List (List Test)) → AreWholeFields f values → EachOf IsName (use_names (map (λ name. (name, place)) (names_in f)))
+fields_legal place Keyword values w = tt
+fields_legal place (Names names) values w = names_legal place names w.1
 
 abbrev item_uses : Item → List Use
 item_uses i = map (λ name. (name, i.place)) (names_in i.fields)
 
-items_scalars : (items : List Item) → EachOf IsWholeItem items → AreScalars (use_names (uses_of items))
-items_scalars [] each = tt
-items_scalars (i ∷ items) each =
-    joined_scalars (item_uses i) (uses_of items) (fields_scalars i.place i.fields i.tests each.0.fields) (items_scalars items each.1)
-
-each_and : {A : Type 0} (P : A → Type 0) (xs ys : List A) → EachOf P xs → EachOf P ys → EachOf P (xs ++ ys)
-each_and P [] ys a b = b
-each_and P (x ∷ xs) ys a b = (a.0, each_and P xs ys a.1 b)
+items_legal : (items : List Item) → EachOf IsWholeItem items → EachOf IsName (use_names (uses_of items))
+items_legal [] each = tt
+items_legal (i ∷ items) each =
+    joined_legal (item_uses i) (uses_of items) (fields_legal i.place i.fields i.tests each.0.fields) (items_legal items each.1)
 
 alternatives_whole : (alternatives : List (List Item)) → EachOf IsWholeAlternative alternatives → EachOf IsWholeItem (flat_map (λ items. items) alternatives)
 alternatives_whole [] each = tt
@@ -66,19 +65,19 @@ detections_whole (d ∷ ds) each =
     each_and IsWholeItem (flat_map (λ items. items) d.alternatives) (items_of ds) (alternatives_whole d.alternatives each.0.each) (detections_whole ds each.1)
 
 -- of the names of a list, some are left out
-filter_scalars : (p : List ℕ → Bool) (ns : List (List ℕ)) → AreScalars ns → AreScalars (filter p ns)
-filter_scalars p [] s = tt
-filter_scalars p (n ∷ ns) s = by (p n) (filter_scalars p ns s.1) where
-  by : (b : Bool) → AreScalars (filter p ns) → AreScalars (cond b (n ∷ filter p ns) (filter p ns))
+filter_legal : (p : List ℕ → Bool) (ns : List (List ℕ)) → EachOf IsName ns → EachOf IsName (filter p ns)
+filter_legal p [] s = tt
+filter_legal p (n ∷ ns) s = by (p n) (filter_legal p ns s.1) where
+  by : (b : Bool) → EachOf IsName (filter p ns) → EachOf IsName (cond b (n ∷ filter p ns) (filter p ns))
   by true rest = (s.0, rest)
   by false rest = rest
 
-distinct_scalars : (ns : List (List ℕ)) → AreScalars ns → AreScalars (distinct ns)
-distinct_scalars [] s = tt
-distinct_scalars (n ∷ ns) s = (s.0, filter_scalars (λ other. not (bytes_eq other n)) (distinct ns) (distinct_scalars ns s.1))
+distinct_legal : (ns : List (List ℕ)) → EachOf IsName ns → EachOf IsName (distinct ns)
+distinct_legal [] s = tt
+distinct_legal (n ∷ ns) s = (s.0, filter_legal (λ other. not (bytes_eq other n)) (distinct ns) (distinct_legal ns s.1))
 
-pub rule_scalars : (rule : PlainRule) → IsWhole rule → AreScalars (rule_names rule)
-rule_scalars rule w = distinct_scalars (use_names (uses_of (items_of rule.detections))) (items_scalars (items_of rule.detections) (detections_whole rule.detections w.detections))
+pub rule_legal : (rule : PlainRule) → IsWhole rule → EachOf IsName (rule_names rule)
+rule_legal rule w = distinct_legal (use_names (uses_of (items_of rule.detections))) (items_legal (items_of rule.detections) (detections_whole rule.detections w.detections))
 
 -- ---- apart
 
@@ -193,3 +192,37 @@ distinct_apart before (u ∷ us) e =
 
 pub rule_apart : (rule : PlainRule) → schema_refusal rule ≡ None → AreApart (rule_names rule)
 rule_apart rule e = distinct_apart [] (uses_of (items_of rule.detections)) e
+
+-- ---- schemas
+
+fields_kept : (names : List (List ℕ)) → EachOf IsName names → EachOf IsField (map text_field names)
+fields_kept [] each = tt
+fields_kept (name ∷ names) each = (record { name = each.0; at = tt; search = λ e. absurd (false_true e); cased = λ e. absurd (false_true e) }, fields_kept names each.1) where
+  false_true : false ≡ true → ⊥
+  false_true e = cc
+
+own_names : (names : List (List ℕ)) → names_of (map text_field names) ≡ names
+own_names [] = refl
+own_names (name ∷ names) = ap (λ (ns : List (List ℕ)). name ∷ ns) (own_names names)
+
+-- no field that is made of a name has a twin
+no_twins : (all names : List (List ℕ)) → EachOf (λ field. field.cased ≡ true → IsOther (twin field.name) all) (map text_field names)
+no_twins all [] = tt
+no_twins all (name ∷ names) = ((λ e. absurd (false_true e)), no_twins all names) where
+  false_true : false ≡ true → ⊥
+  false_true e = cc
+
+as_many : (names : List (List ℕ)) → length (map text_field names) ≡ length names
+as_many [] = refl
+as_many (name ∷ names) = ap suc (as_many names)
+
+pub inferred_kept : (rule : PlainRule) → IsWhole rule → schema_refusal rule ≡ None → length (rule_names rule) < 2 ^ 32 → IsSchema (inferred_schema rule)
+inferred_kept rule whole free few =
+    let names = rule_names rule in
+    record {
+      table = record { legal = refl; scalars = refl };
+      fields = fields_kept names (rule_legal rule whole);
+      apart = subst AreApart (sym (own_names names)) (rule_apart rule free);
+      twins = no_twins (names_of (map text_field names)) names;
+      few = subst (λ (n : ℕ). n < 2 ^ 32) (sym (as_many names)) few;
+    }
