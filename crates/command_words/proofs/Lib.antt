@@ -1,0 +1,13 @@
+pub mod Apps
+pub mod Back
+pub mod Backward
+pub mod Computing
+pub mod Exact
+pub mod Found
+pub mod Fresh
+pub mod Served
+pub mod Shapes
+pub mod Taken
+pub mod Turns
+pub mod Views
+pub mod Walks

@@ -1,0 +1,73 @@
+//! The commands, and what each takes.
+
+ghost use Rattle.std.specs.Prelude.{◌≡◌, map};
+ghost use Rattle.command_words.specs.Table.{row_of, takes_names};
+
+/// How many files a command takes.
+#[derive(Clone, Copy, Debug, PartialEq, Eq)]
+pub enum Count {
+    NoName,
+    OneName,
+    SomeNames,
+}
+
+/// The commands.
+#[derive(Clone, Copy, Debug, PartialEq, Eq)]
+pub enum CommandName {
+    Check,
+    Convert,
+}
+
+static NO_OPTIONS: [&str; 0] = [];
+static BACKEND: [&str; 1] = ["backend"];
+
+impl CommandName {
+    /// The word that stands for the command.
+    pub fn name(self) -> &'static str
+        ensures { result.now ≡ (row_of self).name }
+    {
+        match self {
+            CommandName::Check => "check",
+            CommandName::Convert => "convert",
+        }
+    }
+
+    /// The options that it asks for, without their hyphens.
+    pub(crate) fn required(self) -> &'static [&'static str]
+        ensures { map (λ s. s.now) result.now ≡ (row_of self).required }
+    {
+        match self {
+            CommandName::Check => NO_OPTIONS.as_slice(),
+            CommandName::Convert => BACKEND.as_slice(),
+        }
+    }
+
+    /// The options that it may have, without their hyphens.
+    pub(crate) fn optional(self) -> &'static [&'static str]
+        ensures { map (λ s. s.now) result.now ≡ (row_of self).optional }
+    {
+        match self {
+            CommandName::Check => NO_OPTIONS.as_slice(),
+            CommandName::Convert => NO_OPTIONS.as_slice(),
+        }
+    }
+
+    /// How many files it takes.
+    pub(crate) fn count(self) -> Count
+        ensures { result ≡ (row_of self).files }
+    {
+        match self {
+            CommandName::Check => Count::SomeNames,
+            CommandName::Convert => Count::SomeNames,
+        }
+    }
+
+    pub(crate) fn takes_names(self) -> bool
+        ensures { result ≡ takes_names (row_of self).files }
+    {
+        match self.count() {
+            Count::NoName => false,
+            Count::OneName | Count::SomeNames => true,
+        }
+    }
+}
