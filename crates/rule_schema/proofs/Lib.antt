@@ -1,4 +1,5 @@
-pub mod Fits
+pub mod FirstRefused
 pub mod Gathering
 pub mod Gathered
 pub mod Keywords
+pub mod Making
