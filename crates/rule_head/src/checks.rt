@@ -2,13 +2,12 @@
 
 ghost use Rattle.std.specs.Prelude.{◌≡◌, ◌&&◌, [], ◌∷◌, true, length, nat_le, codes, is_some, encode_utf8_all, IfOk, IfErr};
 ghost use Rattle.std.specs.List.{list_any};
-ghost use Rattle.std.specs.Str.{bytes_eq, chars};
+ghost use Rattle.std.specs.Str.{bytes_eq};
 ghost use Rattle.sig_base.specs.Texts.{is_ascii};
 ghost use Rattle.sig_base.specs.Judged.{Judged};
 ghost use Rattle.uuid.specs.Text.{parsed};
 ghost use Rattle.yaml_tree.specs.View.{node_view};
 ghost use Rattle.rule_head.specs.Checks as checks;
-ghost use Rattle.rule_head.specs.Heads as heads;
 ghost use Rattle.yaml_tree.specs.Nodes as spec;
 
 use crate::dates::is_day;

@@ -12,7 +12,7 @@ use Rattle.sig_modifiers.specs.PlainTests.{ArePlainTests}
 use Rattle.sig_modifiers.specs.TestsOf.{Use, unused, absent, existing, pattern, number, UseTests, TestsOf, use_of, form_use, field_form, value_refusal}
 use Rattle.yaml_tree.specs.Nodes.{place_of}
 use Rattle.sig_modifiers.specs.Written.{Written}
-use Rattle.sig_modifiers.specs.declared.form.Form.TheVariants.{Texts}
+use Rattle.sig_modifiers.specs.declared.form.ChainForm.TheVariants.{Texts}
 use Rattle.sig_modifiers.specs.declared.test.Test.{Test}
 use Rattle.rule_items.specs.Items.{IsItem, IsKeyword, bare_chain, key_chain, shape_refusal, values_refusal, item_refusal}
 use Rattle.event_schema.specs.Names.{is_legal}

@@ -1,6 +1,6 @@
 //! Reading the detections of rules.
 
-ghost use Rattle.std.specs.Prelude.{◌≡◌, ◌∷◌, [], filter, map as list_map, codes, IfOk};
+ghost use Rattle.std.specs.Prelude.{◌≡◌, filter, map as list_map, IfOk};
 ghost use Rattle.std.specs.List.{AllZip, list_any};
 ghost use Rattle.sig_base.specs.Judged.{Judged, first};
 ghost use Rattle.sig_modifiers.specs.Lists.{EachOf};
@@ -69,20 +69,18 @@ fn read_keyword(alloc: Global, limits: &Limits, node: &Node) -> Result<Alternati
     Ok(items)
 }
 
-impl Alternative {
-    /// Reads a map of items, or a scalar, which is a keyword.
-    pub fn read(alloc: Global, limits: &Limits, node: &Node) -> Result<Alternative, Fault>
-        ensures judged { Judged (λ items. spec.IsAlternative (node_view node.now) items) (spec.alternative_refusal limits.now (node_view node.now)) result }
-        ensures whole { IfOk result (λ items. IsWholeAlternative items) }
-    {
-        if let Some(entries) = entries_of(node) {
-            return read_map(alloc, limits, place_of(node), entries);
-        }
-        if !is_scalar(node) {
-            return Err(refused(Code::WRONG_SHAPE, place_of(node)));
-        }
-        read_keyword(alloc, limits, node)
+/// Reads a map of items, or a scalar, which is a keyword.
+fn read_alternative(alloc: Global, limits: &Limits, node: &Node) -> Result<Alternative, Fault>
+    ensures judged { Judged (λ items. spec.IsAlternative (node_view node.now) items) (spec.alternative_refusal limits.now (node_view node.now)) result }
+    ensures whole { IfOk result (λ items. IsWholeAlternative items) }
+{
+    if let Some(entries) = entries_of(node) {
+        return read_map(alloc, limits, place_of(node), entries);
     }
+    if !is_scalar(node) {
+        return Err(refused(Code::WRONG_SHAPE, place_of(node)));
+    }
+    read_keyword(alloc, limits, node)
 }
 
 /// The alternatives of nodes.
@@ -93,7 +91,7 @@ fn read_alternatives(alloc: Global, limits: &Limits, nodes: &[Node]) -> Result<A
 {
     let mut all = Alternatives::new(alloc);
     for node in nodes {
-        let alternative = Alternative::read(alloc, limits, node)?;
+        let alternative = read_alternative(alloc, limits, node)?;
         all.push(alternative)?;
     }
     Ok(all)

@@ -1,14 +1,14 @@
 //! Reading the items of detections.
 
-ghost use Rattle.std.specs.Prelude.{◌≡◌, true, not, map as list_map, [], ◌∷◌, if◌then◌else◌, length, nat_le, IfOk, IfErr};
+ghost use Rattle.std.specs.Prelude.{◌≡◌, true, map as list_map, [], ◌∷◌, if◌then◌else◌, IfOk, IfErr};
 ghost use Rattle.std.specs.List.{AllZip};
-ghost use Rattle.sig_base.specs.Judged.{Judged, first, must};
+ghost use Rattle.sig_base.specs.Judged.{Judged, first, refusal};
 ghost use Rattle.sig_modifiers.specs.Lists.{EachOf};
 ghost use Rattle.sig_modifiers.specs.PlainTests.{ArePlainTests};
 ghost use Rattle.sig_modifiers.specs.TestsOf.{TestsOf, value_refusal};
 ghost use Rattle.yaml_tree.specs.View.{node_view, nodes_view, entry_view};
 ghost use Rattle.rule_items.specs.Items as spec;
-ghost use Rattle.yaml_tree.specs.Nodes.{parts_in};
+ghost use Rattle.yaml_tree.specs.Nodes.{parts_in, place_of as node_place};
 ghost use Rattle.rule_items.specs.Whole.{IsWholeItem};
 
 use crate::item::{Fields, Item, Values};
@@ -20,7 +20,8 @@ use yaml_tree::{Entry, Node, is_empty, is_scalar, parts_of, place_of};
 
 /// Refuses a value that is no scalar.
 fn check_shape(value: &Node) -> Result<(), Fault>
-    ensures { Judged (λ done. Unit {0}) (spec.shape_refusal (node_view value.now)) result }
+    ensures judged { Judged (λ done. Unit {0}) (spec.shape_refusal (node_view value.now)) result }
+    ensures no_memory { IfErr result (λ e. e ≡ Fault.Refused (refusal 71 (node_place (node_view value.now)))) }
 {
     must(Code::WRONG_SHAPE, place_of(value), is_scalar(value))
 }

@@ -12,7 +12,7 @@ use Rattle.rule_items.specs.declared.item.Fields.{Fields}
 use Rattle.rule_items.specs.declared.item.Fields.TheVariants.{Keyword, Names}
 use Rattle.rule_items.specs.declared.item.Item.{Item}
 use Rattle.sig_base.specs.declared.refusal.Place.{Place}
-use Rattle.sig_conditions.specs.Formulas.{Form, FDetection, FNot, FAnd, FOr, Forms, no_forms, form, forms_of, form_view, forms_view, numbered}
+use Rattle.sig_conditions.specs.Formulas.{PlainFormula, FDetection, FNot, FAnd, FOr, PlainFormulas, no_forms, form, forms_of, form_view, forms_view, numbered}
 use Rattle.sig_conditions.specs.declared.formula.Formula.{Formula}
 use Rattle.sig_modifiers.specs.declared.modifier.Joined.{Joined}
 use Rattle.sig_modifiers.specs.declared.modifier.Joined.TheVariants.{All, Any}
@@ -22,11 +22,11 @@ use Rattle.rule_lowering.specs.Joining.{plains, listed, parts_of, tree_with, clo
 use Rattle.rule_lowering.specs.Leaves.{leaves, leaves_in}
 use Rattle.rule_lowering.specs.TreeOf.{test_tree, value_tree, values_tree, number_of, searched, keyword_tree, fields_tree, item_tree, alternative_tree, detection_tree, numbered_tree, form_tree, form_trees, tree_of}
 
-pub forms_within : (most : ℕ) (counts : List ℕ) (fs : Forms) → forms_count most counts fs ≤ most
+pub forms_within : (most : ℕ) (counts : List ℕ) (fs : PlainFormulas) → forms_count most counts fs ≤ most
 forms_within most counts no_forms = omega arith
 forms_within most counts (form f fs) = omega arith
 
-pub forms_start : (most : ℕ) (counts : List ℕ) (fs : Forms) → min (0 + forms_count most counts fs) most ≡ forms_count most counts fs
+pub forms_start : (most : ℕ) (counts : List ℕ) (fs : PlainFormulas) → min (0 + forms_count most counts fs) most ≡ forms_count most counts fs
 forms_start most counts fs = let within = forms_within most counts fs in omega arith
 
 -- ---- joining keeps the number of tests
@@ -148,13 +148,13 @@ module _ (fields : List Field) where
     numbered_leaves (d ∷ ds) (suc n) = numbered_leaves ds n
 
     mutual
-      form_leaves : (ds : List Detection) (f : Form) → form_count most (counts ds) f ≡ min (leaves (form_tree fields ds f)) most
+      form_leaves : (ds : List Detection) (f : PlainFormula) → form_count most (counts ds) f ≡ min (leaves (form_tree fields ds f)) most
       form_leaves ds (FDetection n) = numbered_leaves ds n
       form_leaves ds (FNot f) = form_leaves ds f
       form_leaves ds (FAnd fs) = forms_leaves ds fs ∙ ap (λ n. min n most) (sym (join_leaves All (form_trees fields ds fs)))
       form_leaves ds (FOr fs) = forms_leaves ds fs ∙ ap (λ n. min n most) (sym (join_leaves Any (form_trees fields ds fs)))
 
-      forms_leaves : (ds : List Detection) (fs : Forms) → forms_count most (counts ds) fs ≡ min (sum_by leaves (form_trees fields ds fs)) most
+      forms_leaves : (ds : List Detection) (fs : PlainFormulas) → forms_count most (counts ds) fs ≡ min (sum_by leaves (form_trees fields ds fs)) most
       forms_leaves ds no_forms = omega arith
       forms_leaves ds (form f fs) =
           added (form_count most (counts ds) f) (forms_count most (counts ds) fs) (leaves (form_tree fields ds f)) (sum_by leaves (form_trees fields ds fs))
@@ -162,7 +162,7 @@ module _ (fields : List Field) where
           (sum_by-cons leaves (form_tree fields ds f) (form_trees fields ds fs))
 
 -- the trees of a list of formulas
-pub form_trees_are : (fields : List Field) (ds : List Detection) (fs : List Form) → form_trees fields ds (forms_of fs) ≡ map (form_tree fields ds) fs
+pub form_trees_are : (fields : List Field) (ds : List Detection) (fs : List PlainFormula) → form_trees fields ds (forms_of fs) ≡ map (form_tree fields ds) fs
 form_trees_are fields ds [] = refl
 form_trees_are fields ds (f ∷ fs) = ap (λ (ts : List Plain). form_tree fields ds f ∷ ts) (form_trees_are fields ds fs)
 

@@ -20,7 +20,7 @@ use Rattle.rule_items.specs.declared.item.Fields.TheVariants.{Keyword, Names}
 use Rattle.rule_items.specs.declared.item.Item.{Item}
 use Rattle.sig_base.specs.Folding.{folded}
 use Rattle.sig_base.specs.declared.refusal.Place.{Place}
-use Rattle.sig_conditions.specs.Formulas.{Form, FDetection, FNot, FAnd, FOr, Forms, no_forms, form}
+use Rattle.sig_conditions.specs.Formulas.{PlainFormula, FDetection, FNot, FAnd, FOr, PlainFormulas, no_forms, form}
 use Rattle.sig_modifiers.specs.Holds.{Holds}
 use Rattle.sig_modifiers.specs.declared.modifier.Joined.{Joined}
 use Rattle.sig_modifiers.specs.declared.modifier.Joined.TheVariants.{All, Any}
@@ -118,17 +118,17 @@ module _ (plain : (parts : List Part) (text : List ℕ) → has_wildcard parts �
     numbered_means (d ∷ ds) (suc n) = numbered_means ds n
 
     mutual
-      form_means : (ds : List Detection) (f : Form) → TreeHolds row (form_tree fields ds f) ↔ FormHolds fields row ds f
+      form_means : (ds : List Detection) (f : PlainFormula) → TreeHolds row (form_tree fields ds f) ↔ FormHolds fields row ds f
       form_means ds (FDetection n) = numbered_means ds n
       form_means ds (FNot f) = iff_not (form_means ds f)
       form_means ds (FAnd fs) = iff_then (join_holds row All (form_trees fields ds fs)) (all_forms_mean ds fs)
       form_means ds (FOr fs) = iff_then (join_holds row Any (form_trees fields ds fs)) (some_forms_mean ds fs)
 
-      all_forms_mean : (ds : List Detection) (fs : Forms) → EachOf (TreeHolds row) (form_trees fields ds fs) ↔ AllFormsHold fields row ds fs
+      all_forms_mean : (ds : List Detection) (fs : PlainFormulas) → EachOf (TreeHolds row) (form_trees fields ds fs) ↔ AllFormsHold fields row ds fs
       all_forms_mean ds no_forms = iff_same
       all_forms_mean ds (form f fs) = iff_both (form_means ds f) (all_forms_mean ds fs)
 
-      some_forms_mean : (ds : List Detection) (fs : Forms) → SomeOf (TreeHolds row) (form_trees fields ds fs) ↔ SomeFormHolds fields row ds fs
+      some_forms_mean : (ds : List Detection) (fs : PlainFormulas) → SomeOf (TreeHolds row) (form_trees fields ds fs) ↔ SomeFormHolds fields row ds fs
       some_forms_mean ds no_forms = iff_same
       some_forms_mean ds (form f fs) = iff_either (form_means ds f) (some_forms_mean ds fs)
 

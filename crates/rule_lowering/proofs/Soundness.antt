@@ -20,7 +20,7 @@ use Rattle.rule_items.specs.declared.item.Fields.{Fields}
 use Rattle.rule_items.specs.declared.item.Fields.TheVariants.{Keyword, Names}
 use Rattle.rule_items.specs.declared.item.Item.{Item}
 use Rattle.sig_base.specs.declared.refusal.Place.{Place}
-use Rattle.sig_conditions.specs.Formulas.{Form, FDetection, FNot, FAnd, FOr, Forms, no_forms, form}
+use Rattle.sig_conditions.specs.Formulas.{PlainFormula, FDetection, FNot, FAnd, FOr, PlainFormulas, no_forms, form}
 use Rattle.sig_modifiers.specs.declared.modifier.Joined.{Joined}
 use Rattle.sig_modifiers.specs.declared.modifier.Joined.TheVariants.{All, Any}
 use Rattle.sig_modifiers.specs.declared.test.Test.{Test}
@@ -170,21 +170,21 @@ module _ (fields : List Field) where
   numbered_sound (d ∷ ds) h (suc n) within = numbered_sound ds h.1 n (omega arith)
 
   mutual
-    form_sound : (ds : List Detection) → Fine ds → (f : Form) → IsWholeForm (length ds) f → IsSound fields (form_tree fields ds f)
+    form_sound : (ds : List Detection) → Fine ds → (f : PlainFormula) → IsWholeForm (length ds) f → IsSound fields (form_tree fields ds f)
     form_sound ds h (FDetection n) w = numbered_sound ds h n w
     form_sound ds h (FNot f) w = form_sound ds h f w
     form_sound ds h (FAnd fs) w = join_sound All (form_trees fields ds fs) (some_forms ds fs w) (some_forms_sound ds h fs w)
     form_sound ds h (FOr fs) w = join_sound Any (form_trees fields ds fs) (some_forms ds fs w) (some_forms_sound ds h fs w)
 
-    some_forms_sound : (ds : List Detection) → Fine ds → (fs : Forms) → AreSomeForms (length ds) fs → EachOf (IsSound fields) (form_trees fields ds fs)
+    some_forms_sound : (ds : List Detection) → Fine ds → (fs : PlainFormulas) → AreSomeForms (length ds) fs → EachOf (IsSound fields) (form_trees fields ds fs)
     some_forms_sound ds h no_forms w = tt
     some_forms_sound ds h (form f fs) w = (form_sound ds h f w.0, forms_sound ds h fs w.1)
 
-    forms_sound : (ds : List Detection) → Fine ds → (fs : Forms) → AreWholeForms (length ds) fs → EachOf (IsSound fields) (form_trees fields ds fs)
+    forms_sound : (ds : List Detection) → Fine ds → (fs : PlainFormulas) → AreWholeForms (length ds) fs → EachOf (IsSound fields) (form_trees fields ds fs)
     forms_sound ds h no_forms w = tt
     forms_sound ds h (form f fs) w = (form_sound ds h f w.0, forms_sound ds h fs w.1)
 
-    some_forms : (ds : List Detection) (fs : Forms) → AreSomeForms (length ds) fs → IsSome (form_trees fields ds fs)
+    some_forms : (ds : List Detection) (fs : PlainFormulas) → AreSomeForms (length ds) fs → IsSome (form_trees fields ds fs)
     some_forms ds no_forms w = absurd w
     some_forms ds (form f fs) w = tt
 

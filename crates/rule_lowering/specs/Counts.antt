@@ -5,7 +5,7 @@ use Rattle.rule_items.specs.declared.detection.Detection.{Detection}
 use Rattle.rule_items.specs.declared.item.Fields.{Fields}
 use Rattle.rule_items.specs.declared.item.Fields.TheVariants.{Keyword, Names}
 use Rattle.rule_items.specs.declared.item.Item.{Item}
-use Rattle.sig_conditions.specs.Formulas.{Form, FDetection, FNot, FAnd, FOr, Forms, no_forms, form, forms_of}
+use Rattle.sig_conditions.specs.Formulas.{PlainFormula, FDetection, FNot, FAnd, FOr, PlainFormulas, no_forms, form, forms_of}
 use Rattle.sig_modifiers.specs.declared.test.Test.{Test}
 
 abbrev pub values_count : List (List Test) → ℕ
@@ -30,13 +30,13 @@ abbrev pub detection_counts : ℕ → ℕ → List Detection → List ℕ
 detection_counts most searched ds = map (λ d. min (alternatives_count searched d.alternatives) most) ds
 
 abbrev mutual
-  pub form_count : ℕ → List ℕ → Form → ℕ
+  pub form_count : ℕ → List ℕ → PlainFormula → ℕ
   form_count most counts (FDetection n) = min (slice_index counts n) most
   form_count most counts (FNot f) = form_count most counts f
   form_count most counts (FAnd fs) = forms_count most counts fs
   form_count most counts (FOr fs) = forms_count most counts fs
 
-  pub forms_count : ℕ → List ℕ → Forms → ℕ
+  pub forms_count : ℕ → List ℕ → PlainFormulas → ℕ
   forms_count most counts no_forms = 0
   forms_count most counts (form f fs) = min (form_count most counts f + forms_count most counts fs) most
 

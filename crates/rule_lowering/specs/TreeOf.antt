@@ -14,7 +14,7 @@ use Rattle.rule_items.specs.declared.item.Fields.{Fields}
 use Rattle.rule_items.specs.declared.item.Fields.TheVariants.{Keyword, Names}
 use Rattle.rule_items.specs.declared.item.Item.{Item}
 use Rattle.sig_base.specs.declared.refusal.Place.{Place}
-use Rattle.sig_conditions.specs.Formulas.{Form, FDetection, FNot, FAnd, FOr, Forms, no_forms, form}
+use Rattle.sig_conditions.specs.Formulas.{PlainFormula, FDetection, FNot, FAnd, FOr, PlainFormulas, no_forms, form}
 use Rattle.sig_modifiers.specs.declared.modifier.Joined.{Joined}
 use Rattle.sig_modifiers.specs.declared.modifier.Joined.TheVariants.{All, Any}
 use Rattle.sig_modifiers.specs.declared.test.Test.{Test}
@@ -74,13 +74,13 @@ module _ (fields : List Field) where
   numbered_tree (d ∷ ds) (suc n) = numbered_tree ds n
 
   abbrev mutual
-    pub form_tree : List Detection → Form → Plain
+    pub form_tree : List Detection → PlainFormula → Plain
     form_tree ds (FDetection n) = numbered_tree ds n
     form_tree ds (FNot f) = negated (form_tree ds f)
     form_tree ds (FAnd fs) = join All (form_trees ds fs)
     form_tree ds (FOr fs) = join Any (form_trees ds fs)
 
-    pub form_trees : List Detection → Forms → List Plain
+    pub form_trees : List Detection → PlainFormulas → List Plain
     form_trees ds no_forms = []
     form_trees ds (form f fs) = form_tree ds f ∷ form_trees ds fs
 

@@ -3,13 +3,13 @@
 ghost use Rattle.std.specs.Prelude.{◌≡◌, IfOk, IfErr};
 ghost use Rattle.backend_core.specs.View.{tree_view};
 ghost use Rattle.rule_lowering.specs.Joining.{join};
-ghost use Rattle.rule_lowering.specs.Numbered.{Numbered};
+ghost use Rattle.rule_lowering.specs.Numbered.{AreNumbered};
 ghost use Rattle.rule_lowering.specs.TreeOf as spec;
 ghost use Rattle.sig_conditions.specs.Formulas.{form_view, forms_view, forms_of, numbered};
 
 use crate::joining::{add_part, close_parts};
 use crate::lowering::lower_numbered;
-use crate::numbers::Numbers;
+use crate::numbers::FieldNumbers;
 use backend_core::Tree;
 use event_schema::Field;
 use rule_items::Detection;
@@ -22,12 +22,12 @@ use std::alloc::Global;
 fn lower_taken(
     alloc: Global,
     fields: &[Field],
-    numbers: &Numbers,
+    numbers: &FieldNumbers,
     detections: &[Detection],
     joined: Joined,
     taken: &[u32],
 ) -> Result<Tree, Fault>
-    requires { Numbered fields.now numbers.now }
+    requires { AreNumbered fields.now numbers.now }
     ensures ok { IfOk result (λ t. tree_view t ≡ join joined (spec.form_trees fields.now detections.now (forms_of (numbered taken.now)))) }
     ensures err { IfErr result (λ e. e ≡ Fault.Memory) }
 {
@@ -43,11 +43,11 @@ fn lower_taken(
 fn lower_formula(
     alloc: Global,
     fields: &[Field],
-    numbers: &Numbers,
+    numbers: &FieldNumbers,
     detections: &[Detection],
     formula: &Formula,
 ) -> Result<Tree, Fault>
-    requires { Numbered fields.now numbers.now }
+    requires { AreNumbered fields.now numbers.now }
     ensures ok { IfOk result (λ t. tree_view t ≡ spec.form_tree fields.now detections.now (form_view formula.now)) }
     ensures err { IfErr result (λ e. e ≡ Fault.Memory) }
 {
@@ -91,12 +91,12 @@ fn lower_formula(
 pub fn lower_formulas(
     alloc: Global,
     fields: &[Field],
-    numbers: &Numbers,
+    numbers: &FieldNumbers,
     detections: &[Detection],
     joined: Joined,
     formulas: &[Formula],
 ) -> Result<Tree, Fault>
-    requires { Numbered fields.now numbers.now }
+    requires { AreNumbered fields.now numbers.now }
     ensures ok { IfOk result (λ t. tree_view t ≡ join joined (spec.form_trees fields.now detections.now (forms_of (forms_view formulas.now)))) }
     ensures err { IfErr result (λ e. e ≡ Fault.Memory) }
 {

@@ -5,18 +5,19 @@ ghost use Rattle.std.specs.Prelude.{◌≡◌, map, IfOk, IfErr};
 ghost use Rattle.std.specs.Fmt.{signed_decimal};
 ghost use Rattle.backend_core.specs.View.{tree_view};
 ghost use Rattle.rule_lowering.specs.Joining.{join};
-ghost use Rattle.rule_lowering.specs.Numbered.{Numbered};
+ghost use Rattle.rule_lowering.specs.Numbered.{AreNumbered};
 ghost use Rattle.rule_lowering.specs.TreeOf as spec;
 ghost use Rattle.rule_items.specs.declared.item.Fields.TheVariants.{Keyword, Names};
 ghost use Rattle.sig_modifiers.specs.declared.modifier.Joined.TheVariants.{Any};
 ghost use Rattle.sig_strings.specs.declared.part.Part.TheVariants.{Char};
 
 use crate::joining::{add_part, close_parts};
-use crate::numbers::Numbers;
+use crate::numbers::FieldNumbers;
 use backend_core::{Leaf, LeafTest, Tree};
-use event_schema::{Field, decimal};
+use event_schema::{Field, decimal_in};
+use itoa::Buffer;
 use rule_items::{Detection, Fields, Item};
-use sig_base::{Fault, Place, Text};
+use sig_base::{Fault, Place, Text, first_char};
 use sig_modifiers::{Joined, Test, Tests};
 use sig_strings::{Part, Pattern};
 use std::alloc::Global;
@@ -26,8 +27,13 @@ fn decimal_pattern(alloc: Global, number: i64) -> Result<Pattern, Fault>
     ensures ok { IfOk result (λ pattern. pattern ≡ map Char (signed_decimal number)) }
     ensures err { IfErr result (λ e. e ≡ Fault.Memory) }
 {
-    let text = decimal(alloc, number)?;
-    let parts = text.as_str().chars().map(|c| Part::Char(c)).collect(alloc)?;
+    let mut buffer = Buffer::new();
+    let mut left = decimal_in(&mut buffer, number);
+    let mut parts = Vec::with_capacity(alloc, left.len())?;
+    while let Some((c, rest)) = first_char(left) {
+        parts.push(Part::Char(c))?;
+        left = rest;
+    }
     Pattern::of_parts(parts)
 }
 
@@ -124,11 +130,11 @@ fn lower_keyword(
 fn lower_name(
     alloc: Global,
     fields: &[Field],
-    numbers: &Numbers,
+    numbers: &FieldNumbers,
     item: &Item,
     name: &Text,
 ) -> Result<Tree, Fault>
-    requires { Numbered fields.now numbers.now }
+    requires { AreNumbered fields.now numbers.now }
     ensures ok { IfOk result (λ t. tree_view t ≡ spec.values_tree item.now.place item.now.joined item.now.tests (spec.number_of fields.now name.now)) }
     ensures err { IfErr result (λ e. e ≡ Fault.Memory) }
 {
@@ -140,11 +146,11 @@ fn lower_name(
 fn lower_names(
     alloc: Global,
     fields: &[Field],
-    numbers: &Numbers,
+    numbers: &FieldNumbers,
     item: &Item,
     names: &[Text],
 ) -> Result<Tree, Fault>
-    requires { Numbered fields.now numbers.now }
+    requires { AreNumbered fields.now numbers.now }
     ensures ok { IfOk result (λ t. tree_view t ≡ spec.fields_tree fields.now item.now.place item.now.joined item.now.tests (Names names.now)) }
     ensures err { IfErr result (λ e. e ≡ Fault.Memory) }
 {
@@ -163,10 +169,10 @@ fn lower_names(
 fn lower_keywords(
     alloc: Global,
     fields: &[Field],
-    numbers: &Numbers,
+    numbers: &FieldNumbers,
     item: &Item,
 ) -> Result<Tree, Fault>
-    requires { Numbered fields.now numbers.now }
+    requires { AreNumbered fields.now numbers.now }
     ensures ok { IfOk result (λ t. tree_view t ≡ spec.fields_tree fields.now item.now.place item.now.joined item.now.tests Keyword) }
     ensures err { IfErr result (λ e. e ≡ Fault.Memory) }
 {
@@ -181,10 +187,10 @@ fn lower_keywords(
 fn lower_item(
     alloc: Global,
     fields: &[Field],
-    numbers: &Numbers,
+    numbers: &FieldNumbers,
     item: &Item,
 ) -> Result<Tree, Fault>
-    requires { Numbered fields.now numbers.now }
+    requires { AreNumbered fields.now numbers.now }
     ensures ok { IfOk result (λ t. tree_view t ≡ spec.item_tree fields.now item.now) }
     ensures err { IfErr result (λ e. e ≡ Fault.Memory) }
 {
@@ -198,10 +204,10 @@ fn lower_item(
 fn lower_alternative(
     alloc: Global,
     fields: &[Field],
-    numbers: &Numbers,
+    numbers: &FieldNumbers,
     items: &[Item],
 ) -> Result<Tree, Fault>
-    requires { Numbered fields.now numbers.now }
+    requires { AreNumbered fields.now numbers.now }
     ensures ok { IfOk result (λ t. tree_view t ≡ spec.alternative_tree fields.now items.now) }
     ensures err { IfErr result (λ e. e ≡ Fault.Memory) }
 {
@@ -220,10 +226,10 @@ fn lower_alternative(
 fn lower_detection(
     alloc: Global,
     fields: &[Field],
-    numbers: &Numbers,
+    numbers: &FieldNumbers,
     detection: &Detection,
 ) -> Result<Tree, Fault>
-    requires { Numbered fields.now numbers.now }
+    requires { AreNumbered fields.now numbers.now }
     ensures ok { IfOk result (λ t. tree_view t ≡ spec.detection_tree fields.now detection.now) }
     ensures err { IfErr result (λ e. e ≡ Fault.Memory) }
 {
@@ -239,11 +245,11 @@ fn lower_detection(
 pub fn lower_numbered(
     alloc: Global,
     fields: &[Field],
-    numbers: &Numbers,
+    numbers: &FieldNumbers,
     detections: &[Detection],
     number: u32,
 ) -> Result<Tree, Fault>
-    requires { Numbered fields.now numbers.now }
+    requires { AreNumbered fields.now numbers.now }
     ensures ok { IfOk result (λ t. tree_view t ≡ spec.numbered_tree fields.now detections.now number) }
     ensures err { IfErr result (λ e. e ≡ Fault.Memory) }
 {

@@ -17,7 +17,7 @@ ghost use Rattle.sig_base.specs.Judged.{Judged};
 use crate::counting::count_rule;
 use crate::formula::lower_formulas;
 use crate::law::{tree_is_sound, tree_means_rule};
-use crate::numbers::Numbers;
+use crate::numbers::FieldNumbers;
 use backend_core::Tree;
 use event_schema::Schema;
 use rule_model::Rule;
@@ -50,7 +50,7 @@ pub fn lower(alloc: Global, limits: &Limits, rule: &Rule, schema: &Schema) -> Re
     tree_means_rule();
     tree_is_sound();
     let fields = schema.fields.as_slice();
-    let numbers = Numbers::of(alloc, fields)?;
+    let numbers = FieldNumbers::of(alloc, fields)?;
     let count = count_rule(alloc, numbers.searched().len(), rule)?;
     if count > limits.leaves as u128 {
         return Err(too_many(rule.head.place, count, limits.leaves));

@@ -9,7 +9,7 @@ use rule_head::{Head, LogSource};
 use rule_items::{Alternative, Alternatives, Detection, Detections, Fields, Item, Values};
 use rule_model::Rule;
 use sig_base::{Code, Detail, Fault, Limits, Place, Text, Texts};
-use sig_conditions::{Formula, Numbers};
+use sig_conditions::{DetectionNumbers, Formula};
 use sig_modifiers::{Joined, Test, Tests};
 use sig_strings::Pattern;
 use std::alloc::Global;
@@ -283,8 +283,8 @@ fn numbered(alloc: Global, numbers: &[u32]) -> Result<Vec<Formula>, Fail> {
     Ok(formulas)
 }
 
-fn taken(alloc: Global, numbers: &[u32]) -> Result<Numbers, Fail> {
-    let mut taken = Numbers::new(alloc);
+fn taken(alloc: Global, numbers: &[u32]) -> Result<DetectionNumbers, Fail> {
+    let mut taken = DetectionNumbers::new(alloc);
     for number in numbers {
         taken.push(*number)?;
     }

@@ -3,7 +3,7 @@ use Rattle.std.specs.Prelude.{ℕ, zero, suc, ◌≡◌, true, List, [], ◌∷�
 use Rattle.event_schema.specs.declared.schema.Field.{Field}
 use Rattle.event_schema.specs.declared.value.Value.{Value}
 use Rattle.event_schema.specs.Rows.{field_number, values_if_any}
-use Rattle.sig_conditions.specs.Formulas.{Form, FDetection, FNot, FAnd, FOr, Forms, no_forms, form}
+use Rattle.sig_conditions.specs.Formulas.{PlainFormula, FDetection, FNot, FAnd, FOr, PlainFormulas, no_forms, form}
 use Rattle.sig_modifiers.specs.Holds.{Holds}
 use Rattle.sig_modifiers.specs.declared.modifier.Joined.{Joined}
 use Rattle.sig_modifiers.specs.declared.modifier.Joined.TheVariants.{All, Any}
@@ -50,17 +50,17 @@ module _ (fields : List Field) (row : List (List Value)) where
   NumberHolds (d ∷ ds) (suc n) = NumberHolds ds n
 
   abbrev mutual
-    pub FormHolds : List Detection → Form → Type 0
+    pub FormHolds : List Detection → PlainFormula → Type 0
     FormHolds ds (FDetection n) = NumberHolds ds n
     FormHolds ds (FNot f) = FormHolds ds f → ⊥
     FormHolds ds (FAnd fs) = AllFormsHold ds fs
     FormHolds ds (FOr fs) = SomeFormHolds ds fs
 
-    pub AllFormsHold : List Detection → Forms → Type 0
+    pub AllFormsHold : List Detection → PlainFormulas → Type 0
     AllFormsHold ds no_forms = ⊤
     AllFormsHold ds (form f fs) = FormHolds ds f × AllFormsHold ds fs
 
-    pub SomeFormHolds : List Detection → Forms → Type 0
+    pub SomeFormHolds : List Detection → PlainFormulas → Type 0
     SomeFormHolds ds no_forms = ⊥
     SomeFormHolds ds (form f fs) = FormHolds ds f ⊎ SomeFormHolds ds fs
 

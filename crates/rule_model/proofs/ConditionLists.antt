@@ -6,7 +6,7 @@ use Rattle.std.proofs.lemmas.List.{map-append}
 use Rattle.sig_base.specs.declared.limits.Limits.{Limits}
 use Rattle.sig_base.specs.declared.refusal.Fault.{Fault}
 use Rattle.sig_base.specs.declared.refusal.Place.{Place}
-use Rattle.sig_conditions.specs.Formulas.{Form, form_view, forms_view}
+use Rattle.sig_conditions.specs.Formulas.{PlainFormula, form_view, forms_view}
 use Rattle.sig_conditions.specs.declared.formula.Formula.{Formula}
 use Rattle.sig_base.specs.Judged.{must, first, Judged}
 use Rattle.yaml_tree.specs.Nodes.{place_of}
@@ -59,7 +59,7 @@ each_read R Q f [] (y ∷ ys) all = absurd all
 each_read R Q f (x ∷ xs) [] all = absurd all
 each_read R Q f (x ∷ xs) (y ∷ ys) all = (f x y all.0, each_read R Q f xs ys all.1)
 
-some_listed : (limits : Limits) (names : List (List ℕ)) (place : Place) (o : Option Tree) (fs : List Form)
+some_listed : (limits : Limits) (names : List (List ℕ)) (place : Place) (o : Option Tree) (fs : List PlainFormula)
     → first (must 70 place (is_some o) ∷ refused_by (listed_refusal limits names) o ∷ []) ≡ None → AllZip (IsFormula names) (conditions_in o) fs → IsSome fs
 some_listed limits names place None fs h all = absurd cc
 some_listed limits names place (Some v) fs h all =
@@ -68,11 +68,11 @@ some_listed limits names place (Some v) fs h all =
     (not_holds (is_empty (parts_in v)) (must_holds 78 (place_of v) (not (is_empty (parts_in v))) (first_holds _ _ listed).0))
 
 -- a rule that is read has a condition
-pub some_conditions : (limits : Limits) (t : Tree) (fs : List Form) → conditions_refusal limits t ≡ None → AreConditions t fs → IsSome fs
+pub some_conditions : (limits : Limits) (t : Tree) (fs : List PlainFormula) → conditions_refusal limits t ≡ None → AreConditions t fs → IsSome fs
 some_conditions limits t fs h all = some_listed limits (names_of t) (place_of t) (value_in (codes "condition") (entries_in t)) fs h all
 
 -- whose numbers are below the count of its detections, and which has no empty chain
-pub whole_conditions : (t : Tree) (fs : List Form) → AreConditions t fs → EachOf (IsWholeForm (length (names_of t))) fs
+pub whole_conditions : (t : Tree) (fs : List PlainFormula) → AreConditions t fs → EachOf (IsWholeForm (length (names_of t))) fs
 whole_conditions t fs all =
     each_read (IsFormula (names_of t)) (IsWholeForm (length (names_of t)))
     (λ v f is. whole_formula (names_of t) (words (text_in v)) is.condition f is.reads is.formula)

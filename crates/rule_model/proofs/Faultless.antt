@@ -2,7 +2,7 @@
 use Rattle.std.proofs.Common.{ℕ, ◌≡◌, ◌≤◌, ◌<◌, ◌+◌, Bool, true, false, List, [], ◌∷◌, ◌++◌, length, refl, ap, sym, ◌∙◌, subst, arith, cond}
 use Rattle.std.specs.Prelude.{Option, Some, None, ⊤, bytes_eq}
 use Rattle.sig_conditions.specs.Conditions.{Cond, CName, COneOf, CAllOf, CNot, CAnd, COr, Conds, no_conds, put, joined_or, joined_and}
-use Rattle.sig_conditions.specs.Formulas.{Form, FDetection, FNot, FAnd, FOr, Forms, no_forms, form, forms_of, numbered, named, chosen, made, both, formula_of, formulas_of, Why, none_named, none_taken, faults, faults_of}
+use Rattle.sig_conditions.specs.Formulas.{PlainFormula, FDetection, FNot, FAnd, FOr, PlainFormulas, no_forms, form, forms_of, numbered, named, formula_taken, made, both, formula_of, formulas_of, Why, none_named, none_taken, faults, faults_of}
 use Rattle.sig_conditions.specs.Grammar.{IsOr, or_chain, OrTail, or_end, or_next, IsAnd, and_chain, AndTail, and_end, and_next, IsNot, negated, plain, IsAtom, paren, named as named_atom, one_of, all_of}
 use Rattle.sig_conditions.specs.Taken.{number_from, number_of, takes, taken_from, taken}
 use Rattle.sig_conditions.specs.declared.selector.Selector.{Selector}
@@ -10,25 +10,25 @@ use Rattle.sig_conditions.specs.declared.word.Word.{Word}
 use Rattle.sig_modifiers.specs.Lists.{EachOf}
 use Rattle.rule_model.specs.Whole.{IsWholeForm, AreSomeForms, AreWholeForms}
 
-named_none : (name : List ℕ) (o : Option ℕ) (f : Form) → named o ≡ Some f → none_named name o ≡ []
+named_none : (name : List ℕ) (o : Option ℕ) (f : PlainFormula) → named o ≡ Some f → none_named name o ≡ []
 named_none name None f h = absurd cc
 named_none name (Some i) f h = refl
 
-taken_none : (make : Forms → Form) (is : List ℕ) (f : Form) → chosen make is ≡ Some f → none_taken is ≡ []
+taken_none : (make : PlainFormulas → PlainFormula) (is : List ℕ) (f : PlainFormula) → formula_taken make is ≡ Some f → none_taken is ≡ []
 taken_none make [] f h = absurd cc
 taken_none make (i ∷ is) f h = refl
 
-made_part : {A : Type 0} (make : A → Form) (o : Option A) (f : Form) → made make o ≡ Some f → (x : A) × (o ≡ Some x) × (make x ≡ f)
+made_part : {A : Type 0} (make : A → PlainFormula) (o : Option A) (f : PlainFormula) → made make o ≡ Some f → (x : A) × (o ≡ Some x) × (make x ≡ f)
 made_part make None f h = absurd cc
 made_part make (Some x) f h = (x, refl, cc)
 
-both_parts : (o : Option Form) (p : Option Forms) (fs : Forms) → both o p ≡ Some fs → (f : Form) × (gs : Forms) × (o ≡ Some f) × (p ≡ Some gs) × (form f gs ≡ fs)
+both_parts : (o : Option PlainFormula) (p : Option PlainFormulas) (fs : PlainFormulas) → both o p ≡ Some fs → (f : PlainFormula) × (gs : PlainFormulas) × (o ≡ Some f) × (p ≡ Some gs) × (form f gs ≡ fs)
 both_parts None p fs h = absurd cc
 both_parts (Some f) None fs h = absurd cc
 both_parts (Some f) (Some gs) fs h = (f, gs, refl, refl, cc)
 
 mutual
-  pub no_faults : (names : List (List ℕ)) (c : Cond) (f : Form) → formula_of names c ≡ Some f → faults names c ≡ []
+  pub no_faults : (names : List (List ℕ)) (c : Cond) (f : PlainFormula) → formula_of names c ≡ Some f → faults names c ≡ []
   no_faults names (CName name) f h = named_none name (number_of name names) f h
   no_faults names (COneOf s) f h = taken_none FOr (taken s names) f h
   no_faults names (CAllOf s) f h = taken_none FAnd (taken s names) f h
@@ -36,7 +36,7 @@ mutual
   no_faults names (CAnd cs) f h = let m = made_part FAnd (formulas_of names cs) f h in none_faulty names cs m.0 m.1
   no_faults names (COr cs) f h = let m = made_part FOr (formulas_of names cs) f h in none_faulty names cs m.0 m.1
 
-  none_faulty : (names : List (List ℕ)) (cs : Conds) (fs : Forms) → formulas_of names cs ≡ Some fs → faults_of names cs ≡ []
+  none_faulty : (names : List (List ℕ)) (cs : Conds) (fs : PlainFormulas) → formulas_of names cs ≡ Some fs → faults_of names cs ≡ []
   none_faulty names no_conds fs h = refl
   none_faulty names (put c cs) fs h =
       let b = both_parts (formula_of names c) (formulas_of names cs) fs h in
@@ -65,20 +65,20 @@ numbers_whole : (count : ℕ) (is : List ℕ) → EachOf (λ i. i < count) is �
 numbers_whole count [] h = tt
 numbers_whole count (i ∷ is) h = (h.0, numbers_whole count is h.1)
 
-named_whole : (name : List ℕ) (names : List (List ℕ)) (o : Option ℕ) (f : Form) → number_of name names ≡ o → named o ≡ Some f → IsWholeForm (length names) f
+named_whole : (name : List ℕ) (names : List (List ℕ)) (o : Option ℕ) (f : PlainFormula) → number_of name names ≡ o → named o ≡ Some f → IsWholeForm (length names) f
 named_whole name names None f is h = absurd cc
 named_whole name names (Some i) f is h =
     let same : FDetection i ≡ f = cc in
     let below : i < 0 + length names = number_below 0 name names i is in
     subst (IsWholeForm (length names)) same (omega arith)
 
-one_whole : (count : ℕ) (is : List ℕ) (f : Form) → EachOf (λ i. i < count) is → chosen FOr is ≡ Some f → IsWholeForm count f
+one_whole : (count : ℕ) (is : List ℕ) (f : PlainFormula) → EachOf (λ i. i < count) is → formula_taken FOr is ≡ Some f → IsWholeForm count f
 one_whole count [] f each h = absurd cc
 one_whole count (i ∷ is) f each h =
     let same : FOr (forms_of (numbered (i ∷ is))) ≡ f = cc in
     subst (IsWholeForm count) same (each.0, numbers_whole count is each.1)
 
-all_whole : (count : ℕ) (is : List ℕ) (f : Form) → EachOf (λ i. i < count) is → chosen FAnd is ≡ Some f → IsWholeForm count f
+all_whole : (count : ℕ) (is : List ℕ) (f : PlainFormula) → EachOf (λ i. i < count) is → formula_taken FAnd is ≡ Some f → IsWholeForm count f
 all_whole count [] f each h = absurd cc
 all_whole count (i ∷ is) f each h =
     let same : FAnd (forms_of (numbered (i ∷ is))) ≡ f = cc in
@@ -137,7 +137,7 @@ mutual
   atom_chained (all_of v s w i) = tt
 
 mutual
-  formula_whole : (names : List (List ℕ)) (c : Cond) (f : Form) → IsChained c → formula_of names c ≡ Some f → IsWholeForm (length names) f
+  formula_whole : (names : List (List ℕ)) (c : Cond) (f : PlainFormula) → IsChained c → formula_of names c ≡ Some f → IsWholeForm (length names) f
   formula_whole names (CName name) f ch h = named_whole name names (number_of name names) f refl h
   formula_whole names (COneOf s) f ch h = one_whole (length names) (taken s names) f (taken_below 0 (length names) s names (omega arith)) h
   formula_whole names (CAllOf s) f ch h = all_whole (length names) (taken s names) f (taken_below 0 (length names) s names (omega arith)) h
@@ -151,18 +151,18 @@ mutual
       let m = made_part FOr (formulas_of names cs) f h in
       subst (IsWholeForm (length names)) m.2 (some_whole names cs m.0 ch m.1)
 
-  some_whole : (names : List (List ℕ)) (cs : Conds) (fs : Forms) → SomeChained cs → formulas_of names cs ≡ Some fs → AreSomeForms (length names) fs
+  some_whole : (names : List (List ℕ)) (cs : Conds) (fs : PlainFormulas) → SomeChained cs → formulas_of names cs ≡ Some fs → AreSomeForms (length names) fs
   some_whole names no_conds fs ch h = absurd ch
   some_whole names (put c cs) fs ch h =
       let b = both_parts (formula_of names c) (formulas_of names cs) fs h in
       subst (AreSomeForms (length names)) b.4 (formula_whole names c b.0 ch.0 b.2, each_whole names cs b.1 ch.1 b.3)
 
-  each_whole : (names : List (List ℕ)) (cs : Conds) (fs : Forms) → AllChained cs → formulas_of names cs ≡ Some fs → AreWholeForms (length names) fs
+  each_whole : (names : List (List ℕ)) (cs : Conds) (fs : PlainFormulas) → AllChained cs → formulas_of names cs ≡ Some fs → AreWholeForms (length names) fs
   each_whole names no_conds fs ch h = let same : no_forms ≡ fs = cc in subst (AreWholeForms (length names)) same tt
   each_whole names (put c cs) fs ch h =
       let b = both_parts (formula_of names c) (formulas_of names cs) fs h in
       subst (AreWholeForms (length names)) b.4 (formula_whole names c b.0 ch.0 b.2, each_whole names cs b.1 ch.1 b.3)
 
 -- the formula of a condition of the grammar is whole
-pub whole_formula : (names : List (List ℕ)) (ws : List Word) (c : Cond) (f : Form) → IsOr ws c → formula_of names c ≡ Some f → IsWholeForm (length names) f
+pub whole_formula : (names : List (List ℕ)) (ws : List Word) (c : Cond) (f : PlainFormula) → IsOr ws c → formula_of names c ≡ Some f → IsWholeForm (length names) f
 whole_formula names ws c f reads is = formula_whole names c f (or_chained reads) is

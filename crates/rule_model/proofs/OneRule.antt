@@ -4,7 +4,7 @@ use Rattle.std.specs.Prelude.{Option, Some, codes}
 use Rattle.std.specs.List.{AllZip}
 use Rattle.sig_base.specs.declared.refusal.Place.{Place}
 use Rattle.sig_conditions.specs.Conditions.{Cond}
-use Rattle.sig_conditions.specs.Formulas.{Form, formula_of}
+use Rattle.sig_conditions.specs.Formulas.{PlainFormula, formula_of}
 use Rattle.sig_conditions.specs.Grammar.{ConditionReads}
 use Rattle.sig_conditions.specs.Words.{words}
 use Rattle.sig_conditions.specs.declared.word.Word.{Word}
@@ -63,7 +63,7 @@ same_head g h t i n p r =
 
 same_rule : (r s : PlainRule) → r.head ≡ s.head → r.source ≡ s.source → r.detections ≡ s.detections → r.conditions ≡ s.conditions → r ≡ s
 same_rule r s h o d c =
-    let put : PlainHead → LogSource → List Detection → List Form → PlainRule = λ a b e f. record { head = a; source = b; detections = e; conditions = f } in
+    let put : PlainHead → LogSource → List Detection → List PlainFormula → PlainRule = λ a b e f. record { head = a; source = b; detections = e; conditions = f } in
     ap (λ (x : PlainHead). put x r.source r.detections r.conditions) h
     ∙ (ap (λ (x : LogSource). put s.head x r.detections r.conditions) o
     ∙ (ap (λ (x : List Detection). put s.head s.source x r.conditions) d ∙ ap (put s.head s.source s.detections) c))
@@ -95,7 +95,7 @@ module _
       same_detection d f (p.name ∙ sym q.name)
       (zip_one IsAlternative alternative_one (parts_in e.value) d.alternatives f.alternatives p.alternatives q.alternatives) (p.place ∙ sym q.place)
 
-  formula_one : (names : List (List ℕ)) (t : Tree) (f g : Form) → IsFormula names t f → IsFormula names t g → f ≡ g
+  formula_one : (names : List (List ℕ)) (t : Tree) (f g : PlainFormula) → IsFormula names t f → IsFormula names t g → f ≡ g
   formula_one names t f g p q =
       let same : p.condition ≡ q.condition = condition_one (words (text_in t)) p.condition q.condition p.reads q.reads in
       some_same (formula_of names q.condition) f g (ap (formula_of names) (sym same) ∙ p.formula) q.formula
@@ -104,7 +104,7 @@ module _
   detections_one t u ds es same p q =
       zip_one IsDetection detection_one (detection_entries u) ds es (subst (λ (v : Tree). AreDetections v ds) same p) q
 
-  conditions_one : (t u : Tree) (fs gs : List Form) → t ≡ u → AreConditions t fs → AreConditions u gs → fs ≡ gs
+  conditions_one : (t u : Tree) (fs gs : List PlainFormula) → t ≡ u → AreConditions t fs → AreConditions u gs → fs ≡ gs
   conditions_one t u fs gs same p q =
       zip_one (IsFormula (names_of u)) (formula_one (names_of u)) (conditions_in (value_in (codes "condition") (entries_in u))) fs gs
       (subst (λ (v : Tree). AreConditions v fs) same p) q

@@ -6,7 +6,7 @@ use Rattle.sig_base.specs.declared.limits.Limits.{Limits}
 use Rattle.sig_base.specs.declared.refusal.Place.{Place}
 use Rattle.sig_base.specs.declared.refusal.Refusal.{Refusal}
 use Rattle.sig_conditions.specs.Conditions.{Cond, CName, COneOf, CAllOf, CNot, CAnd, COr, Conds, no_conds, put}
-use Rattle.sig_conditions.specs.Formulas.{Form, FDetection, FNot, FAnd, FOr, Forms, no_forms, form, forms_of, numbered, named, chosen, made, both, formula_of, formulas_of, Why, none_named, none_taken, faults, faults_of}
+use Rattle.sig_conditions.specs.Formulas.{PlainFormula, FDetection, FNot, FAnd, FOr, PlainFormulas, no_forms, form, forms_of, numbered, named, formula_taken, made, both, formula_of, formulas_of, Why, none_named, none_taken, faults, faults_of}
 use Rattle.sig_conditions.specs.Taken.{number_of, taken}
 use Rattle.sig_conditions.specs.Words.{has_bar, nesting, words}
 use Rattle.sig_conditions.proofs.Sound.{is_condition}
@@ -107,22 +107,22 @@ append_nil : {A : Type 0} (xs ys : List A) → xs ++ ys ≡ [] → (xs ≡ []) �
 append_nil [] ys h = (refl, h)
 append_nil (x ∷ xs) ys h = absurd cc
 
-named_some : (name : List ℕ) (o : Option ℕ) → none_named name o ≡ [] → (f : Form) × (named o ≡ Some f)
+named_some : (name : List ℕ) (o : Option ℕ) → none_named name o ≡ [] → (f : PlainFormula) × (named o ≡ Some f)
 named_some name None h = absurd cc
 named_some name (Some i) h = (FDetection i, refl)
 
-taken_some : (make : Forms → Form) (is : List ℕ) → none_taken is ≡ [] → (f : Form) × (chosen make is ≡ Some f)
+taken_some : (make : PlainFormulas → PlainFormula) (is : List ℕ) → none_taken is ≡ [] → (f : PlainFormula) × (formula_taken make is ≡ Some f)
 taken_some make [] h = absurd cc
 taken_some make (i ∷ is) h = (make (forms_of (numbered (i ∷ is))), refl)
 
-made_some : {A : Type 0} (make : A → Form) (o : Option A) (x : A) → o ≡ Some x → (f : Form) × (made make o ≡ Some f)
+made_some : {A : Type 0} (make : A → PlainFormula) (o : Option A) (x : A) → o ≡ Some x → (f : PlainFormula) × (made make o ≡ Some f)
 made_some make o x is = (make x, ap (made make) is)
 
-both_some : (o : Option Form) (p : Option Forms) (f : Form) (fs : Forms) → o ≡ Some f → p ≡ Some fs → (gs : Forms) × (both o p ≡ Some gs)
-both_some o p f fs one more = (form f fs, ap (λ (q : Option Form). both q p) one ∙ ap (both (Some f)) more)
+both_some : (o : Option PlainFormula) (p : Option PlainFormulas) (f : PlainFormula) (fs : PlainFormulas) → o ≡ Some f → p ≡ Some fs → (gs : PlainFormulas) × (both o p ≡ Some gs)
+both_some o p f fs one more = (form f fs, ap (λ (q : Option PlainFormula). both q p) one ∙ ap (both (Some f)) more)
 
 mutual
-  faultless : (names : List (List ℕ)) (c : Cond) → faults names c ≡ [] → (f : Form) × (formula_of names c ≡ Some f)
+  faultless : (names : List (List ℕ)) (c : Cond) → faults names c ≡ [] → (f : PlainFormula) × (formula_of names c ≡ Some f)
   faultless names (CName name) h = named_some name (number_of name names) h
   faultless names (COneOf s) h = taken_some FOr (taken s names) h
   faultless names (CAllOf s) h = taken_some FAnd (taken s names) h
@@ -130,7 +130,7 @@ mutual
   faultless names (CAnd cs) h = let m = all_faultless names cs h in made_some FAnd (formulas_of names cs) m.0 m.1
   faultless names (COr cs) h = let m = all_faultless names cs h in made_some FOr (formulas_of names cs) m.0 m.1
 
-  all_faultless : (names : List (List ℕ)) (cs : Conds) → faults_of names cs ≡ [] → (fs : Forms) × (formulas_of names cs ≡ Some fs)
+  all_faultless : (names : List (List ℕ)) (cs : Conds) → faults_of names cs ≡ [] → (fs : PlainFormulas) × (formulas_of names cs ≡ Some fs)
   all_faultless names no_conds h = (no_forms, refl)
   all_faultless names (put c cs) h =
       let parts = append_nil (faults names c) (faults_of names cs) h in
@@ -142,7 +142,7 @@ no_fault : (place : Place) (whys : List Why) → first_fault place whys ≡ None
 no_fault place [] h = refl
 no_fault place (why ∷ whys) h = absurd cc
 
-formula_some : (limits : Limits) (names : List (List ℕ)) (t : Tree) → condition_refusal limits names t ≡ None → (f : Form) × IsFormula names t f
+formula_some : (limits : Limits) (names : List (List ℕ)) (t : Tree) → condition_refusal limits names t ≡ None → (f : PlainFormula) × IsFormula names t f
 formula_some limits names t none =
     let text = text_in t in
     let found = condition_of limits.condition_words text in
@@ -154,17 +154,17 @@ formula_some limits names t none =
     let made = faultless names read.0 (no_fault (place_of t) (faults names read.0) fine) in
     (made.0, record { condition = read.0; reads = is_condition limits.condition_words (words text) read.0 read.1; formula = made.1 })
 
-listed_some : (limits : Limits) (names : List (List ℕ)) (t : Tree) → listed_refusal limits names t ≡ None → (fs : List Form) × AllZip (IsFormula names) (parts_in t) fs
+listed_some : (limits : Limits) (names : List (List ℕ)) (t : Tree) → listed_refusal limits names t ≡ None → (fs : List PlainFormula) × AllZip (IsFormula names) (parts_in t) fs
 listed_some limits names t none =
     let lines = two_hold (must 78 (place_of t) (not (is_empty (parts_in t)))) (first (map (condition_refusal limits names) (parts_in t))) none in
     zip_all (IsFormula names) (condition_refusal limits names) (formula_some limits names) (parts_in t) lines.1
 
 found_some : (limits : Limits) (names : List (List ℕ)) (o : Option Tree) → refused_by (listed_refusal limits names) o ≡ None
-    → (fs : List Form) × AllZip (IsFormula names) (conditions_in o) fs
+    → (fs : List PlainFormula) × AllZip (IsFormula names) (conditions_in o) fs
 found_some limits names None none = ([], tt)
 found_some limits names (Some t) none = listed_some limits names t none
 
-conditions_some : (limits : Limits) (t : Tree) → conditions_refusal limits t ≡ None → (fs : List Form) × AreConditions t fs
+conditions_some : (limits : Limits) (t : Tree) → conditions_refusal limits t ≡ None → (fs : List PlainFormula) × AreConditions t fs
 conditions_some limits t none =
     let value = value_in (codes "condition") (entries_in t) in
     let lines = two_hold (must 70 (place_of t) (is_some value)) (refused_by (listed_refusal limits (names_of t)) value) none in

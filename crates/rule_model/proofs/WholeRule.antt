@@ -19,8 +19,8 @@ use Rattle.sig_modifiers.specs.PlainTests.{ArePlainTests}
 use Rattle.sig_modifiers.specs.TestsOf.{Use, unused, absent, existing, pattern, number, UseTests, TestsOf, use_of, form_of, form_use, scalar_use, truth_text, has_nul, use_refusal, value_refusal}
 use Rattle.yaml_tree.specs.Nodes.{place_of}
 use Rattle.sig_modifiers.specs.Written.{Written}
-use Rattle.sig_modifiers.specs.declared.form.Form as forms
-use Rattle.sig_modifiers.specs.declared.form.Form.TheVariants.{Bare, Presence, Texts}
+use Rattle.sig_modifiers.specs.declared.form.ChainForm as forms
+use Rattle.sig_modifiers.specs.declared.form.ChainForm.TheVariants.{Bare, Presence, Texts}
 use Rattle.sig_modifiers.specs.declared.test.Test.{Test}
 use Rattle.sig_modifiers.specs.declared.test.Test.TheVariants as tests
 use Rattle.sig_modifiers.proofs.PlainLemmas.{spells_plain, plain_pattern_of}
@@ -153,7 +153,7 @@ null_scalars : (nulls : Bool) → IsScalarUse (if nulls then absent else unused)
 null_scalars true = tt
 null_scalars false = tt
 
-scalar_uses : (form : forms.Form) (s : Scalar) → IsScalarText s → IsScalarUse (scalar_use form s)
+scalar_uses : (form : forms.ChainForm) (s : Scalar) → IsScalarText s → IsScalarUse (scalar_use form s)
 scalar_uses Bare null h = tt
 scalar_uses Bare (truth b) h = truth_scalars b
 scalar_uses Bare (whole n) h = tt
@@ -167,7 +167,7 @@ scalar_uses (Texts nulls) (truth b) h = truth_scalars b
 scalar_uses (Texts nulls) (whole n) h = ascii_scalars (signed_decimal n) (decimal_ascii n)
 scalar_uses (Texts nulls) (text t) h = h
 
-node_uses : (form : forms.Form) (t : Tree) → HasScalarTexts t → IsScalarUse (form_use form t)
+node_uses : (form : forms.ChainForm) (t : Tree) → HasScalarTexts t → IsScalarUse (form_use form t)
 node_uses form (scalar_node a s) h = scalar_uses form s h
 node_uses form (list a es) h = tt
 node_uses form (tree_map a ms) h = tt

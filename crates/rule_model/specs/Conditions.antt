@@ -6,7 +6,7 @@ use Rattle.sig_base.specs.declared.limits.Limits.{Limits}
 use Rattle.sig_base.specs.declared.refusal.Place.{Place}
 use Rattle.sig_base.specs.declared.refusal.Refusal.{Refusal}
 use Rattle.sig_conditions.specs.Conditions.{Cond}
-use Rattle.sig_conditions.specs.Formulas.{Form, Why, formula_of, faults}
+use Rattle.sig_conditions.specs.Formulas.{PlainFormula, Why, formula_of, faults}
 use Rattle.sig_conditions.specs.Grammar.{ConditionReads}
 use Rattle.sig_conditions.specs.Reader.{condition_in}
 use Rattle.sig_conditions.specs.Refusals.{refusal_of}
@@ -43,7 +43,7 @@ condition_refusal limits names t = first (
     ∷ [])
 
 -- the formula over the detections that a condition is
-pub record IsFormula (names : List (List ℕ)) (t : Tree) (f : Form) : Type 0 where
+pub record IsFormula (names : List (List ℕ)) (t : Tree) (f : PlainFormula) : Type 0 where
   pub condition : Cond
   pub reads : ConditionReads (words (text_in t)) condition
   pub formula : formula_of names condition ≡ Some f
@@ -69,5 +69,5 @@ abbrev pub conditions_in : Option Tree → List Tree
 conditions_in None = []
 conditions_in (Some t) = parts_in t
 
-abbrev pub AreConditions : Tree → List Form → Type 0
+abbrev pub AreConditions : Tree → List PlainFormula → Type 0
 AreConditions t fs = AllZip (IsFormula (names_of t)) (conditions_in (value_in (codes "condition") (entries_in t))) fs

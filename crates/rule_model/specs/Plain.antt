@@ -1,6 +1,6 @@
 -- Rules as plain data, which contracts compare.
 use Rattle.std.specs.Prelude.{List}
-use Rattle.sig_conditions.specs.Formulas.{Form, forms_view}
+use Rattle.sig_conditions.specs.Formulas.{PlainFormula, forms_view}
 use Rattle.yaml_tree.specs.Tree.{Member}
 use Rattle.rule_head.specs.Plain.{PlainHead, head_view, head_with}
 use Rattle.rule_head.specs.declared.source.LogSource.{LogSource}
@@ -11,7 +11,7 @@ pub record PlainRule : Type 0 where
   pub head : PlainHead
   pub source : LogSource
   pub detections : List Detection
-  pub conditions : List Form
+  pub conditions : List PlainFormula
 
 abbrev pub rule_view : Rule → PlainRule
 rule_view r = record { head = head_view r.head; source = r.source; detections = r.detections; conditions = forms_view r.conditions.items }

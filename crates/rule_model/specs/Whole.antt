@@ -1,7 +1,7 @@
 -- What every rule that is read keeps: its detections are whole, it has a condition, no `and` or `or` of a condition is empty,
 -- and their numbers name its detections.
 use Rattle.std.specs.Prelude.{ℕ, ◌<◌, length, ⊤}
-use Rattle.sig_conditions.specs.Formulas.{Form, FDetection, FNot, FAnd, FOr, Forms, no_forms, form}
+use Rattle.sig_conditions.specs.Formulas.{PlainFormula, FDetection, FNot, FAnd, FOr, PlainFormulas, no_forms, form}
 use Rattle.sig_modifiers.specs.Lists.{EachOf}
 use Rattle.event_schema.specs.Lists.{IsSome}
 use Rattle.rule_items.specs.Whole.{IsWholeDetection}
@@ -9,17 +9,17 @@ use Rattle.rule_model.specs.Plain.{PlainRule}
 
 -- the numbers are below this one, and no `and` or `or` is empty
 abbrev mutual
-  pub IsWholeForm : ℕ → Form → Type 0
+  pub IsWholeForm : ℕ → PlainFormula → Type 0
   IsWholeForm count (FDetection n) = n < count
   IsWholeForm count (FNot f) = IsWholeForm count f
   IsWholeForm count (FAnd fs) = AreSomeForms count fs
   IsWholeForm count (FOr fs) = AreSomeForms count fs
 
-  pub AreSomeForms : ℕ → Forms → Type 0
+  pub AreSomeForms : ℕ → PlainFormulas → Type 0
   AreSomeForms count no_forms = ⊥
   AreSomeForms count (form f fs) = IsWholeForm count f × AreWholeForms count fs
 
-  pub AreWholeForms : ℕ → Forms → Type 0
+  pub AreWholeForms : ℕ → PlainFormulas → Type 0
   AreWholeForms count no_forms = ⊤
   AreWholeForms count (form f fs) = IsWholeForm count f × AreWholeForms count fs
 

@@ -5,7 +5,7 @@ ghost use Rattle.rule_model.specs.Plain.{rule_view};
 ghost use Rattle.sig_conditions.specs.Formulas.{forms_view};
 
 use crate::rule::Rule;
-use sig_base::Fault;
+use sig_base::{Fault, TryCopy};
 use sig_conditions::Formula;
 use std::alloc::Global;
 
@@ -28,7 +28,7 @@ impl Rule {
     {
         let head = self.head.copy(alloc)?;
         let source = self.source.copy(alloc)?;
-        let detections = self.detections.copy(alloc)?;
+        let detections = self.detections.try_copy(alloc)?;
         let conditions = copy_formulas(alloc, &self.conditions)?;
         Ok(Rule {
             head,

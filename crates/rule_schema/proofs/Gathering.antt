@@ -14,7 +14,8 @@ use Rattle.sig_base.specs.declared.refusal.Refusal.{Refusal}
 use Rattle.sig_base.specs.declared.refusal.Fault.{Fault}
 use Rattle.sig_base.specs.declared.refusal.Fault.TheVariants.{Memory, Refused}
 use Rattle.std.specs.Result.{IsErrAnd}
-use Rattle.std.specs.Str.{bytes_eq, all_scalars}
+use Rattle.std.specs.Str.{bytes_eq, all_scalars, chars}
+use Rattle.std.proofs.lemmas.Str.{chars-nil}
 use Rattle.text_index.proofs.Indexing.{same_bytes}
 use Rattle.std.proofs.lemmas.Option.{none-some}
 use Rattle.std.proofs.lemmas.Slice.Eq.{bytes_eq-Decides}
@@ -184,20 +185,52 @@ finds_bytes names name text key old new e a b o k n =
     ∙ ap (λ (t : Bool). if t then Some name else old) (same_bytes (folded name) text a b)))
 
 -- one more name, of which a copy is looked up and a copy stands behind the others
-pub kept_more : {Y : Type 0} (names items : List (List ℕ)) (name own copy key : List ℕ) (old new : BTreeMap (String Y) (List ℕ))
-    → IsGathered names old → Found names name None → all_scalars (folded name) ≡ true → key ≡ encode_utf8_all (folded name) → own ≡ name → copy ≡ name
+pub kept_more : {Y : Type 0} (names items : List (List ℕ)) (name own copy key : List ℕ) (old new : BTreeMap (String Y) (List ℕ)) (indexed : Bool)
+    → indexed ≡ true → IsGathered names old indexed → Found names name None → all_scalars (folded name) ≡ true → key ≡ encode_utf8_all (folded name) → own ≡ name → copy ≡ name
     → items ≡ names ++ own ∷ []
     → ((text : List ℕ) → get_by_text new (encode_utf8_all text) ≡ (if bytes_eq key (encode_utf8_all text) then Some copy else get_by_text old (encode_utf8_all text)))
-    → IsGathered items new
-kept_more names items name own copy key old new g e s k o c i n = record {
-  finds = λ text t.
-      finds_bytes names name text key (get_by_text old (encode_utf8_all text)) (get_by_text new (encode_utf8_all text)) e s t (g.finds text t) k
+    → IsGathered items new indexed
+kept_more names items name own copy key old new indexed t g e s k o c i n = record {
+  finds = λ _ text u.
+      finds_bytes names name text key (get_by_text old (encode_utf8_all text)) (get_by_text new (encode_utf8_all text)) e s u (g.finds t text u) k
       (n text ∙ ap (λ (v : List ℕ). if bytes_eq key (encode_utf8_all text) then Some v else get_by_text old (encode_utf8_all text)) c)
       ∙ ap (λ (ns : List (List ℕ)). find (folds_to text) ns) (sym all);
   alone = subst (λ (ns : List (List ℕ)). AreAlone ns ns) (sym all) (alone_and names name g.alone e);
 } where
   all : items ≡ names ++ name ∷ []
   all = i ∙ ap (λ (x : List ℕ). names ++ x ∷ []) o
+
+-- one more name behind others that aren't indexed
+pub kept_behind : {Y : Type 0} (names items : List (List ℕ)) (name own : List ℕ) (index : BTreeMap (String Y) (List ℕ)) (indexed : Bool)
+    → indexed ≡ false → IsGathered names index indexed → Found names name None → own ≡ name → items ≡ names ++ own ∷ [] → IsGathered items index indexed
+kept_behind names items name own index indexed f g e o i = record {
+  finds = λ t. absurd (true_false (sym t ∙ f));
+  alone = subst (λ (ns : List (List ℕ)). AreAlone ns ns) (sym all) (alone_and names name g.alone e);
+} where
+  all : items ≡ names ++ name ∷ []
+  all = i ∙ ap (λ (x : List ℕ). names ++ x ∷ []) o
+
+-- whether a text has characters, and whether one is alike where the other has fewer
+pub more_left : (text rest : List ℕ) (c : ℕ) → chars text ≡ c ∷ rest → false ≡ bytes_eq [] (folded (chars text))
+more_left text rest c e = rw e refl
+
+pub none_left : (text : List ℕ) → text ≡ [] → true ≡ bytes_eq [] (folded (chars text))
+none_left text e = sym (ap (λ (t : List ℕ). bytes_eq [] (folded t)) (ap chars e ∙ chars-nil))
+
+pub shorter : (left right rest : List ℕ) (c : ℕ) (whole : Bool) → left ≡ c ∷ rest → right ≡ [] → bytes_eq (folded left) (folded right) ≡ whole → false ≡ whole
+shorter left right rest c whole l r inv =
+    sym (ap (λ (t : List ℕ). bytes_eq (folded t) (folded right)) l ∙ ap (λ (t : List ℕ). bytes_eq (folded (c ∷ rest)) (folded t)) r) ∙ inv
+
+-- a name is the first that folds to a text, or those behind it are looked at
+pub alike_here : (t : List ℕ) (i : ℕ) (xs : List (List ℕ)) (x : List ℕ) (found : Option (List ℕ)) → i < length xs → x ≡ get_or xs i x
+    → find (folds_to t) (drop i xs) ≡ found → folds_to t x ≡ true → found ≡ Some x
+alike_here t i xs x found l is inv h =
+    sym inv ∙ (ap (find (folds_to t)) (drop_more xs i x l ∙ ap (λ (y : List ℕ). y ∷ drop (i + 1) xs) (sym is)) ∙ rw h refl)
+
+pub alike_on : (t : List ℕ) (i : ℕ) (xs : List (List ℕ)) (x : List ℕ) (found : Option (List ℕ)) → i < length xs → x ≡ get_or xs i x
+    → find (folds_to t) (drop i xs) ≡ found → folds_to t x ≡ false → find (folds_to t) (drop (i + 1) xs) ≡ found
+alike_on t i xs x found l is inv h =
+    sym (ap (find (folds_to t)) (drop_more xs i x l ∙ ap (λ (y : List ℕ). y ∷ drop (i + 1) xs) (sym is)) ∙ rw h refl) ∙ inv
 
 -- ---- lists of uses, one behind the other
 

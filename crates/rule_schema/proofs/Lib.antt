@@ -1,5 +1,6 @@
-pub mod Fits
+pub mod FirstRefused
 pub mod Gathered
 pub mod Gathering
 pub mod Keywords
+pub mod Making
 pub mod NamesApart

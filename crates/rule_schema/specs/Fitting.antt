@@ -10,6 +10,6 @@ abbrev pub item_line : List Field → Item → Option Refusal
 item_line fields i = fields_refusal fields i.place i.fields
 
 -- there is no cause, or it is what is answered
-abbrev pub Fits : Option Refusal → Result (Unit {0}) Refusal → Type 0
-Fits cause (Ok done) = cause ≡ None
-Fits cause (Err r) = cause ≡ Some r
+abbrev pub AnswersRefusal : Option Refusal → Result (Unit {0}) Refusal → Type 0
+AnswersRefusal cause (Ok done) = cause ≡ None
+AnswersRefusal cause (Err r) = cause ≡ Some r

@@ -18,9 +18,9 @@ use Rattle.rule_items.specs.declared.item.Item.{Item}
 abbrev pub folds_to : List ℕ → List ℕ → Bool
 folds_to text name = bytes_eq (folded name) text
 
--- each name is the first one of its folded text, which is looked up by its bytes
-pub record IsGathered {Y : Type 0} (names : List (List ℕ)) (index : BTreeMap (String Y) (List ℕ)) : Type 0 where
-  pub finds : (text : List ℕ) → all_scalars text ≡ true → get_by_text index (encode_utf8_all text) ≡ find (folds_to text) names
+-- each name is the first one of its folded text, which is looked up by its bytes where the names are indexed
+pub record IsGathered {Y : Type 0} (names : List (List ℕ)) (index : BTreeMap (String Y) (List ℕ)) (indexed : Bool) : Type 0 where
+  pub finds : indexed ≡ true → (text : List ℕ) → all_scalars text ≡ true → get_by_text index (encode_utf8_all text) ≡ find (folds_to text) names
   pub alone : EachOf (λ name. find (folds_to (folded name)) names ≡ Some name) names
 
 -- the name behind the others, unless it is one of them

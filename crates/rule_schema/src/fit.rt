@@ -5,7 +5,7 @@ ghost use Rattle.std.specs.List.{list_any, list_all, flat_map};
 ghost use Rattle.event_schema.specs.declared.schema.Field.{Field};
 ghost use Rattle.sig_base.specs.Judged.{first, must};
 ghost use Rattle.rule_model.specs.Plain.{rule_view};
-ghost use Rattle.rule_schema.specs.Fitting.{Fits, item_line};
+ghost use Rattle.rule_schema.specs.Fitting.{AnswersRefusal, item_line};
 ghost use Rattle.rule_schema.specs.Inferred as spec;
 
 use event_schema::{Field, Schema};
@@ -59,7 +59,7 @@ fn item_refusal(fields: &[Field], item: &Item) -> Option<Refusal>
     }
 }
 
-#[tactic(auto, using(crate::proofs::Fits::line_here, crate::proofs::Fits::line_on))]
+#[tactic(auto, using(crate::proofs::FirstRefused::line_here, crate::proofs::FirstRefused::line_on))]
 fn items_refusal(fields: &[Field], items: &[Item]) -> Option<Refusal>
     ensures { result ≡ first (map (item_line fields.now) items.now) }
 {
@@ -71,7 +71,7 @@ fn items_refusal(fields: &[Field], items: &[Item]) -> Option<Refusal>
     None
 }
 
-#[tactic(auto, using(crate::proofs::Fits::part_here, crate::proofs::Fits::part_on))]
+#[tactic(auto, using(crate::proofs::FirstRefused::part_here, crate::proofs::FirstRefused::part_on))]
 fn alternatives_refusal(fields: &[Field], alternatives: &[Alternative]) -> Option<Refusal>
     ensures { result ≡ first (map (item_line fields.now) (flat_map (λ items. items) alternatives.now)) }
 {
@@ -83,7 +83,7 @@ fn alternatives_refusal(fields: &[Field], alternatives: &[Alternative]) -> Optio
     None
 }
 
-#[tactic(auto, using(crate::proofs::Fits::part_here, crate::proofs::Fits::part_on))]
+#[tactic(auto, using(crate::proofs::FirstRefused::part_here, crate::proofs::FirstRefused::part_on))]
 fn detections_refusal(fields: &[Field], detections: &[Detection]) -> Option<Refusal>
     ensures { result ≡ first (map (item_line fields.now) (spec.items_of detections.now)) }
 {
@@ -98,7 +98,7 @@ fn detections_refusal(fields: &[Field], detections: &[Detection]) -> Option<Refu
 /// Whether a rule fits a schema. Its first item, in the rule's order, with a name that no field of the schema has exactly is
 /// refused 81, and a keyword where keywords search no field 83.
 pub fn fit_schema(rule: &Rule, schema: &Schema) -> Result<(), Refusal>
-    ensures { Fits (spec.fit_refusal schema.now (rule_view rule.now)) result }
+    ensures { AnswersRefusal (spec.fit_refusal schema.now (rule_view rule.now)) result }
 {
     match detections_refusal(schema.fields.as_slice(), rule.detections.as_slice()) {
         Some(refusal) => Err(refusal),

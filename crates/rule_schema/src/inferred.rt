@@ -3,7 +3,7 @@
 ghost use Rattle.std.specs.Prelude.{◌≡◌, map};
 ghost use Rattle.std.specs.List.{flat_map};
 ghost use Rattle.rule_model.specs.Plain.{rule_view};
-ghost use Rattle.rule_schema.specs.Fitting.{Fits};
+ghost use Rattle.rule_schema.specs.Fitting.{AnswersRefusal};
 ghost use Rattle.rule_schema.specs.Inferred as spec;
 ghost use Rattle.sig_base.specs.Judged.{first};
 
@@ -24,7 +24,7 @@ fn item_keyword(item: &Item) -> Option<Refusal>
     }
 }
 
-#[tactic(auto, using(crate::proofs::Fits::line_here, crate::proofs::Fits::line_on))]
+#[tactic(auto, using(crate::proofs::FirstRefused::line_here, crate::proofs::FirstRefused::line_on))]
 fn items_keyword(items: &[Item]) -> Option<Refusal>
     ensures { result ≡ first (map spec.keyword_line items.now) }
 {
@@ -36,7 +36,7 @@ fn items_keyword(items: &[Item]) -> Option<Refusal>
     None
 }
 
-#[tactic(auto, using(crate::proofs::Fits::part_here, crate::proofs::Fits::part_on))]
+#[tactic(auto, using(crate::proofs::FirstRefused::part_here, crate::proofs::FirstRefused::part_on))]
 fn alternatives_keyword(alternatives: &[Alternative]) -> Option<Refusal>
     ensures { result ≡ first (map spec.keyword_line (flat_map (λ items. items) alternatives.now)) }
 {
@@ -48,7 +48,7 @@ fn alternatives_keyword(alternatives: &[Alternative]) -> Option<Refusal>
     None
 }
 
-#[tactic(auto, using(crate::proofs::Fits::part_here, crate::proofs::Fits::part_on))]
+#[tactic(auto, using(crate::proofs::FirstRefused::part_here, crate::proofs::FirstRefused::part_on))]
 fn detections_keyword(detections: &[Detection]) -> Option<Refusal>
     ensures { result ≡ first (map spec.keyword_line (spec.items_of detections.now)) }
 {
@@ -63,7 +63,7 @@ fn detections_keyword(detections: &[Detection]) -> Option<Refusal>
 /// Whether a rule fits the schema that is made of it, where its first keyword is refused 83. Each item is looked at once, where
 /// `fit_schema` would look for each name among all fields.
 pub fn fit_inferred(rule: &Rule) -> Result<(), Refusal>
-    ensures { Fits (spec.fit_refusal (spec.inferred_schema (rule_view rule.now)) (rule_view rule.now)) result }
+    ensures { AnswersRefusal (spec.fit_refusal (spec.inferred_schema (rule_view rule.now)) (rule_view rule.now)) result }
 {
     match detections_keyword(rule.detections.as_slice()) {
         Some(refusal) => Err(refusal),

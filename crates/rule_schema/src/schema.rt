@@ -13,13 +13,12 @@ use sig_base::{Fault, Text, Texts};
 use std::alloc::Global;
 
 /// A field of texts, found under its own name.
-fn text_field(alloc: Global, name: &Text) -> Result<Field, Fault>
-    ensures ok { IfOk result (λ field. field ≡ event.text_field name.now) }
+fn text_field(alloc: Global, name: Text) -> Result<Field, Fault>
+    ensures ok { IfOk result (λ field. field ≡ event.text_field name) }
     ensures err { IfErr result (λ e. e ≡ Fault.Memory) }
 {
     let mut at = Texts::new(alloc);
     at.push(Text::copy(alloc, name.as_str())?)?;
-    let name = Text::copy(alloc, name.as_str())?;
     Ok(Field {
         name,
         kind: FieldKind::Text,
@@ -30,8 +29,8 @@ fn text_field(alloc: Global, name: &Text) -> Result<Field, Fault>
     })
 }
 
-fn text_fields(alloc: Global, names: &[Text]) -> Result<Fields, Fault>
-    ensures ok { IfOk result (λ fields. fields ≡ map event.text_field names.now) }
+fn text_fields(alloc: Global, names: Vec<Text>) -> Result<Fields, Fault>
+    ensures ok { IfOk result (λ fields. fields ≡ map event.text_field names.items) }
     ensures err { IfErr result (λ e. e ≡ Fault.Memory) }
 {
     let mut fields = Fields::new(alloc);
@@ -48,7 +47,7 @@ pub fn infer_schema(alloc: Global, rule: &Rule) -> Result<Schema, Fault>
     ensures { Judged (λ schema. schema ≡ spec.inferred_schema (rule_view rule.now)) (spec.schema_refusal (rule_view rule.now)) result }
 {
     let names = gather(alloc, rule.detections.as_slice())?;
-    let fields = text_fields(alloc, &names)?;
+    let fields = text_fields(alloc, names)?;
     let table = Text::copy(alloc, "events")?;
     Ok(Schema {
         table,

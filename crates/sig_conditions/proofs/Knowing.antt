@@ -9,7 +9,7 @@ use Rattle.std.proofs.lemmas.Iterator.Adapters.{position_from-zero}
 use Rattle.std.proofs.lemmas.Slice.Eq.{bytes_eq-Decides}
 use Rattle.text_index.specs.Numbers.{first_number}
 use Rattle.text_index.proofs.Indexing.{same_bytes}
-use Rattle.sig_conditions.specs.Named.{AreKnown, word_of}
+use Rattle.sig_conditions.specs.Named.{AreKnown, selector_word}
 use Rattle.sig_conditions.specs.Taken.{is_hidden, some_suffix, fits, takes, taken, taken_from, number_from, number_of}
 use Rattle.sig_conditions.specs.declared.selector.Selector.{Selector}
 use Rattle.sig_conditions.specs.declared.selector.Selector.TheVariants.{Them, Names}
@@ -46,7 +46,7 @@ taken_alike s t e i (n ∷ names) =
     ∙ ap (λ (ns : List ℕ). if takes t n then i ∷ ns else ns) (taken_alike s t e (i + 1) names)
 
 -- a selector takes what its word does
-pub word_takes : (s : Selector) (names : List (List ℕ)) → taken (Names (word_of s)) names ≡ taken s names
+pub word_takes : (s : Selector) (names : List (List ℕ)) → taken (Names (selector_word s)) names ≡ taken s names
 word_takes Them names = taken_alike (Names (42 ∷ [])) Them star_takes 0 names
 word_takes (Names word) names = refl
 
@@ -57,7 +57,7 @@ kept_at P own word true numbers old same p o = subst (λ (w : List ℕ). P w num
 kept_at P own word false numbers old same p o = o
 
 pub keeps : (names : List (List ℕ)) (s : Selector) (own word bytes numbers : List ℕ) (old new : Option (List ℕ)) → all_scalars own ≡ true → all_scalars word ≡ true
-    → own ≡ word_of s → bytes ≡ encode_utf8_all own → numbers ≡ taken s names
+    → own ≡ selector_word s → bytes ≡ encode_utf8_all own → numbers ≡ taken s names
     → new ≡ (if bytes_eq bytes (encode_utf8_all word) then Some numbers else old)
     → IfSome old (λ ns. ns ≡ taken (Names word) names) → IfSome new (λ ns. ns ≡ taken (Names word) names)
 keeps names s own word bytes numbers old new a b w f n is o =
@@ -69,7 +69,7 @@ keeps names s own word bytes numbers old new a b w f n is o =
 
 -- what is known of a selector's word is what the selector takes
 pub is_known : {Y : Type 0} (names : List (List ℕ)) (known : BTreeMap (String Y) (List ℕ)) → AreKnown names known → (s : Selector) (bytes : List ℕ) → IsUtf8 bytes
-    → chars bytes ≡ word_of s → (found : List ℕ) → Some found ≡ get_by_text known bytes → found ≡ taken s names
+    → chars bytes ≡ selector_word s → (found : List ℕ) → Some found ≡ get_by_text known bytes → found ≡ taken s names
 is_known names known k s bytes utf8 w found e =
     let there : IfSome (get_by_text known bytes) (λ ns. ns ≡ taken (Names (chars bytes)) names) =
     subst (λ (bs : List ℕ). IfSome (get_by_text known bs) (λ ns. ns ≡ taken (Names (chars bytes)) names)) (encodes-chars bytes utf8) (k.takes (chars bytes) (scalars-chars bytes utf8)) in

@@ -10,29 +10,29 @@ use Rattle.sig_conditions.specs.declared.formula.Formula.{Formula}
 use Rattle.sig_conditions.specs.declared.unresolved.Unresolved.{Unresolved}
 use Rattle.sig_conditions.specs.declared.unresolved.Unresolved.TheVariants.{Memory, Unknown, Nothing}
 use Rattle.sig_conditions.specs.Conditions.{Conds, conds_of, cond_view, conds_view}
-use Rattle.sig_conditions.specs.Formulas.{Form, Forms, no_forms, form, form_view, forms_of, forms_view, both, formula_of, formulas_of, made, Why, faults, faults_of}
+use Rattle.sig_conditions.specs.Formulas.{PlainFormula, PlainFormulas, no_forms, form, form_view, forms_of, forms_view, both, formula_of, formulas_of, made, Why, faults, faults_of}
 use Rattle.sig_conditions.specs.Resolved.{Fails, Resolves}
 use Rattle.sig_conditions.specs.Selectors.{taken_count, taken_counts}
 
 -- formulas before those that follow
-abbrev pub before : List Form → Forms → Forms
+abbrev pub before : List PlainFormula → PlainFormulas → PlainFormulas
 before [] fs = fs
 before (x ∷ xs) fs = form x (before xs fs)
 
 -- nothing has been resolved yet
-pub begun : (xs : List Formula) → xs ≡ [] → (o : Option Forms) → made (before (forms_view xs)) o ≡ o
+pub begun : (xs : List Formula) → xs ≡ [] → (o : Option PlainFormulas) → made (before (forms_view xs)) o ≡ o
 begun xs e None = refl
 begun xs e (Some fs) = ap (λ (ys : List Formula). Some (before (forms_view ys) fs)) e
 
-before-end : (xs : List Form) → before xs no_forms ≡ forms_of xs
+before-end : (xs : List PlainFormula) → before xs no_forms ≡ forms_of xs
 before-end [] = refl
 before-end (x ∷ xs) = ap (form x) (before-end xs)
 
-before-push : (xs : List Formula) (f : Formula) (fs : Forms) → before (forms_view (xs ++ f ∷ [])) fs ≡ before (forms_view xs) (form (form_view f) fs)
+before-push : (xs : List Formula) (f : Formula) (fs : PlainFormulas) → before (forms_view (xs ++ f ∷ [])) fs ≡ before (forms_view xs) (form (form_view f) fs)
 before-push [] f fs = refl
 before-push (x ∷ xs) f fs = ap (form (form_view x)) (before-push xs f fs)
 
-pushed : (xs : List Formula) (f : Formula) (o : Option Forms) → made (before (forms_view (xs ++ f ∷ []))) o ≡ made (before (forms_view xs)) (both (Some (form_view f)) o)
+pushed : (xs : List Formula) (f : Formula) (o : Option PlainFormulas) → made (before (forms_view (xs ++ f ∷ []))) o ≡ made (before (forms_view xs)) (both (Some (form_view f)) o)
 pushed xs f None = refl
 pushed xs f (Some fs) = ap Some (before-push xs f fs)
 
@@ -43,13 +43,13 @@ part_at F i cs c l e =
 
 module _ (names : List (List ℕ)) (i : ℕ) (cs : List Condition) (c : Condition) where
   -- one more part has a formula
-  pub formula_goes : (xs ys : List Formula) (f : Formula) (whole : Option Forms) → i < length cs → c ≡ get_or cs i c
+  pub formula_goes : (xs ys : List Formula) (f : Formula) (whole : Option PlainFormulas) → i < length cs → c ≡ get_or cs i c
       → made (before (forms_view xs)) (formulas_of names (conds_of (conds_view (drop i cs)))) ≡ whole → formula_of names (cond_view c) ≡ Some (form_view f) → ys ≡ xs ++ f ∷ []
       → made (before (forms_view ys)) (formulas_of names (conds_of (conds_view (drop (i + 1) cs)))) ≡ whole
   formula_goes xs ys f whole l e inv p q =
       ap (λ (zs : List Formula). made (before (forms_view zs)) (formulas_of names (conds_of (conds_view (drop (i + 1) cs))))) q
       ∙ (pushed xs f (formulas_of names (conds_of (conds_view (drop (i + 1) cs))))
-      ∙ (ap (λ (o : Option Form). made (before (forms_view xs)) (both o (formulas_of names (conds_of (conds_view (drop (i + 1) cs)))))) (sym p)
+      ∙ (ap (λ (o : Option PlainFormula). made (before (forms_view xs)) (both o (formulas_of names (conds_of (conds_view (drop (i + 1) cs)))))) (sym p)
       ∙ (ap (made (before (forms_view xs))) (sym (part_at (formulas_of names) i cs c l e)) ∙ inv)))
 
   -- and no fault
@@ -73,7 +73,7 @@ module _ (names : List (List ℕ)) (i : ℕ) (cs : List Condition) (c : Conditio
   }
 
 -- all parts have formulas
-pub formulas_end : (names : List (List ℕ)) (cs : List Condition) (xs : List Formula) (whole : Option Forms) → cs ≡ []
+pub formulas_end : (names : List (List ℕ)) (cs : List Condition) (xs : List Formula) (whole : Option PlainFormulas) → cs ≡ []
     → made (before (forms_view xs)) (formulas_of names (conds_of (conds_view cs))) ≡ whole → whole ≡ Some (forms_of (forms_view xs))
 formulas_end names cs xs whole e inv =
     sym inv

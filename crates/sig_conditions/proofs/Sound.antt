@@ -10,7 +10,7 @@ use Rattle.sig_conditions.specs.declared.word.Sign.TheVariants.{Open, Close, Or,
 use Rattle.sig_conditions.specs.Conditions.{Cond, CName, COneOf, CAllOf, CNot, Conds, no_conds, put, joined_or, joined_and}
 use Rattle.sig_conditions.specs.Words.{nesting, same, is_sign}
 use Rattle.sig_conditions.specs.Grammar.{selector_of, IsOr, or_chain, OrTail, or_end, or_next, IsAnd, and_chain, AndTail, and_end, and_next, IsNot, negated, plain, paren, named, one_of, all_of}
-use Rattle.sig_conditions.specs.Reader.{◌>>=◌, read, read_map, tail_in, chain_in, not_in, and_in, or_in, closed, chosen, selected, behind_of, atom_at, not_at, no_more, alone, condition_in}
+use Rattle.sig_conditions.specs.Reader.{◌>>=◌, read, read_map, tail_in, chain_in, not_in, and_in, or_in, closed, choice_of, selected, behind_of, atom_at, not_at, no_more, alone, condition_in}
 use Rattle.sig_conditions.proofs.Chains.{same_read, read_map_some, bind_some, chain_case, stops, goes, tail_case}
 use Rattle.sig_conditions.proofs.Complete.{read_or}
 use Rattle.sig_conditions.proofs.WordTests.{same_sign, sign_word}
@@ -132,7 +132,7 @@ record Selected (make : Selector → Cond) (ws : List Word) (c : Cond) (rest : L
   made : make selector ≡ c
 
 chosen_some : (make : Selector → Cond) (w : Word) (o : Option Selector) (ws : List Word) (c : Cond) (rest : List Word) → selector_of w ≡ o
-    → chosen make o ws ≡ read c rest → Selected make (Fixed Of ∷ w ∷ ws) c rest
+    → choice_of make o ws ≡ read c rest → Selected make (Fixed Of ∷ w ∷ ws) c rest
 chosen_some make w None ws c rest e h = absurd cc
 chosen_some make w (Some s) ws c rest e h =
     let f = same_read (make s) c ws rest h in

@@ -14,9 +14,9 @@ pub record Named : Type 0 where
   pub steps : ℕ
 
 -- the word that takes what a selector does: `them` takes what `*` does
-abbrev pub word_of : Selector → List ℕ
-word_of Them = 42 ∷ []
-word_of (Names word) = word
+abbrev pub selector_word : Selector → List ℕ
+selector_word Them = 42 ∷ []
+selector_word (Names word) = word
 
 -- what is known of words is what they take
 pub record AreKnown {Y : Type 0} (names : List (List ℕ)) (known : BTreeMap (String Y) (List ℕ)) : Type 0 where

@@ -37,13 +37,13 @@ abbrev pub closed : Cond → List Word → Option (Cond × List Word)
 closed c [] = None
 closed c (w ∷ ws) = if is_sign Close w then Some (c, ws) else None
 
-abbrev pub chosen : (Selector → Cond) → Option Selector → List Word → Option (Cond × List Word)
-chosen make None ws = None
-chosen make (Some s) ws = Some (make s, ws)
+abbrev pub choice_of : (Selector → Cond) → Option Selector → List Word → Option (Cond × List Word)
+choice_of make None ws = None
+choice_of make (Some s) ws = Some (make s, ws)
 
 abbrev pub behind_of : (Selector → Cond) → List Word → Option (Cond × List Word)
 behind_of make [] = None
-behind_of make (w ∷ ws) = chosen make (selector_of w) ws
+behind_of make (w ∷ ws) = choice_of make (selector_of w) ws
 
 -- the word `of` and a selector
 abbrev pub selected : (Selector → Cond) → List Word → Option (Cond × List Word)

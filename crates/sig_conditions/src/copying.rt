@@ -4,6 +4,7 @@ ghost use Rattle.std.specs.Prelude.{◌≡◌, IfOk, IfErr};
 ghost use Rattle.sig_conditions.specs.Formulas.{form_view, forms_view};
 
 use crate::formula::Formula;
+use crate::numbers::copy_numbers;
 use sig_base::Fault;
 use std::alloc::Global;
 
@@ -25,8 +26,8 @@ fn copy_formula(alloc: Global, formula: &Formula) -> Result<Formula, Fault>
 {
     match formula {
         Formula::Detection(number) => Ok(Formula::Detection(*number)),
-        Formula::OneOf(numbers) => Ok(Formula::OneOf(numbers.copy(alloc)?)),
-        Formula::AllOf(numbers) => Ok(Formula::AllOf(numbers.copy(alloc)?)),
+        Formula::OneOf(numbers) => Ok(Formula::OneOf(copy_numbers(alloc, numbers)?)),
+        Formula::AllOf(numbers) => Ok(Formula::AllOf(copy_numbers(alloc, numbers)?)),
         Formula::Not(part) => {
             let copy = copy_formula(alloc, part)?;
             Ok(Formula::Not(Box::new(alloc, copy)?))

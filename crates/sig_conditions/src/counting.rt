@@ -1,6 +1,6 @@
 //! How large a selector is, and the names that it is compared with.
 
-ghost use Rattle.std.specs.Prelude.{◌≡◌, ◌≤◌, ◌-◌, ◌^◌, min};
+ghost use Rattle.std.specs.Prelude.{◌≡◌, ◌≤◌, ◌-◌, ◌^◌};
 ghost use Rattle.sig_conditions.specs.Selectors as spec;
 
 use crate::selector::Selector;

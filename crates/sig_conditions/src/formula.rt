@@ -1,6 +1,6 @@
 //! A condition over the numbers of a rule's detections.
 
-use crate::numbers::Numbers;
+use crate::numbers::DetectionNumbers;
 
 /// A condition whose names are looked up: a detection is its number in the rule, from 0.
 #[derive(Drop)]
@@ -8,9 +8,9 @@ pub enum Formula {
     /// The detection of this number.
     Detection(u32),
     /// True where some detection of these numbers is.
-    OneOf(Numbers),
+    OneOf(DetectionNumbers),
     /// True where each detection of these numbers is.
-    AllOf(Numbers),
+    AllOf(DetectionNumbers),
     /// True where the part isn't.
     Not(Box<Formula>),
     /// True where all parts are.

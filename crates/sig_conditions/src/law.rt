@@ -2,7 +2,7 @@
 
 ghost use Rattle.std.specs.Prelude.{◌≡◌, ℕ, Bool, true, List, [], ◌∷◌, Some};
 ghost use Rattle.sig_conditions.specs.Conditions.{Cond};
-ghost use Rattle.sig_conditions.specs.Formulas.{Form, formula_of, value};
+ghost use Rattle.sig_conditions.specs.Formulas.{PlainFormula, formula_of, value};
 ghost use Rattle.sig_conditions.specs.Grammar.{ConditionReads};
 ghost use Rattle.sig_conditions.specs.Meaning.{holds};
 ghost use Rattle.sig_conditions.specs.Spelling.{AreWords};
@@ -28,5 +28,5 @@ pub fn one_condition()
 
 /// The formula of a condition is true exactly where the condition holds of the detections.
 pub fn same_meaning()
-    ensures { (names : List (List ℕ)) (is_true : ℕ → Bool) (c : Cond) (f : Form) → formula_of names c ≡ Some f → value is_true f ≡ holds names is_true c }
+    ensures { (names : List (List ℕ)) (is_true : ℕ → Bool) (c : Cond) (f : PlainFormula) → formula_of names c ≡ Some f → value is_true f ≡ holds names is_true c }
 {}

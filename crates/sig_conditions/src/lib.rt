@@ -5,7 +5,7 @@ pub use condition::Condition;
 pub use formula::Formula;
 pub use law::{identifiers_are_names, one_condition, one_list_of_words, same_meaning};
 pub use names::Names;
-pub use numbers::Numbers;
+pub use numbers::DetectionNumbers;
 pub use reading::read_condition;
 pub use resolving::resolve_condition;
 pub use scan::is_identifier;

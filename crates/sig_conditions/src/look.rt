@@ -1,6 +1,6 @@
 //! What stands at a place among the words.
 
-ghost use Rattle.std.specs.Prelude.{◌≡◌, ◌<◌, ◌+◌, length, drop, IfNone, IfSome, IsTrue, [], ◌∷◌};
+ghost use Rattle.std.specs.Prelude.{◌≡◌, ◌<◌, ◌+◌, length, drop, IfNone, IfSome, [], ◌∷◌};
 ghost use Rattle.sig_conditions.specs.Words.{begins, is_sign};
 
 use crate::word::{Sign, Word};

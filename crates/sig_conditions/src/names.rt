@@ -1,10 +1,10 @@
 //! The names that conditions are over.
 
-ghost use Rattle.std.specs.Prelude.{◌≡◌, ◌+◌, ◌*◌, ◌^◌, length, IfOk, IfErr, IfSome, OnOk};
+ghost use Rattle.std.specs.Prelude.{◌≡◌, ◌≤◌, ◌+◌, ◌*◌, ◌^◌, length, IfOk, IfErr, IfSome, OnOk};
 ghost use Rattle.std.specs.Str.{chars};
 ghost use Rattle.sig_conditions.specs.Conditions.{cond_view};
 ghost use Rattle.sig_conditions.specs.Formulas.{faults, form_view, formula_of};
-ghost use Rattle.sig_conditions.specs.Named.{word_of};
+ghost use Rattle.sig_conditions.specs.Named.{selector_word};
 ghost use Rattle.sig_conditions.specs.Resolved.{Resolves};
 ghost use Rattle.sig_conditions.specs.Selectors as spec;
 ghost use Rattle.sig_conditions.specs.Taken.{number_of, taken};
@@ -12,7 +12,7 @@ ghost use Rattle.sig_conditions.specs.Taken.{number_of, taken};
 use crate::condition::Condition;
 use crate::counting::{names_size, selector_size};
 use crate::formula::Formula;
-use crate::numbers::Numbers;
+use crate::numbers::{DetectionNumbers, copy_numbers};
 use crate::paying::{pay, pay_product};
 use crate::resolver::resolve;
 use crate::selector::Selector;
@@ -37,7 +37,7 @@ const MOST_STEPS: usize = 1 << 30;
 #[derive(Drop)]
 pub struct Names {
     index: TextIndex,
-    known: BTreeMap<String, Numbers>,
+    known: BTreeMap<String, DetectionNumbers>,
     size: usize,
     left: usize,
     steps: usize,
@@ -54,8 +54,8 @@ impl Model for Names {
 }
 
 /// The word that takes what a selector does.
-fn word_of(selector: &Selector) -> &str
-    ensures { chars result.now ≡ word_of selector.now }
+fn selector_word(selector: &Selector) -> &str
+    ensures { chars result.now ≡ selector_word selector.now }
 {
     match selector {
         Selector::Them => "*",
@@ -89,34 +89,48 @@ impl Names {
     }
 
     /// What a selector takes, where it was resolved before.
-    fn known(&self, alloc: Global, selector: &Selector) -> Result<Option<Numbers>, Unresolved>
+    fn known(
+        &self,
+        alloc: Global,
+        selector: &Selector,
+    ) -> Result<Option<DetectionNumbers>, Unresolved>
         ensures ok { IfOk result (λ known. IfSome known (λ all. all ≡ taken selector.now self.now.names)) }
         ensures err { IfErr result (λ e. e ≡ Unresolved.Memory) }
     {
-        match self.known.get(word_of(selector)) {
-            Some(all) => Ok(Some(all.copy(alloc)?)),
+        match self.known.get(selector_word(selector)) {
+            Some(all) => Ok(Some(copy_numbers(alloc, all)?)),
             None => Ok(None),
         }
     }
 
     /// Keeps what a selector takes.
-    fn keep(&mut self, alloc: Global, selector: &Selector, all: &Numbers) -> Result<(), Unresolved>
+    fn keep(
+        &mut self,
+        alloc: Global,
+        selector: &Selector,
+        all: &DetectionNumbers,
+    ) -> Result<(), Unresolved>
         requires { all.now ≡ taken selector.now self.old.names }
-        ensures same { OnOk result (self.new ≡ self.old) }
+        ensures same { self.new ≡ self.old }
         ensures err { IfErr result (λ e. e ≡ Unresolved.Memory) }
     {
-        let word = String::from_str(alloc, word_of(selector))?;
-        let copy = all.copy(alloc)?;
+        let word = String::from_str(alloc, selector_word(selector))?;
+        let copy = copy_numbers(alloc, all)?;
         self.known.insert(word, copy)?;
         Ok(())
     }
 
     /// Compares a selector with each name, where enough steps are left.
-    fn compare(&mut self, alloc: Global, selector: &Selector) -> Result<Numbers, Unresolved>
+    fn compare(
+        &mut self,
+        alloc: Global,
+        selector: &Selector,
+    ) -> Result<DetectionNumbers, Unresolved>
         ensures taken { IfOk result (λ all. all ≡ taken selector.now self.old.names) }
         ensures steps { OnOk result (self.new.steps + spec.selector_size selector.now * spec.counted (spec.names_size self.old.names) ≡ self.old.steps) }
-        ensures names { OnOk result (self.new.names ≡ self.old.names) }
-        ensures left { OnOk result (self.new.left ≡ self.old.left) }
+        ensures most { self.new.steps ≤ self.old.steps }
+        ensures names { self.new.names ≡ self.old.names }
+        ensures left { self.new.left ≡ self.old.left }
         ensures err { IfErr result (λ e. e ≡ Unresolved.Memory) }
     {
         self.steps = pay_product(self.steps, selector_size(selector), self.size)?;
@@ -126,10 +140,11 @@ impl Names {
     }
 
     /// The numbers of the names that a selector takes, which is compared with them the first time that it stands there.
-    fn choose(&mut self, alloc: Global, selector: &Selector) -> Result<Numbers, Unresolved>
+    fn choose(&mut self, alloc: Global, selector: &Selector) -> Result<DetectionNumbers, Unresolved>
         ensures taken { IfOk result (λ all. all ≡ taken selector.now self.old.names) }
-        ensures names { OnOk result (self.new.names ≡ self.old.names) }
-        ensures left { OnOk result (self.new.left ≡ self.old.left) }
+        ensures steps { self.new.steps ≤ self.old.steps }
+        ensures names { self.new.names ≡ self.old.names }
+        ensures left { self.new.left ≡ self.old.left }
         ensures err { IfErr result (λ e. e ≡ Unresolved.Memory) }
     {
         if let Some(all) = self.known(alloc, selector)? {
@@ -139,9 +154,15 @@ impl Names {
     }
 
     /// The numbers of the names that a selector takes, where so many may still be taken.
-    pub fn take(&mut self, alloc: Global, selector: &Selector) -> Result<Numbers, Unresolved>
+    pub fn take(
+        &mut self,
+        alloc: Global,
+        selector: &Selector,
+    ) -> Result<DetectionNumbers, Unresolved>
         ensures taken { IfOk result (λ all. all ≡ taken selector.now self.old.names) }
-        ensures names { OnOk result (self.new.names ≡ self.old.names) }
+        ensures names { self.new.names ≡ self.old.names }
+        ensures steps { self.new.steps ≤ self.old.steps }
+        ensures most { self.new.left ≤ self.old.left }
         ensures left { OnOk result (self.new.left + length (taken selector.now self.old.names) ≡ self.old.left) }
         ensures err { IfErr result (λ e. e ≡ Unresolved.Memory) }
     {
@@ -153,7 +174,9 @@ impl Names {
     /// The formula of a condition over these names.
     pub fn resolve(&mut self, alloc: Global, condition: &Condition) -> Result<Formula, Unresolved>
         ensures formula { Resolves form_view result (formula_of self.old.names (cond_view condition.now)) (faults self.old.names (cond_view condition.now)) }
-        ensures names { OnOk result (self.new.names ≡ self.old.names) }
+        ensures names { self.new.names ≡ self.old.names }
+        ensures steps { self.new.steps ≤ self.old.steps }
+        ensures most { self.new.left ≤ self.old.left }
         ensures left { OnOk result (self.new.left + spec.taken_count self.old.names (cond_view condition.now) ≡ self.old.left) }
     {
         resolve(alloc, condition, self)

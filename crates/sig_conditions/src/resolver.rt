@@ -1,8 +1,8 @@
 //! Conditions over the names of a rule's detections.
 
-ghost use Rattle.std.specs.Prelude.{◌≡◌, ◌+◌, length, OnOk};
+ghost use Rattle.std.specs.Prelude.{◌≡◌, ◌≤◌, ◌+◌, length, OnOk};
 ghost use Rattle.sig_conditions.specs.Conditions.{cond_view, conds_of, conds_view};
-ghost use Rattle.sig_conditions.specs.Formulas.{FAnd, FOr, chosen, faults, faults_of, form_view, formula_of, formulas_of, forms_of, forms_view, named, none_named, none_taken};
+ghost use Rattle.sig_conditions.specs.Formulas.{FAnd, FOr, formula_taken, faults, faults_of, form_view, formula_of, formulas_of, forms_of, forms_view, named, none_named, none_taken};
 ghost use Rattle.sig_conditions.specs.Resolved.{IsUnknown, Resolves};
 ghost use Rattle.sig_conditions.specs.Selectors.{taken_count, taken_counts};
 ghost use Rattle.sig_conditions.specs.Taken.{number_of, taken};
@@ -37,8 +37,10 @@ fn resolve_name(alloc: Global, name: &Text, names: &Names) -> Result<Formula, Un
 
 /// Some detection that a selector takes.
 fn resolve_one(alloc: Global, selector: &Selector, names: &mut Names) -> Result<Formula, Unresolved>
-    ensures formula { Resolves form_view result (chosen FOr (taken selector.now names.old.names)) (none_taken (taken selector.now names.old.names)) }
-    ensures names { OnOk result (names.new.names ≡ names.old.names) }
+    ensures formula { Resolves form_view result (formula_taken FOr (taken selector.now names.old.names)) (none_taken (taken selector.now names.old.names)) }
+    ensures names { names.new.names ≡ names.old.names }
+    ensures steps { names.new.steps ≤ names.old.steps }
+    ensures most { names.new.left ≤ names.old.left }
     ensures left { OnOk result (names.new.left + length (taken selector.now names.old.names) ≡ names.old.left) }
 {
     let all = names.take(alloc, selector)?;
@@ -54,8 +56,10 @@ fn resolve_each(
     selector: &Selector,
     names: &mut Names,
 ) -> Result<Formula, Unresolved>
-    ensures formula { Resolves form_view result (chosen FAnd (taken selector.now names.old.names)) (none_taken (taken selector.now names.old.names)) }
-    ensures names { OnOk result (names.new.names ≡ names.old.names) }
+    ensures formula { Resolves form_view result (formula_taken FAnd (taken selector.now names.old.names)) (none_taken (taken selector.now names.old.names)) }
+    ensures names { names.new.names ≡ names.old.names }
+    ensures steps { names.new.steps ≤ names.old.steps }
+    ensures most { names.new.left ≤ names.old.left }
     ensures left { OnOk result (names.new.left + length (taken selector.now names.old.names) ≡ names.old.left) }
 {
     let all = names.take(alloc, selector)?;
@@ -73,7 +77,9 @@ pub fn resolve(
     names: &mut Names,
 ) -> Result<Formula, Unresolved>
     ensures formula { Resolves form_view result (formula_of names.old.names (cond_view condition.now)) (faults names.old.names (cond_view condition.now)) }
-    ensures names { OnOk result (names.new.names ≡ names.old.names) }
+    ensures names { names.new.names ≡ names.old.names }
+    ensures steps { names.new.steps ≤ names.old.steps }
+    ensures most { names.new.left ≤ names.old.left }
     ensures left { OnOk result (names.new.left + taken_count names.old.names (cond_view condition.now) ≡ names.old.left) }
 {
     match condition {
@@ -103,7 +109,9 @@ fn resolve_all(
     names: &mut Names,
 ) -> Result<Vec<Formula>, Unresolved>
     ensures formulas { Resolves (λ all. forms_of (forms_view all.items)) result (formulas_of names.old.names (conds_of (conds_view parts.now))) (faults_of names.old.names (conds_of (conds_view parts.now))) }
-    ensures names { OnOk result (names.new.names ≡ names.old.names) }
+    ensures names { names.new.names ≡ names.old.names }
+    ensures steps { names.new.steps ≤ names.old.steps }
+    ensures most { names.new.left ≤ names.old.left }
     ensures left { OnOk result (names.new.left + taken_counts names.old.names (conds_of (conds_view parts.now)) ≡ names.old.left) }
 {
     let mut all = Vec::new(alloc);

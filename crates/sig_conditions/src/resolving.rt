@@ -1,9 +1,9 @@
 //! The formula of a condition.
 
-ghost use Rattle.std.specs.Prelude.{◌≡◌, ◌+◌, Some, IfOk, IfErr, OnOk};
+ghost use Rattle.std.specs.Prelude.{◌≡◌, ◌≤◌, ◌+◌, Some, IfOk, IfErr, OnOk};
 ghost use Rattle.sig_conditions.specs.Conditions.{cond_view};
 ghost use Rattle.sig_conditions.specs.Formulas.{form_view, formula_of};
-ghost use Rattle.sig_conditions.specs.Refusals.{IsUnresolved, refusal_of};
+ghost use Rattle.sig_conditions.specs.Refusals.{IsUnresolved};
 ghost use Rattle.sig_conditions.specs.Selectors.{taken_count};
 
 use crate::condition::Condition;
@@ -22,7 +22,9 @@ pub fn resolve_condition(
     place: Place,
 ) -> Result<Formula, Fault>
     ensures formula { IfOk result (λ f. formula_of names.old.names (cond_view condition.now) ≡ Some (form_view f)) }
-    ensures names { OnOk result (names.new.names ≡ names.old.names) }
+    ensures names { names.new.names ≡ names.old.names }
+    ensures steps { names.new.steps ≤ names.old.steps }
+    ensures most { names.new.left ≤ names.old.left }
     ensures left { OnOk result (names.new.left + taken_count names.old.names (cond_view condition.now) ≡ names.old.left) }
     ensures refused { IfErr result (λ e. IsUnresolved names.old.names (cond_view condition.now) place e) }
 {

@@ -4,7 +4,7 @@ ghost use Rattle.std.specs.Prelude.{◌≡◌, ◌<◌, ◌^◌, true, length, I
 ghost use Rattle.std.specs.Str.{chars};
 ghost use Rattle.sig_conditions.specs.Taken.{fits, is_hidden, taken, takes};
 
-use crate::numbers::Numbers;
+use crate::numbers::DetectionNumbers;
 use crate::selector::Selector;
 use matching::{Cursor, Step, Taker, matches_whole};
 use sig_base::{Text, first_char};
@@ -68,11 +68,15 @@ fn does_take(selector: &Selector, name: &Text) -> bool
 }
 
 /// The numbers of the detections that a selector takes, in the rule's order.
-pub fn take_names(alloc: Global, selector: &Selector, names: &[Text]) -> Result<Numbers, AllocError>
+pub fn take_names(
+    alloc: Global,
+    selector: &Selector,
+    names: &[Text],
+) -> Result<DetectionNumbers, AllocError>
     requires { length names.now < 2 ^ 32 }
     ensures { IfOk result (λ all. all ≡ taken selector.now names.now) }
 {
-    let mut all = Numbers::new(alloc);
+    let mut all = DetectionNumbers::new(alloc);
     for (number, name) in names.iter().enumerate() {
         if does_take(selector, name) {
             all.push(number as u32)?;

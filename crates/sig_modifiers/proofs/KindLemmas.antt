@@ -15,8 +15,8 @@ use Rattle.sig_modifiers.specs.Kinds.{is_plain}
 use Rattle.sig_modifiers.specs.TestsOf.{Use, unused, absent, existing, pattern, number, UseTests, TestsOf, use_of, form_use, form_of, use_refusal, value_refusal, pattern_of, all_edited, edited, with_runs, has_nul}
 use Rattle.yaml_tree.specs.Nodes.{place_of}
 use Rattle.sig_modifiers.specs.Written.{Written}
-use Rattle.sig_modifiers.specs.declared.form.Form.TheVariants.{Texts}
-use Rattle.sig_modifiers.specs.declared.form.Form.{Form}
+use Rattle.sig_modifiers.specs.declared.form.ChainForm.TheVariants.{Texts}
+use Rattle.sig_modifiers.specs.declared.form.ChainForm.{ChainForm}
 use Rattle.sig_modifiers.specs.declared.modifier.Modifier.{Modifier}
 use Rattle.sig_modifiers.specs.declared.modifier.Modifier.TheVariants.{Position as In, All, Cased, Exists}
 use Rattle.sig_modifiers.specs.declared.modifier.Position.{Position}
@@ -40,7 +40,7 @@ keyword_form chain h = rw h refl
 
 pub keyword_fits : (chain : Written) (value : Tree) (ts : List Test) → chain.keyword ≡ true → TestsOf chain value ts → IsPattern ts
 keyword_fits chain value ts h t =
-    text_tests chain value ts (subst (λ (f : Form). UseTests chain (form_use f value) ts) (keyword_form chain h) t)
+    text_tests chain value ts (subst (λ (f : ChainForm). UseTests chain (form_use f value) ts) (keyword_form chain h) t)
 
 front_written : (t : List ℕ) (p : Part) (rest : List ℕ) → SpellsFront false t p rest → is_written p ≡ true
 front_written t p rest (star e q) = ap is_written q

@@ -16,20 +16,20 @@ use Rattle.sig_modifiers.specs.declared.modifier.Modifier.{Modifier}
 use Rattle.sig_modifiers.specs.declared.modifier.Modifier.TheVariants.{Position as In}
 use Rattle.sig_modifiers.specs.declared.modifier.Position.{Position}
 use Rattle.sig_modifiers.specs.declared.modifier.Position.TheVariants.{Around, After, Before}
-use Rattle.sig_modifiers.specs.declared.form.Form.{Form}
-use Rattle.sig_modifiers.specs.declared.form.Form.TheVariants.{Bare, Presence, Texts}
+use Rattle.sig_modifiers.specs.declared.form.ChainForm.{ChainForm}
+use Rattle.sig_modifiers.specs.declared.form.ChainForm.TheVariants.{Bare, Presence, Texts}
 use Rattle.sig_modifiers.specs.declared.test.Test.{Test}
 use Rattle.sig_modifiers.specs.declared.test.Test.TheVariants as tests
 
 -- the kind of a chain at a field: no modifier, `exists`, or a text chain, which takes null too where no modifier says where
 -- the pattern is looked for
-abbrev pub field_form : List Modifier → Form
+abbrev pub field_form : List Modifier → ChainForm
 field_form modifiers =
     if is_empty modifiers then Bare
     else (if is_presence modifiers then Presence else Texts (not (list_any is_position modifiers)))
 
 -- a keyword takes text chains alone, also without a modifier, and no null
-abbrev pub form_of : Written → Form
+abbrev pub form_of : Written → ChainForm
 form_of chain = if chain.keyword then Texts false else field_form chain.modifiers
 
 -- what a chain takes a value for
@@ -50,7 +50,7 @@ abbrev pub truth_text : Bool → List ℕ
 truth_text true = codes "true"
 truth_text false = codes "false"
 
-abbrev pub scalar_use : Form → Scalar → Use
+abbrev pub scalar_use : ChainForm → Scalar → Use
 scalar_use Bare null = absent
 scalar_use Bare (truth b) = pattern (truth_text b)
 scalar_use Bare (whole n) = number n
@@ -65,7 +65,7 @@ scalar_use (Texts nulls) (whole n) = pattern (signed_decimal n)
 scalar_use (Texts nulls) (text t) = pattern t
 
 -- lists and maps are never taken
-abbrev pub form_use : Form → Tree → Use
+abbrev pub form_use : ChainForm → Tree → Use
 form_use form (scalar at s) = scalar_use form s
 form_use form (list at parts) = unused
 form_use form (map at parts) = unused

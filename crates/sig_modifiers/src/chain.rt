@@ -6,7 +6,7 @@ ghost use Rattle.sig_modifiers.specs.Chains as chains;
 ghost use Rattle.sig_modifiers.specs.TestsOf as uses;
 
 use crate::counting::{has_position, is_all, is_cased, is_empty, is_presence};
-use crate::form::Form;
+use crate::form::ChainForm;
 use crate::modifier::{Joined, Modifier};
 use sig_base::Place;
 use std::marker::Model;
@@ -76,19 +76,19 @@ impl Chain {
         }
     }
 
-    pub(crate) fn form(&self) -> Form
+    pub(crate) fn form(&self) -> ChainForm
         ensures { result ≡ uses.form_of self.now }
     {
         if self.is_keyword() {
-            return Form::Texts { nulls: false };
+            return ChainForm::Texts { nulls: false };
         }
         if is_empty(self.modifiers()) {
-            return Form::Bare;
+            return ChainForm::Bare;
         }
         if is_presence(self.modifiers()) {
-            return Form::Presence;
+            return ChainForm::Presence;
         }
-        Form::Texts {
+        ChainForm::Texts {
             nulls: !has_position(self.modifiers()),
         }
     }

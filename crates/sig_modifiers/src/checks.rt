@@ -1,7 +1,7 @@
 //! Rows of the table of chains, reckoned by hand.
 
 use crate::{Chain, Joined, Test, Tests};
-use sig_base::{Detail, Fault, Limits, Place, Refusal, Text};
+use sig_base::{Detail, Fault, Limits, Place, Refusal, Text, TryCopy};
 use std::alloc::Global;
 use std::test::Fail;
 use yaml_tree::{Kind, Node};
@@ -141,7 +141,7 @@ fn resolved(
 ) -> Result<String, Fail> {
     let chain = chain(alloc, words, keyword)??;
     match crate::resolve(alloc, limits, &chain, &value(alloc, written)?) {
-        Ok(tests) => all_shown(alloc, &tests.copy(alloc)?),
+        Ok(tests) => all_shown(alloc, &tests.try_copy(alloc)?),
         Err(Fault::Refused(refusal)) => refused(alloc, &refusal, VALUE),
         Err(Fault::Memory) => Ok(String::new(alloc)),
     }

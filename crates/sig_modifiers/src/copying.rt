@@ -1,8 +1,9 @@
+//! Copies of tests.
+
 ghost use Rattle.std.specs.Prelude.{◌≡◌, IfOk, IfErr};
 
 use crate::test::Test;
-use crate::test_list::Tests;
-use sig_base::Fault;
+use sig_base::{Fault, TryCopy};
 use std::alloc::Global;
 
 impl Test {
@@ -26,16 +27,8 @@ impl Test {
     }
 }
 
-impl Tests {
-    /// The same tests; only want of memory is answered.
-    pub fn copy(&self, alloc: Global) -> Result<Tests, Fault>
-        ensures ok { IfOk result (λ tests. tests ≡ self.now) }
-        ensures err { IfErr result (λ e. e ≡ Fault.Memory) }
-    {
-        let mut tests = Vec::new(alloc);
-        for test in self.as_slice() {
-            tests.push(test.copy(alloc)?)?;
-        }
-        Ok(Tests::from_vec(tests))
+impl TryCopy for Test {
+    fn try_copy(&self, alloc: Global) -> Result<Test, Fault> {
+        self.copy(alloc)
     }
 }

@@ -1,6 +1,6 @@
 //! Which modifiers stand together.
 
-ghost use Rattle.std.specs.Prelude.{◌≡◌, count_by};
+ghost use Rattle.std.specs.Prelude.{◌≡◌};
 ghost use Rattle.std.specs.List.{list_all, list_any};
 ghost use Rattle.sig_modifiers.specs.Chains as chains;
 

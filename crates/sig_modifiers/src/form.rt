@@ -2,7 +2,7 @@
 
 /// The kind of a chain, which decides what values it takes and what for.
 #[derive(Clone, Copy, Debug, PartialEq, Eq)]
-pub enum Form {
+pub enum ChainForm {
     /// no modifier, at a field
     Bare,
     /// `exists`

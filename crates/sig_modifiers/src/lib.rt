@@ -5,8 +5,7 @@ pub use chain::Chain;
 pub use law::{keyword_tests, one_tests, plain_tests, tests_or_refusal};
 pub use modifier::{Joined, Modifier, Position};
 pub use resolving::resolve;
-pub use test::Test;
-pub use test_list::Tests;
+pub use test::{Test, Tests};
 
 mod chain;
 #[cfg(test)]
@@ -23,4 +22,3 @@ mod modifier;
 mod reading;
 mod resolving;
 mod test;
-mod test_list;

@@ -11,9 +11,8 @@ ghost use Rattle.yaml_tree.specs.Tree.{null, truth, whole, text};
 ghost use Rattle.yaml_tree.specs.View.{node_view};
 
 use crate::chain::Chain;
-use crate::form::Form;
-use crate::test::Test;
-use crate::test_list::Tests;
+use crate::form::ChainForm;
+use crate::test::{Test, Tests};
 use event_schema::decimal_in;
 use itoa::Buffer;
 use sig_base::{Code, Fault, Limits, Place, Text, refused};
@@ -82,8 +81,8 @@ fn resolve_null(alloc: Global, limits: &Limits, chain: &Chain, place: Place) -> 
     ensures plain { IfOk result ArePlainTests }
 {
     match chain.form() {
-        Form::Bare | Form::Texts { nulls: true } => one_test(alloc, Test::Absent),
-        Form::Presence | Form::Texts { nulls: false } => Err(refused(
+        ChainForm::Bare | ChainForm::Texts { nulls: true } => one_test(alloc, Test::Absent),
+        ChainForm::Presence | ChainForm::Texts { nulls: false } => Err(refused(
             Code::VALUE_NOT_ALLOWED,
             place,
         )),
@@ -101,8 +100,8 @@ fn resolve_truth(
     ensures plain { IfOk result ArePlainTests }
 {
     match chain.form() {
-        Form::Presence => one_test(alloc, Test::Exists(value)),
-        Form::Bare | Form::Texts { .. } => {
+        ChainForm::Presence => one_test(alloc, Test::Exists(value)),
+        ChainForm::Bare | ChainForm::Texts { .. } => {
             resolve_text(alloc, limits, chain, truth_text(value), place)
         }
     }
@@ -119,9 +118,9 @@ fn resolve_whole(
     ensures plain { IfOk result ArePlainTests }
 {
     match chain.form() {
-        Form::Bare => one_test(alloc, Test::Equals(*value)),
-        Form::Presence => Err(refused(Code::VALUE_NOT_ALLOWED, place)),
-        Form::Texts { .. } => {
+        ChainForm::Bare => one_test(alloc, Test::Equals(*value)),
+        ChainForm::Presence => Err(refused(Code::VALUE_NOT_ALLOWED, place)),
+        ChainForm::Texts { .. } => {
             let mut buffer = Buffer::new();
             let text = decimal_in(&mut buffer, *value);
             resolve_text(alloc, limits, chain, text, place)
@@ -140,8 +139,8 @@ fn resolve_string(
     ensures plain { IfOk result ArePlainTests }
 {
     match chain.form() {
-        Form::Presence => Err(refused(Code::VALUE_NOT_ALLOWED, place)),
-        Form::Bare | Form::Texts { .. } => {
+        ChainForm::Presence => Err(refused(Code::VALUE_NOT_ALLOWED, place)),
+        ChainForm::Bare | ChainForm::Texts { .. } => {
             resolve_text(alloc, limits, chain, value.as_str(), place)
         }
     }

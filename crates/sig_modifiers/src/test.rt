@@ -1,5 +1,6 @@
 //! Tests of a field's value.
 
+use sig_base::Sequence;
 use sig_strings::Pattern;
 
 /// What a rule asks of the value of a field.
@@ -14,3 +15,6 @@ pub enum Test {
     /// its text is the decimal of this number
     Equals(i64),
 }
+
+/// Tests in order, which contracts see as a list.
+pub type Tests = Sequence<Test>;

@@ -2,7 +2,7 @@ use Rattle.std.proofs.Common.{◌∙◌, sym, ap, subst, map, List, take, ◌+�
 use Rattle.std.specs.Prelude.{Ok, Err}
 use Rattle.std.specs.List.{AllZip}
 use Rattle.sig_base.specs.Judged.{Judged, first}
-use Rattle.sig_conditions.specs.Formulas.{Form, form_view, forms_view}
+use Rattle.sig_conditions.specs.Formulas.{PlainFormula, form_view, forms_view}
 use Rattle.sig_conditions.specs.declared.formula.Formula.{Formula}
 use Rattle.yaml_tree.specs.Tree.{Tree}
 use Rattle.yaml_tree.specs.View.{node_view}
@@ -21,7 +21,7 @@ returns-in_err-formula c =
     (subst (λ (ms : List (List ℕ)). Judged (λ (f : Formula). IsFormula ms (node_view c.part-item.result) (form_view f)) (condition_refusal c.args.limits.now ms (node_view c.part-item.result)) (Err c.in_err-formula.field-0.0))
     c.loop-part.invariant.same c.in_err-formula.ensures.judged)
     (λ r p.
-    behind _ _ (unempty ns t c.place_of.result c.is_empty.result c.parts_of-parts.ensures c.place_of.ensures c.is_empty.ensures c.in_ok-must.ensures.0)
+    behind _ _ (unempty ns t c.place_of.result c.is_empty.result c.parts_of-parts.ensures c.place_of.ensures c.is_empty.ensures c.in_ok-must.ensures.judged.0)
     ∙ (ap (λ (ts : List Tree). first (map refusal ts)) (sym c.parts_of-parts.ensures)
     ∙ (c.loop-part.invariant.unrefused ∙ part_first node_view refusal c.loop-part.part-index ns c.part-item.result r c.loop-part-test.true c.part-item.is p)))
 
@@ -37,7 +37,7 @@ loop-part-preserved c =
           ∙ rest_first node_view (condition_refusal c.args.limits.now c.args.names.now.names) c.loop-part.part-index c.parts_of-parts.result.now c.part-item.result
           c.loop-part-test.true c.part-item.is judged.0;
       read =
-          subst (λ (fs : List Form). AllZip (IsFormula c.args.names.now.names) (map node_view (take (c.loop-part.part-index + 1) c.parts_of-parts.result.now)) fs) (sym (pushed_view c.loop-part.formulas.items c.push.new.self.items c.in_ok-formula.formula c.in_ok-push.ensures.items))
+          subst (λ (fs : List PlainFormula). AllZip (IsFormula c.args.names.now.names) (map node_view (take (c.loop-part.part-index + 1) c.parts_of-parts.result.now)) fs) (sym (pushed_view c.loop-part.formulas.items c.push.new.self.items c.in_ok-formula.formula c.in_ok-push.ensures.items))
           (one_more node_view (IsFormula c.args.names.now.names) c.loop-part.part-index c.parts_of-parts.result.now c.part-item.result
           (forms_view c.loop-part.formulas.items) (form_view c.in_ok-formula.formula) c.loop-part-test.true c.part-item.is c.loop-part.invariant.read judged.1);
     }

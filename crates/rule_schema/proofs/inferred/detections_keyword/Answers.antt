@@ -1,7 +1,7 @@
 use Rattle.std.proofs.Common.{sym}
 use Rattle.std.specs.List.{flat_map}
 use Rattle.rule_schema.specs.Inferred.{keyword_line}
-use Rattle.rule_schema.proofs.Fits.{part_here}
+use Rattle.rule_schema.proofs.FirstRefused.{part_here}
 use Rattle.rule_schema.proofs.inferred.detections_keyword.Goals as goal
 
 pub returns-in-Some : goal.returns-in-Some

@@ -11,5 +11,5 @@ returns c =
     let names = rw c.as_slice.ensures at c.in_ok-names.ensures in
     let table : c.in_ok-table.table ≡ codes "events" = c.in_ok-table.ensures.ok ∙ ascii_chars (codes "events") refl in
     let fields : c.in_ok-fields.fields ≡ map text_field (rule_names (rule_view c.args.rule.now)) =
-    c.in_ok-fields.ensures.ok ∙ (ap (map text_field) c.deref.ensures.value ∙ ap (map text_field) names.1) in
+    c.in_ok-fields.ensures.ok ∙ (ap (map text_field) names.1) in
     (names.0, λ i. record { table = table i; fields = fields i; time = None })

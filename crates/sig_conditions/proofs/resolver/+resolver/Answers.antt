@@ -1,4 +1,4 @@
-use Rattle.std.proofs.Common.{◌≡◌, ◌∙◌, ◌+◌, ℕ, List, ap, sym, subst, drop}
+use Rattle.std.proofs.Common.{◌≡◌, ◌∙◌, ◌+◌, ℕ, List, ap, sym, subst, drop, arith}
 use Rattle.std.proofs.lemmas.List.{at_drop_all}
 use Rattle.sig_conditions.specs.Conditions.{cond_view}
 use Rattle.sig_conditions.specs.Formulas.{faults, formula_of}
@@ -14,6 +14,8 @@ resolve_all-loop-part-preserved t c =
     let part = cond_view c.part-item.result in
     record {
       names = c.in_ok-formula.ensures.names ∙ c.loop-part.invariant.names;
+      steps = omega (arith, c.in_ok-formula.ensures.steps, c.loop-part.invariant.steps);
+      most = omega (arith, c.in_ok-formula.ensures.most, c.loop-part.invariant.most);
       formulas = formula_goes names c.loop-part.part-index c.args.parts.now c.part-item.result c.loop-part.all.items c.push.new.self.items c.in_ok-formula.formula _
           c.loop-part-test.true c.part-item.is c.loop-part.invariant.formulas
           (sym (ap (λ (ns : List (List ℕ)). formula_of ns part) c.loop-part.invariant.names) ∙ c.in_ok-formula.ensures.formula.0) c.in_ok-push.ensures.items;
@@ -30,6 +32,8 @@ resolve_all-returns t c =
     record {
       formulas = (formulas_end names _ c.loop-part.all.items _ e c.loop-part.invariant.formulas, faults_end names _ _ e c.loop-part.invariant.faults);
       names = c.loop-part.invariant.names;
+      steps = c.loop-part.invariant.steps;
+      most = c.loop-part.invariant.most;
       left = left_end names _ _ _ _ e c.loop-part.invariant.left;
     }
 

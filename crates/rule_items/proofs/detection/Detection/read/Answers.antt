@@ -24,7 +24,7 @@ returns-in_err-must-clause-judged c =
     subst (Answered c.args.limits.now _) (sym (view-Entry entry))
     (hands_on (IsDetection (member_of entry)) (λ (done : Unit {0}). Unit {0}) c.from_residual.result c.in_err-must.field-0.0 _
     (detection_refusal c.args.limits.now (member_of entry)) (must 71 entry.place c.is_detection_key.result)
-    c.from_residual.ensures.1 (λ y p. p) c.in_err-must.ensures (λ r p. stops _ _ r (ap (must 71 entry.place) (sym named) ∙ p)))
+    c.from_residual.ensures.1 (λ y p. p) c.in_err-must.ensures.judged (λ r p. stops _ _ r (ap (must 71 entry.place) (sym named) ∙ p)))
 
 pub returns-in_err-alternatives-clause-judged : goal.returns-in_err-alternatives-clause-judged
 returns-in_err-alternatives-clause-judged c =
@@ -35,7 +35,7 @@ returns-in_err-alternatives-clause-judged c =
     (hands_on (IsDetection (member_of entry)) (λ all. AllZip IsAlternative (parts_in (node_view entry.value)) all) c.from_residual-in_err-alternatives.result c.in_err-alternatives.field-0.0 _
     (detection_refusal limits (member_of entry)) (content_refusal limits entry.place (node_view entry.value))
     c.from_residual-in_err-alternatives.ensures.1 (λ y p. p) c.in_err-alternatives.ensures.judged
-    (λ r p. skips _ _ (ap (must 71 entry.place) (sym named) ∙ c.in_ok-must.ensures.0) ∙ (first_one _ ∙ p)))
+    (λ r p. skips _ _ (ap (must 71 entry.place) (sym named) ∙ c.in_ok-must.ensures.judged.0) ∙ (first_one _ ∙ p)))
 
 pub returns-clause-judged : goal.returns-clause-judged
 returns-clause-judged c =
@@ -44,6 +44,6 @@ returns-clause-judged c =
     let named : c.is_detection_key.result ≡ is_detection_key (member_of entry) = c.is_detection_key.ensures ∙ ap is_detection_key (view-Entry entry) in
     let d : Detection = record { name = c.in_ok-name.name; alternatives = c.in_ok-alternatives.alternatives; place = entry.place } in
     subst (λ (e : Member). (detection_refusal limits e ≡ None) × IsDetection e d) (sym (view-Entry entry)) (
-      skips _ _ (ap (must 71 entry.place) (sym named) ∙ c.in_ok-must.ensures.0) ∙ (first_one _ ∙ c.in_ok-alternatives.ensures.judged.0),
+      skips _ _ (ap (must 71 entry.place) (sym named) ∙ c.in_ok-must.ensures.judged.0) ∙ (first_one _ ∙ c.in_ok-alternatives.ensures.judged.0),
       record { name = c.in_ok-name.ensures.ok ∙ c.as_str.ensures.chars; alternatives = c.in_ok-alternatives.ensures.judged.1; place = refl },
     )

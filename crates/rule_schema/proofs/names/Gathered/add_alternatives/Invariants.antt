@@ -5,6 +5,6 @@ use Rattle.rule_schema.proofs.names.Gathered.add_alternatives.Given as goal
 
 abbrev pub invariant-loop-alternative : goal.invariant-loop-alternative
 invariant-loop-alternative l = record {
-  kept : IsGathered l.self.names.items l.self.index;
+  kept : IsGathered l.self.names.items l.self.index l.self.indexed;
   gathers : gathered l.self.names.items (flat_map alternative_uses (drop l.alternative-index l.alternatives)) ≡ gathered l.initial.self.names.items (flat_map alternative_uses l.alternatives);
 }

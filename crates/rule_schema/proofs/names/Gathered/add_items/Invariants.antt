@@ -5,6 +5,6 @@ use Rattle.rule_schema.proofs.names.Gathered.add_items.Given as goal
 
 abbrev pub invariant-loop-item : goal.invariant-loop-item
 invariant-loop-item l = record {
-  kept : IsGathered l.self.names.items l.self.index;
+  kept : IsGathered l.self.names.items l.self.index l.self.indexed;
   gathers : gathered l.self.names.items (flat_map item_uses (drop l.item-index l.items)) ≡ gathered l.initial.self.names.items (flat_map item_uses l.items);
 }

@@ -10,12 +10,12 @@ use Rattle.sig_conditions.proofs.names.Names.keep.Goals as goal
 
 pub invariant_of-self-2 : goal.invariant_of-self-2
 invariant_of-self-2 c =
-    let bytes = c.word_of.result.now in
+    let bytes = c.selector_word.result.now in
     record {
       words = record {
         takes = λ word s.
-            keeps c.self.inside.index c.args.selector.now (chars bytes) word _ c.in_ok-copy.copy _ _ (scalars-chars bytes c.word_of.utf8) s c.word_of.ensures
-            (c.in_ok-word.ensures.ok ∙ sym (encodes-chars bytes c.word_of.utf8))
+            keeps c.self.inside.index c.args.selector.now (chars bytes) word _ c.in_ok-copy.copy _ _ (scalars-chars bytes c.selector_word.utf8) s c.selector_word.ensures
+            (c.in_ok-word.ensures.ok ∙ sym (encodes-chars bytes c.selector_word.utf8))
             (c.in_ok-copy.ensures ∙ (c.requires ∙ ap (λ (v : Named). taken c.args.selector.now v.names) (sym c.self.view_is)))
             (btree_map_updates_text _ c.self.inside.known c.insert.new.self _ c.in_ok-insert.ensures.updates (encode_utf8_all word))
             (c.self.invariant.words.takes word s);

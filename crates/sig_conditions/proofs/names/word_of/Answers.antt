@@ -1,7 +1,0 @@
-use Rattle.std.proofs.Common.{◌∙◌, [], ◌∷◌, refl, ap, sym}
-use Rattle.sig_base.proofs.TextLemmas.{ascii_chars}
-use Rattle.sig_conditions.specs.Named.{word_of}
-use Rattle.sig_conditions.proofs.names.word_of.Goals as goal
-
-pub returns-in-Them : goal.returns-in-Them
-returns-in-Them c = ascii_chars (42 ∷ []) refl ∙ ap word_of (sym c.in-Them.is)
