@@ -1,5 +1,10 @@
 mod PolarityLemmas
 mod LeafMeans
+mod Rows
+mod DepthRows
+mod TextRows
+mod Guards
+mod Laid
 mod Texts
 mod DepthLemmas
 mod Sounds
@@ -8,8 +13,7 @@ mod Apart
 mod Calm
 pub mod Signed
 mod Doubled
-mod Rows
-mod SizeLemmas
 mod Names
 mod Laws
 mod Whole
+mod Lists

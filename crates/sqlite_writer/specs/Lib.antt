@@ -1,4 +1,5 @@
 pub mod Guarded
+pub mod Joined
 pub mod Schemas
 pub mod Pieces
 pub mod Depths
@@ -6,3 +7,4 @@ pub mod Sizes
 pub mod Queries
 pub mod Signs
 pub mod Refused
+pub mod Shallow

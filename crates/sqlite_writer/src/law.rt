@@ -1,6 +1,7 @@
 //! Laws of written trees, each the contract of a function that does nothing.
 
-ghost use Rattle.std.specs.Prelude.{◌≡◌, ◌≤◌, ◌↔◌, ℕ, true, false, List, map, codes, Option, None};
+ghost use Rattle.std.specs.Prelude.{◌≡◌, ◌≤◌, ◌↔◌, ℕ, Bool, true, false, List, map, codes, Option, None};
+ghost use Rattle.event_schema.specs.declared.schema.Field.{Field};
 ghost use Rattle.event_schema.specs.declared.schema.Schema.{Schema};
 ghost use Rattle.event_schema.specs.declared.value.Value.{Value};
 ghost use Rattle.event_schema.specs.Events.{IsEvent};
@@ -13,13 +14,15 @@ ghost use Rattle.sql_lang.specs.Meaning.{Yes, No};
 ghost use Rattle.sql_layout.specs.Trees.{tree_value};
 ghost use Rattle.sqlite_writer.specs.Guarded.{sql_tree};
 ghost use Rattle.sqlite_writer.specs.Queries.{query_text, query_bytes, query_expr, IsQueryOf};
+ghost use Rattle.sqlite_writer.specs.Shallow.{ListsAreShallow};
 ghost use Rattle.sqlite_writer.specs.Schemas.{IsTextSchema, AreScalars, AreApart};
 
 use sig_strings::plain_fits;
 use sql_lang::{one_reading, one_spelling};
-use sql_layout::{
-    layout_is_fine, layout_is_read, layout_means_tree, leaves_are_sound, spelling_is_scanned,
+use sql_halves::{
+    halved_layout_is_fine, halved_layout_is_read, halved_layout_means_tree, halves_are_shallow,
 };
+use sql_layout::{leaves_are_sound, spelling_is_scanned};
 use sql_patterns::{glob_means, like_means};
 
 /// Below an even number of words NOT a tree is yes exactly where it holds, and below an odd number
@@ -45,11 +48,18 @@ pub fn tree_is_query()
     polarity();
     leaves_are_sound();
     spelling_is_scanned();
-    layout_is_read();
-    layout_means_tree();
-    layout_is_fine();
+    halved_layout_is_read();
+    halved_layout_means_tree();
+    halved_layout_is_fine();
     one_reading();
     one_spelling();
+}
+
+/// Each list of a sound tree is at most 63 above its deepest part, and one for each halving.
+pub fn lists_are_shallow()
+    ensures { (fields : List Field) (odd : Bool) (t : Plain) → IsSound fields t → ListsAreShallow fields odd t }
+{
+    halves_are_shallow();
 }
 
 /// The table `events` with a field of texts for each name is a schema of texts, where the names are

@@ -1,8 +1,9 @@
-//! Trees written as SQLite queries: with the least parentheses, and with guards where NOT would
-//! leave a missing value unknown.
+//! Trees written as SQLite queries: with the least parentheses, with guards where NOT would leave a
+//! missing value unknown, and with long lists in halves.
 #![tactic(auto)]
 
 mod deep;
+mod guarding;
 mod law;
 mod patterns;
 mod place;
@@ -14,5 +15,5 @@ mod tests_of;
 mod walk;
 mod writer;
 
-pub use law::{polarity, text_schemas, tree_is_query};
+pub use law::{lists_are_shallow, polarity, text_schemas, tree_is_query};
 pub use writer::Sqlite;
