@@ -100,7 +100,7 @@ module _ (fields : List Field) (d : ℕ) where
   chain_last (last_and b) e a = refl
   chain_last (and_or b o) e a = chain_last o (1 + max e (depth (and_expr fields b))) a
 
-  last_part : (o : Ors) (a : Ands) → depth (or_expr fields (or_join o (last_and a))) ≡ 1 + max (depth (or_expr fields o)) (depth (and_expr fields a))
+  pub last_part : (o : Ors) (a : Ands) → depth (or_expr fields (or_join o (last_and a))) ≡ 1 + max (depth (or_expr fields o)) (depth (and_expr fields a))
   last_part (last_and b) a = refl
   last_part (and_or b o) a = chain_last o (depth (and_expr fields b)) a
 
@@ -247,7 +247,7 @@ module _ (fields : List Field) (d : ℕ) where
   and_chain_last (last_not b) e a = refl
   and_chain_last (not_and b o) e a = and_chain_last o (1 + max e (depth (not_expr fields b))) a
 
-  and_last_part : (o : Ands) (a : Nots) → depth (and_expr fields (and_join o (last_not a))) ≡ 1 + max (depth (and_expr fields o)) (depth (not_expr fields a))
+  pub and_last_part : (o : Ands) (a : Nots) → depth (and_expr fields (and_join o (last_not a))) ≡ 1 + max (depth (and_expr fields o)) (depth (not_expr fields a))
   and_last_part (last_not b) a = refl
   and_last_part (not_and b o) a = and_chain_last o (depth (not_expr fields b)) a
 

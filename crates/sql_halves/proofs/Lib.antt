@@ -1,4 +1,6 @@
 pub mod InHalves
+pub mod Lists
+pub mod Chains
 mod Joined
-mod Laid
+pub mod Laid
 mod Examples

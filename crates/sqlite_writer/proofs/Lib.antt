@@ -1,15 +1,20 @@
-mod PolarityLemmas
-mod LeafMeans
-mod Texts
-mod DepthLemmas
-mod Sounds
-mod Nested
 mod Apart
 mod Calm
-pub mod Signed
+mod DepthLemmas
+mod DepthRows
 mod Doubled
-mod Rows
-mod SizeLemmas
-mod Names
+mod Guards
+mod Laid
 mod Laws
+mod LeafMeans
+mod Lists
+mod Names
+mod Nested
+mod PolarityLemmas
+mod Rows
+mod Sounds
+mod TextRows
+mod Texts
 mod Whole
+pub mod NoLack
+pub mod Signed

@@ -1,6 +1,6 @@
--- A layout nests no further than its expression is deep: parentheses hold chains, and each NOT adds a level.
-use Rattle.std.proofs.Common.{ℕ, suc, ◌+◌, ◌≡◌, ◌≤◌, ◌<◌, ◌-◌, refl, ◌∙◌, ap, Bool, true, false, ◌||◌, List, [], ◌∷◌, ◌++◌, append_assoc, arith, max}
-use Rattle.std.specs.Prelude.{nat_lt}
+-- A layout nests no further than its expression is deep: parentheses hold chains, halves too, and each NOT adds a level.
+use Rattle.std.proofs.Common.{ℕ, zero, suc, ◌+◌, ◌≡◌, ◌≤◌, ◌<◌, ◌-◌, refl, ◌∙◌, ap, Bool, true, false, ◌||◌, List, [], ◌∷◌, ◌++◌, append_assoc, arith, max}
+use Rattle.std.specs.Prelude.{nat_lt, nat_le}
 use Rattle.std.specs.List.{list_all}
 use Rattle.std.proofs.lemmas.Bool.Decides.{nat_tests, same_from_decides, Decides-like, Decides-ltb}
 use Rattle.std.proofs.lemmas.List.Folds.{list_all-append}
@@ -10,7 +10,10 @@ use Rattle.sql_lang.specs.Grammar.{Leaf, Ors, last_and, and_or, Ands, last_not, 
 use Rattle.sql_lang.specs.Expression.{Exprs, no_exprs, an_expr, or_expr, or_exprs, and_expr, and_exprs, not_expr, depth, chain_depth}
 use Rattle.sql_layout.specs.Layout.{has_text}
 use Rattle.sql_lang.specs.Reading.{opens_too_far, nots_too_many}
-use Rattle.sql_layout.specs.Trees.{Tree, leaf, all, any, negated, Trees, no_trees, a_tree, Form, form, or_join, and_join, ors_behind, ands_behind, is_long, EachLeaf, EachOfTrees}
+use Rattle.sql_layout.specs.Trees.{Tree, leaf, all, any, negated, Trees, no_trees, a_tree, Form, is_long, EachLeaf, EachOfTrees}
+use Rattle.sql_halves.specs.Halves.{or_join, and_join, or_count, and_count, first_ors, later_ors, first_ands, later_ands, middle, ors_in_halves, ands_in_halves, halved_ors}
+use Rattle.sql_halves.specs.HalvedTrees.{form, form_of_or, form_of_and, ors_behind, ands_behind, layout}
+use Rattle.sql_halves.proofs.Laid.{long_if_or, long_halved_or, long_halved_and, two_later_ors, two_later_ands, join_count_or, join_count_and}
 
 pub not_below : (a b : ℕ) → b ≤ a → nat_lt a b ≡ false
 not_below a b h = grind (arith, nat_tests)
@@ -60,16 +63,71 @@ module _ (limit : ℕ) (fields : List Field) where
   good_and_join (last_not n) b first second = (first, second)
   good_and_join (not_and n a) b first second = (first.0, good_and_join a b first.1 second)
 
-  long_or : (o p : Ors) → is_long (or_join o p) ≡ true
-  long_or (last_and a) p = refl
-  long_or (and_or a o) p = refl
+  -- ---- halves
 
-  long_and : (a b : Ands) → is_long (last_and (and_join a b)) ≡ true
-  long_and (last_not n) b = refl
-  long_and (not_and n a) b = refl
+  good_first_ors : (k : ℕ) (o : Ors) → GoodOr o → GoodOr (first_ors k o)
+  good_first_ors k (last_and a) h = h
+  good_first_ors zero (and_or a o) h = h.0
+  good_first_ors (suc k) (and_or a o) h = (h.0, good_first_ors k o h.1)
+
+  good_later_ors : (k : ℕ) (o : Ors) → GoodOr o → GoodOr (later_ors k o)
+  good_later_ors k (last_and a) h = h
+  good_later_ors zero (and_or a o) h = h.1
+  good_later_ors (suc k) (and_or a o) h = good_later_ors k o h.1
+
+  good_first_ands : (k : ℕ) (a : Ands) → GoodAnd a → GoodAnd (first_ands k a)
+  good_first_ands k (last_not n) h = h
+  good_first_ands zero (not_and n a) h = h.0
+  good_first_ands (suc k) (not_and n a) h = (h.0, good_first_ands k a h.1)
+
+  good_later_ands : (k : ℕ) (a : Ands) → GoodAnd a → GoodAnd (later_ands k a)
+  good_later_ands k (last_not n) h = h
+  good_later_ands zero (not_and n a) h = h.1
+  good_later_ands (suc k) (not_and n a) h = good_later_ands k a h.1
+
+  good_halved_or : (n : ℕ) (o : Ors) → GoodOr o → GoodOr (ors_in_halves n o)
+  unfolding ors_in_halves
+  good_halved_or zero o h = h
+  good_halved_or (suc n) o h =
+      by (nat_le (or_count o) 64) refl (good_halved_or n (first_ors k o) (good_first_ors k o h)) (good_halved_or n (later_ors k o) (good_later_ors k o h)) where
+        k : ℕ
+        k = middle (or_count o)
+
+        by : (b : Bool) → nat_le (or_count o) 64 ≡ b → GoodOr (ors_in_halves n (first_ors k o)) → GoodOr (ors_in_halves n (later_ors k o)) → GoodOr (ors_in_halves (suc n) o)
+        by true is first second = rw is h
+        by false is first second =
+            let long = long_if_or (ors_in_halves n (later_ors k o)) (long_halved_or n (later_ors k o) (two_later_ors o is)) in
+            rw is (good_or_join (ors_in_halves n (first_ors k o)) (last_and (last_not (enclosed (ors_in_halves n (later_ors k o))))) first (long, second))
+
+  good_halved_and : (n : ℕ) (a : Ands) → GoodAnd a → GoodAnd (ands_in_halves n a)
+  unfolding ands_in_halves
+  good_halved_and zero a h = h
+  good_halved_and (suc n) a h =
+      by (nat_le (and_count a) 64) refl (good_halved_and n (first_ands k a) (good_first_ands k a h)) (good_halved_and n (later_ands k a) (good_later_ands k a h)) where
+        k : ℕ
+        k = middle (and_count a)
+
+        by : (b : Bool) → nat_le (and_count a) 64 ≡ b → GoodAnd (ands_in_halves n (first_ands k a)) → GoodAnd (ands_in_halves n (later_ands k a)) → GoodAnd (ands_in_halves (suc n) a)
+        by true is first second = rw is h
+        by false is first second =
+            let long = long_halved_and n (later_ands k a) (two_later_ands a is) in
+            rw is (good_and_join (ands_in_halves n (first_ands k a)) (last_not (enclosed (last_and (ands_in_halves n (later_ands k a))))) first (long, second))
+
+  -- ---- trees
 
   abbrev Good : Form → Type 0
   Good f = GoodOr f.in_or × GoodAnd f.in_and × GoodNot f.in_not
+
+  good_any : (o : Ors) → 2 ≤ or_count o → GoodOr o → Good (form_of_or o)
+  good_any o two h =
+      let long = long_if_or (halved_ors o) (long_halved_or (or_count o) o two) in
+      let halves = good_halved_or (or_count o) o h in
+      (h, (long, halves), (long, halves))
+
+  good_all : (a : Ands) → 2 ≤ and_count a → GoodAnd a → Good (form_of_and a)
+  good_all a two h =
+      let halves = good_halved_and (and_count a) a h in
+      (halves, h, (long_halved_and (and_count a) a two, halves))
 
   mutual
     good_form : (t : Tree) → EachLeaf (IsCalm limit) t → Good (form t)
@@ -77,13 +135,14 @@ module _ (limit : ℕ) (fields : List Field) where
     good_form (negated t) h = let e = (good_form t h).2 in (e, e, e)
     good_form (any t no_trees) h = good_form t h.0
     good_form (any t (a_tree u ts)) h =
-        let e = good_or_join (form t).in_or (ors_behind (form u).in_or ts) (good_form t h.0).0 (good_ors (form u).in_or ts (good_form u h.1.0).0 h.1.1) in
-        let long = long_or (form t).in_or (ors_behind (form u).in_or ts) in
-        (e, (long, e), (long, e))
+        let p = ors_behind (form u).in_or ts in
+        let e = good_or_join (form t).in_or p (good_form t h.0).0 (good_ors (form u).in_or ts (good_form u h.1.0).0 h.1.1) in
+        good_any (or_join (form t).in_or p) (join_count_or (form t).in_or p) e
     good_form (all t no_trees) h = good_form t h.0
     good_form (all t (a_tree u ts)) h =
-        let e = good_and_join (form t).in_and (ands_behind (form u).in_and ts) (good_form t h.0).1 (good_ands (form u).in_and ts (good_form u h.1.0).1 h.1.1) in
-        (e, e, (long_and (form t).in_and (ands_behind (form u).in_and ts), e))
+        let b = ands_behind (form u).in_and ts in
+        let e = good_and_join (form t).in_and b (good_form t h.0).1 (good_ands (form u).in_and ts (good_form u h.1.0).1 h.1.1) in
+        good_all (and_join (form t).in_and b) (join_count_and (form t).in_and b) e
 
     good_ors : (o : Ors) (ts : Trees) → GoodOr o → EachOfTrees (IsCalm limit) ts → GoodOr (ors_behind o ts)
     good_ors o no_trees first more = first
@@ -95,8 +154,8 @@ module _ (limit : ℕ) (fields : List Field) where
     good_ands a (a_tree t ts) first more =
         good_and_join a (ands_behind (form t).in_and ts) first (good_ands (form t).in_and ts (good_form t more.0).1 more.1)
 
-  pub good_layout : (t : Tree) → EachLeaf (IsCalm limit) t → GoodOr (form t).in_or
-  good_layout t h = (good_form t h).0
+  pub good_layout : (t : Tree) → EachLeaf (IsCalm limit) t → GoodOr (layout t)
+  good_layout t h = good_halved_or (or_count (form t).in_or) (form t).in_or (good_form t h).0
 
   -- ---- each token has a text
 

@@ -1,4 +1,5 @@
 pub mod Guarded
+pub mod Joined
 pub mod Lacking
 pub mod Schemas
 pub mod Pieces
@@ -7,3 +8,4 @@ pub mod Sizes
 pub mod Queries
 pub mod Signs
 pub mod Refused
+pub mod Shallow

@@ -1,5 +1,5 @@
--- The text of a tree, part by part, where it stands.
-use Rattle.std.specs.Prelude.{Bool, true, false, not, ◌&&◌, List, [], ◌∷◌, ◌++◌, codes, ℕ}
+-- The text of a tree whose guards are tests of their own, part by part, where it stands.
+use Rattle.std.specs.Prelude.{Bool, true, false, List, [], ◌∷◌, ◌++◌, codes, ℕ, map}
 use Rattle.event_schema.specs.declared.schema.Field.{Field}
 use Rattle.event_schema.specs.declared.schema.Schema.{Schema}
 use Rattle.sql_lang.specs.Grammar.{spell_test}
@@ -9,24 +9,30 @@ use Rattle.backend_core.specs.declared.tree.LeafTest.{LeafTest}
 use Rattle.backend_core.specs.declared.tree.Tree.{Tree}
 use Rattle.backend_core.specs.Trees.{Plain, Plains, no_parts, a_part, all, any, negated, leaf}
 use Rattle.backend_core.specs.View.{tree_view}
+use Rattle.sqlite_writer.specs.declared.place.Kind.{Kind}
+use Rattle.sqlite_writer.specs.declared.place.Kind.TheVariants.{All, Any}
 use Rattle.sqlite_writer.specs.declared.place.Standing.{Standing}
 use Rattle.sqlite_writer.specs.declared.place.Standing.TheVariants.{InOr, InAnd, BehindNot}
-use Rattle.sqlite_writer.specs.Guarded.{name_at, written_test, is_unsure}
+use Rattle.sqlite_writer.specs.Guarded.{name_at, written_test}
+use Rattle.sql_halves.specs.Lists.{halved}
 
-abbrev pub is_behind_not : Standing → Bool
-is_behind_not InOr = false
-is_behind_not InAnd = false
-is_behind_not BehindNot = true
+-- where the parts of a list stand
+abbrev pub standing_in : Kind → Standing
+standing_in All = InAnd
+standing_in Any = InOr
 
-abbrev pub is_in_and : Standing → Bool
-is_in_and InOr = false
-is_in_and InAnd = true
-is_in_and BehindNot = false
+-- parentheses stand around an any in an all, and around a list behind NOT
+abbrev pub is_enclosed : Kind → Standing → Bool
+is_enclosed All InOr = false
+is_enclosed All InAnd = false
+is_enclosed All BehindNot = true
+is_enclosed Any InOr = false
+is_enclosed Any InAnd = true
+is_enclosed Any BehindNot = true
 
-abbrev pub is_in_or : Standing → Bool
-is_in_or InOr = true
-is_in_or InAnd = false
-is_in_or BehindNot = false
+abbrev pub word_of : Kind → List ℕ
+word_of All = codes " AND "
+word_of Any = codes " OR "
 
 abbrev pub piece_if : Bool → List ℕ → List ℕ
 piece_if true piece = piece
@@ -36,34 +42,39 @@ piece_if false piece = []
 abbrev pub enclosed_if : Bool → List ℕ → List ℕ
 enclosed_if so text = piece_if so (codes "(") ++ (text ++ piece_if so (codes ")"))
 
+-- texts with a word before each, but for the first where nothing stands before it
+abbrev pub row_text : List ℕ → Bool → List (List ℕ) → List ℕ
+row_text word behind [] = []
+row_text word behind (text ∷ texts) = piece_if behind word ++ (text ++ row_text word true texts)
+
+-- the first half, the word, and the second half in parentheses
+abbrev pub two_texts : List ℕ → List ℕ → List ℕ → List ℕ
+two_texts word first second = first ++ (word ++ (codes "(" ++ (second ++ codes ")")))
+
+abbrev pub halved_text : Kind → List (List ℕ) → List ℕ
+halved_text kind texts = halved (row_text (word_of kind) false) (two_texts (word_of kind)) texts
+
 abbrev pub test_text : List ℕ → LeafTest → List ℕ
 test_text field test = spaced (spell_test (written_test field test))
 
 abbrev pub has_text : List ℕ → List ℕ
 has_text field = spaced (spell_test (has_value field))
 
--- a guard stands before its test, with AND between
-abbrev pub leaf_text : Bool → Standing → List ℕ → LeafTest → List ℕ
-leaf_text true at field test = enclosed_if (is_behind_not at) (has_text field ++ (codes " AND " ++ test_text field test))
-leaf_text false at field test = test_text field test
-
 module _ (fields : List Field) where
   abbrev mutual
-    pub tree_text : Bool → Standing → Plain → List ℕ
-    tree_text odd at (all ts) = enclosed_if (is_behind_not at) (parts_text odd InAnd (codes " AND ") false ts)
-    tree_text odd at (any ts) = enclosed_if (not (is_in_or at)) (parts_text odd InOr (codes " OR ") false ts)
-    tree_text odd at (negated t) = codes "NOT " ++ tree_text (not odd) BehindNot t
-    tree_text odd at (leaf l) = leaf_text (odd && is_unsure l.test) at (name_at fields l.field) l.test
+    pub tree_text : Standing → Plain → List ℕ
+    tree_text at (all ts) = enclosed_if (is_enclosed All at) (halved_text All (parts_text InAnd ts))
+    tree_text at (any ts) = enclosed_if (is_enclosed Any at) (halved_text Any (parts_text InOr ts))
+    tree_text at (negated t) = codes "NOT " ++ tree_text BehindNot t
+    tree_text at (leaf l) = test_text (name_at fields l.field) l.test
 
-    -- with a word before each part, but for the first where none stands before it
-    pub parts_text : Bool → Standing → List ℕ → Bool → Plains → List ℕ
-    parts_text odd at word behind no_parts = []
-    parts_text odd at word behind (a_part t ts) = piece_if behind word ++ (tree_text odd at t ++ parts_text odd at word true ts)
+    pub parts_text : Standing → Plains → List (List ℕ)
+    parts_text at no_parts = []
+    parts_text at (a_part t ts) = tree_text at t ∷ parts_text at ts
 
   -- the same of the parts of a vector
-  abbrev pub items_text : Bool → Standing → List ℕ → Bool → List Tree → List ℕ
-  items_text odd at word behind [] = []
-  items_text odd at word behind (t ∷ ts) = piece_if behind word ++ (tree_text odd at (tree_view t) ++ items_text odd at word true ts)
+  abbrev pub items_text : Standing → List Tree → List (List ℕ)
+  items_text at ts = map (λ t. tree_text at (tree_view t)) ts
 
 -- ---- the whole query
 
@@ -71,5 +82,6 @@ module _ (fields : List Field) where
 abbrev pub head_text : List ℕ → List ℕ
 head_text table = codes "SELECT * FROM " ++ (in_quotes 34 table ++ codes " WHERE ")
 
-abbrev pub whole_text : Schema → Plain → List ℕ
-whole_text schema t = head_text schema.table ++ tree_text schema.fields false InOr t
+-- with a tree whose guards are tests of their own
+abbrev pub written_text : Schema → Plain → List ℕ
+written_text schema t = head_text schema.table ++ tree_text schema.fields InOr t

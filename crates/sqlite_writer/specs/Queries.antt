@@ -11,7 +11,8 @@ use Rattle.sql_lang.specs.Reading.{Reads, ReadsWithin}
 use Rattle.sql_lang.specs.Grammar.{Query, spell_query}
 use Rattle.sql_lang.specs.Tokens.{tokens}
 use Rattle.text_places.specs.Tokens.{sorts}
-use Rattle.sql_layout.specs.Trees.{Tree, layout, layout_text, fine_or}
+use Rattle.sql_layout.specs.Trees.{Tree}
+use Rattle.sql_halves.specs.HalvedTrees.{layout, layout_text, fine_or}
 use Rattle.backend_core.specs.Trees.{Plain}
 use Rattle.backend_core.specs.Holds.{TreeHolds}
 use Rattle.sqlite_writer.specs.Guarded.{sql_tree}
@@ -29,8 +30,9 @@ query_bytes schema t = encode_utf8_all (query_text schema t)
 abbrev pub query_expr : Schema → Plain → Expr
 query_expr schema t = or_expr schema.fields (layout (query_tree schema t))
 
--- The bytes are read as one query within this limit of depth, and it selects an event, by the first value of each
--- field, exactly where the tree holds. Their characters spell a query, and no query that they spell has a needless pair of parentheses.
+-- The bytes are read as one query within this limit of depth, and it selects an event, by the first value of each field, exactly
+-- where the tree holds. Their characters spell a query, and no query that they spell has a needless pair of parentheses, but for
+-- those around halves.
 pub record IsQueryOf (limit : ℕ) (schema : Schema) (t : Plain) (bytes : List ℕ) : Type 0 where
   pub characters : List ℕ
   pub scalars : all_scalars characters ≡ true

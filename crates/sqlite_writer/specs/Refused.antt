@@ -1,5 +1,5 @@
--- Why a tree isn't written: its expression is too deep, or else its text is too long.
-use Rattle.std.specs.Prelude.{ℕ, ◌≡◌, ◌≤◌, ◌<◌, ◌-◌, ◌^◌, ◌⊎◌, min, pos, ⊤}
+-- Why a tree isn't written: something is lacking for a leaf, or else its expression is too deep, or else its text is too long.
+use Rattle.std.specs.Prelude.{ℕ, ◌≡◌, ◌≤◌, ◌<◌, ◌-◌, ◌^◌, ◌⊎◌, min, pos, ⊤, Option, Some, None}
 use Rattle.sig_base.specs.declared.refusal.Detail.TheVariants.{Numbers}
 use Rattle.sig_base.specs.declared.refusal.Fault.{Fault}
 use Rattle.sig_base.specs.declared.refusal.Fault.TheVariants.{Memory, Refused}
@@ -16,3 +16,9 @@ IsUnwritten depths bytes place deep long Memory = ⊤
 IsUnwritten depths bytes place deep long (Refused r) =
     ((depths < deep) × (r ≡ refusal 112 place (min deep (2 ^ 64 - 1)) depths))
     ⊎ ((deep ≤ depths) × (bytes < long) × (r ≡ refusal 114 place long bytes))
+
+-- where something is lacking for a leaf that is the refusal, and else what is said
+abbrev pub IsRefused : Option Refusal → (Fault → Type 0) → Fault → Type 0
+IsRefused None Unwritten e = Unwritten e
+IsRefused (Some lack) Unwritten Memory = ⊤
+IsRefused (Some lack) Unwritten (Refused r) = r ≡ lack

@@ -5,8 +5,7 @@ ghost use Rattle.sig_strings.specs.Edits.{has_wildcard};
 ghost use Rattle.backend_core.specs.View.{tree_view};
 ghost use Rattle.sqlite_writer.specs.Depths as depths;
 
-use crate::place::{Standing, is_in_and, is_in_or};
-use crate::walk::is_unsure;
+use crate::place::MOST_IN_A_ROW;
 use backend_core::{LeafTest, Tree};
 
 fn one_more(depth: usize) -> usize
@@ -15,7 +14,7 @@ fn one_more(depth: usize) -> usize
     depth.saturating_add(1)
 }
 
-/// The depth of a chain of which what stands before is so deep, with a part that is so deep.
+/// The depth of a row of which what stands before is so deep, with a part that is so deep.
 fn joined_depth(before: Option<usize>, depth: usize) -> usize
     ensures { result ≡ depths.joined_depth usize.MAX before depth }
 {
@@ -43,12 +42,6 @@ fn test_depth(test: &LeafTest) -> usize
     }
 }
 
-fn before_if(so: bool, before: Option<usize>) -> Option<usize>
-    ensures { result ≡ depths.before_if so before }
-{
-    if so { before } else { None }
-}
-
 fn or_zero(depth: Option<usize>) -> usize
     ensures { result ≡ depths.or_zero depth }
 {
@@ -58,57 +51,37 @@ fn or_zero(depth: Option<usize>) -> usize
     }
 }
 
-/// A chain goes on with these parts, or they are a part of their own.
-fn chain_depth_if(so: bool, before: Option<usize>, chain: Option<usize>) -> usize
-    ensures { result ≡ depths.chain_depth_if usize.MAX so before chain }
+/// The depth of a list, in halves where it's long.
+#[cycle(depths)]
+fn parts_depth(parts: &[Tree]) -> usize
+    ensures { result ≡ depths.halved_depth usize.MAX (depths.items_depth usize.MAX parts.now) }
 {
-    let depth = or_zero(chain);
-    if so {
-        return depth;
+    if parts.len() > MOST_IN_A_ROW {
+        let (first, second) = parts.split_at(parts.len() - parts.len() / 2);
+        let first_depth = parts_depth(first);
+        let second_depth = parts_depth(second);
+        return one_more(first_depth.max(second_depth));
     }
-    joined_depth(before, depth)
+    let mut depth = None;
+    for part in parts {
+        let part_depth = tree_depth(part);
+        depth = Some(joined_depth(depth, part_depth));
+    }
+    or_zero(depth)
 }
 
-fn leaf_depth(guarded: bool, at: Standing, before: Option<usize>, depth: usize) -> usize
-    ensures { result ≡ depths.leaf_depth usize.MAX guarded at before depth }
-{
-    if !guarded {
-        return joined_depth(before, depth);
-    }
-    let in_chain = is_in_and(at);
-    let guard = joined_depth(before_if(in_chain, before), 2);
-    chain_depth_if(in_chain, before, Some(joined_depth(Some(guard), depth)))
-}
-
-/// The depth of what stands before with a tree that stands here, below an odd number of words NOT
-/// or an even one.
-pub(crate) fn tree_depth(tree: &Tree, at: Standing, odd: bool, before: Option<usize>) -> usize
-    ensures { result ≡ depths.tree_depth usize.MAX odd at before (tree_view tree.now) }
+/// The depth of a tree whose guards are tests of their own.
+#[cycle(depths)]
+pub(crate) fn tree_depth(tree: &Tree) -> usize
+    ensures { result ≡ depths.tree_depth usize.MAX (tree_view tree.now) }
 {
     match tree {
-        Tree::All(parts) => {
-            let in_chain = is_in_and(at);
-            let mut chain = before_if(in_chain, before);
-            for part in parts {
-                chain = Some(tree_depth(part, Standing::InAnd, odd, chain));
-            }
-            chain_depth_if(in_chain, before, chain)
-        }
-        Tree::Any(parts) => {
-            let in_chain = is_in_or(at);
-            let mut chain = before_if(in_chain, before);
-            for part in parts {
-                chain = Some(tree_depth(part, Standing::InOr, odd, chain));
-            }
-            chain_depth_if(in_chain, before, chain)
-        }
+        Tree::All(parts) => parts_depth(parts.as_slice()),
+        Tree::Any(parts) => parts_depth(parts.as_slice()),
         Tree::Not(part) => {
-            let depth = tree_depth(part, Standing::BehindNot, !odd, None);
-            joined_depth(before, one_more(depth))
+            let depth = tree_depth(part);
+            one_more(depth)
         }
-        Tree::Leaf(leaf) => {
-            let guarded = odd && is_unsure(&leaf.test);
-            leaf_depth(guarded, at, before, test_depth(&leaf.test))
-        }
+        Tree::Leaf(leaf) => test_depth(&leaf.test),
     }
 }

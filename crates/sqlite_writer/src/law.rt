@@ -1,6 +1,7 @@
 //! Laws of written trees, each the contract of a function that does nothing.
 
-ghost use Rattle.std.specs.Prelude.{◌≡◌, ◌≤◌, ◌↔◌, ℕ, true, false, List, map, codes, None};
+ghost use Rattle.std.specs.Prelude.{◌≡◌, ◌≤◌, ◌↔◌, ℕ, Bool, true, false, List, map, codes, None};
+ghost use Rattle.event_schema.specs.declared.schema.Field.{Field};
 ghost use Rattle.event_schema.specs.declared.schema.Schema.{Schema};
 ghost use Rattle.event_schema.specs.declared.value.Value.{Value};
 ghost use Rattle.event_schema.specs.Events.{IsEvent};
@@ -17,13 +18,15 @@ ghost use Rattle.sql_layout.specs.Trees.{tree_value};
 ghost use Rattle.sqlite_writer.specs.Guarded.{sql_tree};
 ghost use Rattle.sqlite_writer.specs.Queries.{query_text, query_bytes, query_expr, IsQueryOf};
 ghost use Rattle.sqlite_writer.specs.Lacking.{sqlite_lacks};
+ghost use Rattle.sqlite_writer.specs.Shallow.{ListsAreShallow};
 ghost use Rattle.sqlite_writer.specs.Schemas.{IsTextSchema, AreScalars};
 
 use sig_strings::plain_fits;
 use sql_lang::{one_reading, one_spelling};
-use sql_layout::{
-    layout_is_fine, layout_is_read, layout_means_tree, leaves_are_sound, spelling_is_scanned,
+use sql_halves::{
+    halved_layout_is_fine, halved_layout_is_read, halved_layout_means_tree, halves_are_shallow,
 };
+use sql_layout::{leaves_are_sound, spelling_is_scanned};
 use sql_patterns::{glob_means, like_means};
 
 /// Of a tree for which nothing is lacking: below an even number of words NOT it's yes exactly where it holds, and below an odd
@@ -49,11 +52,18 @@ pub fn tree_is_query()
     polarity();
     leaves_are_sound();
     spelling_is_scanned();
-    layout_is_read();
-    layout_means_tree();
-    layout_is_fine();
+    halved_layout_is_read();
+    halved_layout_means_tree();
+    halved_layout_is_fine();
     one_reading();
     one_spelling();
+}
+
+/// Each list of a sound tree is at most 63 above its deepest part, and one for each halving.
+pub fn lists_are_shallow()
+    ensures { (fields : List Field) (odd : Bool) (t : Plain) → IsSound fields t → ListsAreShallow fields odd t }
+{
+    halves_are_shallow();
 }
 
 /// The table `events` with a field of texts for each name is a schema of texts, where the names are
@@ -61,4 +71,9 @@ pub fn tree_is_query()
 pub fn text_schemas()
     ensures { (names : List (List ℕ)) → AreScalars names → AreApart names
         → IsTextSchema (record { table = codes "events"; fields = map text_field names; time = None }) }
+{}
+
+/// Nothing is lacking for a tree of tests on fields of texts, each of one value.
+pub fn text_fields_lack_nothing()
+    ensures { (names : List (List ℕ)) (t : Plain) → lack_refusal (sqlite_lacks (map text_field names)) t ≡ None }
 {}

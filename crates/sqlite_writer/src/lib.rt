@@ -1,8 +1,10 @@
-//! Trees written as SQLite queries: with the least parentheses, and with guards where NOT would
-//! leave a missing value unknown.
+//! Trees written as SQLite queries: with the least parentheses, with guards where NOT would leave a
+//! missing value unknown, and with long lists in halves.
 #![tactic(auto)]
 
 mod deep;
+mod guarding;
+mod lacking;
 mod law;
 mod patterns;
 mod place;
@@ -14,5 +16,5 @@ mod tests_of;
 mod walk;
 mod writer;
 
-pub use law::{polarity, text_schemas, tree_is_query};
+pub use law::{lists_are_shallow, polarity, text_fields_lack_nothing, text_schemas, tree_is_query};
 pub use writer::Sqlite;

@@ -4,8 +4,9 @@ ghost use Rattle.std.specs.Prelude.{◌≡◌, ◌∷◌, ◌++◌, [], true, If
 ghost use Rattle.std.specs.Str.{chars};
 ghost use Rattle.sig_base.specs.Texts.{is_ascii};
 ghost use Rattle.sql_layout.specs.Layout.{doubled, in_quotes};
-ghost use Rattle.sqlite_writer.specs.Pieces.{piece_if};
+ghost use Rattle.sqlite_writer.specs.Pieces.{piece_if, word_of};
 
+use crate::place::Kind;
 use sig_base::{Fault, Text};
 use std::alloc::AllocError;
 
@@ -29,6 +30,17 @@ pub(crate) fn put_if(out: &mut Text, so: bool, piece: &str) -> Result<(), Fault>
         return put(out, piece);
     }
     Ok(())
+}
+
+/// Adds the word between the parts of a list, or nothing.
+pub(crate) fn put_word_if(out: &mut Text, so: bool, kind: Kind) -> Result<(), Fault>
+    ensures ok { OnOk result (out.new ≡ out.old ++ piece_if so (word_of kind)) }
+    ensures err { IfErr result (λ e. e ≡ Fault.Memory) }
+{
+    match kind {
+        Kind::All => put_if(out, so, " AND "),
+        Kind::Any => put_if(out, so, " OR "),
+    }
 }
 
 /// Adds a character of a text in quotes, doubled where it's the quote.

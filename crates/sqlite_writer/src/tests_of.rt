@@ -6,17 +6,16 @@ ghost use Rattle.sig_strings.specs.Edits.{has_wildcard};
 ghost use Rattle.sql_lang.specs.Grammar.{spell_test};
 ghost use Rattle.sql_layout.specs.Layout.{spaced};
 ghost use Rattle.sqlite_writer.specs.Guarded.{wildcard_test, plain_test};
-ghost use Rattle.sqlite_writer.specs.Pieces.{has_text, test_text, leaf_text};
+ghost use Rattle.sqlite_writer.specs.Pieces.{has_text, test_text};
 
 use crate::patterns::{put_characters, put_glob, put_like};
-use crate::place::{Standing, is_behind_not};
-use crate::putting::{put, put_if, put_name};
+use crate::putting::{put, put_name};
 use backend_core::LeafTest;
 use sig_base::{Fault, Text};
 use sig_strings::{Part, Pattern};
 
 /// Adds the test that a field has a value.
-pub(crate) fn put_has(out: &mut Text, field: &str) -> Result<(), Fault>
+fn put_has(out: &mut Text, field: &str) -> Result<(), Fault>
     ensures ok { OnOk result (out.new ≡ out.old ++ has_text (chars field.now)) }
     ensures err { IfErr result (λ e. e ≡ Fault.Memory) }
 {
@@ -77,7 +76,7 @@ fn put_fits(out: &mut Text, field: &str, cased: bool, pattern: &Pattern) -> Resu
 }
 
 /// Adds a test of a field.
-fn put_test(out: &mut Text, field: &str, test: &LeafTest) -> Result<(), Fault>
+pub(crate) fn put_test(out: &mut Text, field: &str, test: &LeafTest) -> Result<(), Fault>
     ensures ok { OnOk result (out.new ≡ out.old ++ test_text (chars field.now) test.now) }
     ensures err { IfErr result (λ e. e ≡ Fault.Memory) }
 {
@@ -86,27 +85,4 @@ fn put_test(out: &mut Text, field: &str, test: &LeafTest) -> Result<(), Fault>
         LeafTest::Absent => put_absent(out, field),
         LeafTest::Fits { pattern, cased } => put_fits(out, field, *cased, pattern),
     }
-}
-
-/// Adds a test of a field, with the guard that the field has a value or without it.
-pub(crate) fn put_guarded(
-    out: &mut Text,
-    guarded: bool,
-    at: Standing,
-    field: &str,
-    test: &LeafTest,
-) -> Result<(), Fault>
-    ensures ok { OnOk result (out.new ≡ out.old ++ leaf_text guarded at (chars field.now) test.now) }
-    ensures err { IfErr result (λ e. e ≡ Fault.Memory) }
-{
-    if !guarded {
-        return put_test(out, field, test);
-    }
-    let enclosed = is_behind_not(at);
-    put_if(out, enclosed, "(")?;
-    put_has(out, field)?;
-    put(out, " AND ")?;
-    put_test(out, field, test)?;
-    put_if(out, enclosed, ")")?;
-    Ok(())
 }

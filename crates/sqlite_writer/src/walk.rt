@@ -4,24 +4,14 @@ ghost use Rattle.std.specs.Prelude.{◌≡◌, ◌++◌, IfErr, OnOk};
 ghost use Rattle.std.specs.Str.{chars};
 ghost use Rattle.backend_core.specs.View.{tree_view};
 ghost use Rattle.sqlite_writer.specs.Guarded as guards;
-ghost use Rattle.sqlite_writer.specs.Pieces.{tree_text, leaf_text};
+ghost use Rattle.sqlite_writer.specs.Pieces.{tree_text, items_text, halved_text, enclosed_if, is_enclosed as is_enclosed_list, standing_in as standing, test_text};
 
-use crate::place::{Standing, is_behind_not, is_in_or};
-use crate::putting::{put, put_if};
-use crate::tests_of::put_guarded;
-use backend_core::{Leaf, LeafTest, Tree};
+use crate::place::{Kind, MOST_IN_A_ROW, Standing, is_enclosed, standing_in};
+use crate::putting::{put, put_if, put_word_if};
+use crate::tests_of::put_test;
+use backend_core::{Leaf, Tree};
 use event_schema::Field;
 use sig_base::{Fault, Text};
-
-/// Whether a test is unknown where there is no value.
-pub(crate) fn is_unsure(test: &LeafTest) -> bool
-    ensures { result ≡ guards.is_unsure test.now }
-{
-    match test {
-        LeafTest::Has | LeafTest::Absent => false,
-        LeafTest::Fits { .. } => true,
-    }
-}
 
 /// The name of a field, which is empty where there is no such field.
 fn name_of(fields: &[Field], field: u32) -> &str
@@ -33,65 +23,81 @@ fn name_of(fields: &[Field], field: u32) -> &str
     }
 }
 
-pub(crate) fn put_leaf(
-    out: &mut Text,
-    fields: &[Field],
-    leaf: &Leaf,
-    at: Standing,
-    guarded: bool,
-) -> Result<(), Fault>
-    ensures ok { OnOk result (out.new ≡ out.old ++ leaf_text guarded at (guards.name_at fields.now leaf.now.field) leaf.now.test) }
+pub(crate) fn put_leaf(out: &mut Text, fields: &[Field], leaf: &Leaf) -> Result<(), Fault>
+    ensures ok { OnOk result (out.new ≡ out.old ++ test_text (guards.name_at fields.now leaf.now.field) leaf.now.test) }
     ensures err { IfErr result (λ e. e ≡ Fault.Memory) }
 {
     let name = name_of(fields, leaf.field);
-    put_guarded(out, guarded, at, name, &leaf.test)
+    put_test(out, name, &leaf.test)
 }
 
-/// Adds the text of a tree that stands here, below an odd number of words NOT or an even one.
+/// Adds the text of the parts of a list, in halves where it's long.
+#[cycle(texts)]
+fn put_parts(
+    out: &mut Text,
+    fields: &[Field],
+    kind: Kind,
+    parts: &[Tree],
+) -> Result<(), Fault>
+    ensures ok { OnOk result (out.new ≡ out.old ++ halved_text kind (items_text fields.now (standing kind) parts.now)) }
+    ensures err { IfErr result (λ e. e ≡ Fault.Memory) }
+{
+    if parts.len() > MOST_IN_A_ROW {
+        let (first, second) = parts.split_at(parts.len() - parts.len() / 2);
+        put_parts(out, fields, kind, first)?;
+        put_word_if(out, true, kind)?;
+        put(out, "(")?;
+        put_parts(out, fields, kind, second)?;
+        put(out, ")")?;
+        return Ok(());
+    }
+    let at = standing_in(kind);
+    let mut behind = false;
+    for part in parts {
+        put_word_if(out, behind, kind)?;
+        behind = true;
+        put_tree(out, fields, part, at)?;
+    }
+    Ok(())
+}
+
+/// Adds the text of a list that stands here.
+#[cycle(texts)]
+fn put_list(
+    out: &mut Text,
+    fields: &[Field],
+    kind: Kind,
+    parts: &[Tree],
+    at: Standing,
+) -> Result<(), Fault>
+    ensures ok { OnOk result (out.new ≡ out.old ++ enclosed_if (is_enclosed_list kind at) (halved_text kind (items_text fields.now (standing kind) parts.now))) }
+    ensures err { IfErr result (λ e. e ≡ Fault.Memory) }
+{
+    let enclosed = is_enclosed(kind, at);
+    put_if(out, enclosed, "(")?;
+    put_parts(out, fields, kind, parts)?;
+    put_if(out, enclosed, ")")?;
+    Ok(())
+}
+
+/// Adds the text of a tree that stands here, whose guards are tests of their own.
+#[cycle(texts)]
 pub(crate) fn put_tree(
     out: &mut Text,
     fields: &[Field],
     tree: &Tree,
     at: Standing,
-    odd: bool,
 ) -> Result<(), Fault>
-    ensures ok { OnOk result (out.new ≡ out.old ++ tree_text fields.now odd at (tree_view tree.now)) }
+    ensures ok { OnOk result (out.new ≡ out.old ++ tree_text fields.now at (tree_view tree.now)) }
     ensures err { IfErr result (λ e. e ≡ Fault.Memory) }
 {
     match tree {
-        Tree::All(parts) => {
-            let enclosed = is_behind_not(at);
-            put_if(out, enclosed, "(")?;
-            let mut behind = false;
-            for part in parts {
-                put_if(out, behind, " AND ")?;
-                behind = true;
-                put_tree(out, fields, part, Standing::InAnd, odd)?;
-            }
-            put_if(out, enclosed, ")")?;
-            Ok(())
-        }
-        Tree::Any(parts) => {
-            let enclosed = !is_in_or(at);
-            put_if(out, enclosed, "(")?;
-            let mut behind = false;
-            for part in parts {
-                put_if(out, behind, " OR ")?;
-                behind = true;
-                put_tree(out, fields, part, Standing::InOr, odd)?;
-            }
-            put_if(out, enclosed, ")")?;
-            Ok(())
-        }
+        Tree::All(parts) => put_list(out, fields, Kind::All, parts.as_slice(), at),
+        Tree::Any(parts) => put_list(out, fields, Kind::Any, parts.as_slice(), at),
         Tree::Not(part) => {
             put(out, "NOT ")?;
-            put_tree(out, fields, part, Standing::BehindNot, !odd)?;
-            Ok(())
+            put_tree(out, fields, part, Standing::BehindNot)
         }
-        Tree::Leaf(leaf) => {
-            let guarded = odd && is_unsure(&leaf.test);
-            put_leaf(out, fields, leaf, at, guarded)?;
-            Ok(())
-        }
+        Tree::Leaf(leaf) => put_leaf(out, fields, leaf),
     }
 }

@@ -1,22 +1,29 @@
 //! The query of a tree.
 
-ghost use Rattle.std.specs.Prelude.{◌≡◌, ◌≤◌, ◌^◌, ◌-◌, ◌++◌, ℕ, length, min, pos, IfOk, IfErr, OnOk};
+ghost use Rattle.std.specs.Prelude.{◌≡◌, ◌≤◌, ◌^◌, ◌-◌, ◌++◌, ℕ, length, min, pos, false, None, IfOk, IfErr, OnOk};
+ghost use Rattle.event_schema.specs.declared.schema.Schema.{Schema as SchemaData};
+ghost use Rattle.backend_core.specs.Lacks.{lack_refusal};
 ghost use Rattle.backend_core.specs.Sound.{IsSound};
+ghost use Rattle.backend_core.specs.Trees.{Plain};
 ghost use Rattle.backend_core.specs.View.{tree_view};
 ghost use Rattle.sql_lang.specs.Expression.{depth};
 ghost use Rattle.sqlite_writer.specs.Queries.{query_text, query_bytes, query_expr, IsQueryOf};
-ghost use Rattle.sqlite_writer.specs.Pieces.{head_text, whole_text};
+ghost use Rattle.sqlite_writer.specs.Pieces.{head_text, written_text};
 ghost use Rattle.sqlite_writer.specs.Sizes.{bytes_in};
-ghost use Rattle.sqlite_writer.specs.Refused.{refusal, IsUnwritten};
+ghost use Rattle.sqlite_writer.specs.Joined.{guarded as guarded_tree};
+ghost use Rattle.sqlite_writer.specs.Lacking.{sqlite_lacks};
+ghost use Rattle.sqlite_writer.specs.Refused.{refusal, IsRefused, IsUnwritten};
 ghost use Rattle.sqlite_writer.specs.Schemas.{IsTextSchema};
+ghost use Rattle.sqlite_writer.specs.Shallow.{ListsAreShallow};
 
 use crate::deep::tree_depth;
-use crate::law::tree_is_query;
+use crate::guarding::guarded;
+use crate::law::{lists_are_shallow, tree_is_query};
 use crate::place::Standing;
 use crate::putting::{put, put_name};
 use crate::sizing::{with_text, with_tree};
 use crate::walk::put_tree;
-use backend_core::Tree;
+use backend_core::{Tree, judge_lacks};
 use event_schema::Schema;
 use sig_base::{Bytes, Code, Detail, Fault, Limits, Place, Refusal, Text};
 use std::alloc::Global;
@@ -36,30 +43,24 @@ fn put_head(out: &mut Text, schema: &Schema) -> Result<(), Fault>
     Ok(())
 }
 
-/// The characters of a tree's query, which has so many bytes.
-fn query_of(alloc: Global, bytes: usize, schema: &Schema, tree: &Tree) -> Result<Text, Fault>
-    ensures ok { IfOk result (λ text. text ≡ whole_text schema.now (tree_view tree.now)) }
-    ensures sound { IsSound schema.now.fields (tree_view tree.now)
-        → IfOk result (λ text. text ≡ query_text schema.now (tree_view tree.now)) }
+/// The characters of a tree's query, which has so many bytes. `written` is the tree with its guards.
+fn query_of(alloc: Global, bytes: usize, schema: &Schema, written: &Tree) -> Result<Text, Fault>
+    ensures ok { IfOk result (λ text. text ≡ written_text schema.now (tree_view written.now)) }
+    ensures sound { (t : Plain) → tree_view written.now ≡ guarded_tree false t → IsSound schema.now.fields t
+        → IfOk result (λ text. text ≡ query_text schema.now t) }
     ensures err { IfErr result (λ e. e ≡ Fault.Memory) }
 {
     let mut out = Text::with_capacity(alloc, bytes)?;
     put_head(&mut out, schema)?;
-    put_tree(
-        &mut out,
-        schema.fields.as_slice(),
-        tree,
-        Standing::InOr,
-        false,
-    )?;
+    put_tree(&mut out, schema.fields.as_slice(), written, Standing::InOr)?;
     Ok(out)
 }
 
-/// How many bytes the query of a tree has.
-fn query_size(alloc: Global, schema: &Schema, tree: &Tree) -> Result<usize, Fault>
-    ensures ok { IfOk result (λ n. n ≡ bytes_in (whole_text schema.now (tree_view tree.now))) }
-    ensures sound { IsSound schema.now.fields (tree_view tree.now)
-        → IfOk result (λ n. n ≡ length (query_bytes schema.now (tree_view tree.now))) }
+/// How many bytes the query of a tree has. `written` is the tree with its guards.
+fn query_size(alloc: Global, schema: &Schema, written: &Tree) -> Result<usize, Fault>
+    ensures ok { IfOk result (λ n. n ≡ bytes_in (written_text schema.now (tree_view written.now))) }
+    ensures sound { (t : Plain) → tree_view written.now ≡ guarded_tree false t → IsSound schema.now.fields t
+        → IfOk result (λ n. n ≡ length (query_bytes schema.now t)) }
     ensures err { IfErr result (λ e. e ≡ Fault.Memory) }
 {
     let mut head = Text::new(alloc);
@@ -69,18 +70,17 @@ fn query_size(alloc: Global, schema: &Schema, tree: &Tree) -> Result<usize, Faul
         alloc,
         size,
         schema.fields.as_slice(),
-        tree,
+        written,
         Standing::InOr,
-        false,
     )
 }
 
-/// The depth of a tree's query.
-fn query_depth(schema: &Schema, tree: &Tree) -> usize
-    ensures { IsSound schema.now.fields (tree_view tree.now)
-        → result ≡ min (depth (query_expr schema.now (tree_view tree.now))) (2 ^ 64 - 1) }
+/// The depth of a tree's query. `written` is the tree with its guards.
+fn query_depth(written: &Tree) -> usize
+    ensures { (schema : SchemaData) (t : Plain) → tree_view written.now ≡ guarded_tree false t → IsSound schema.fields t
+        → result ≡ min (depth (query_expr schema t)) (2 ^ 64 - 1) }
 {
-    tree_depth(tree, Standing::InOr, false, None)
+    tree_depth(written)
 }
 
 fn refused(code: Code, place: Place, count: usize, limit: usize) -> Fault
@@ -107,29 +107,34 @@ impl Sqlite {
         ensures bytes { IsSound schema.now.fields (tree_view tree.now)
             → IfOk result (λ bytes. bytes ≡ query_bytes schema.now (tree_view tree.now)) }
         ensures law { IsSound schema.now.fields (tree_view tree.now) → IsTextSchema schema.now
+            → lack_refusal (sqlite_lacks schema.now.fields) (tree_view tree.now) ≡ None
             → IfOk result (λ bytes. (limit : ℕ) → 1 ≤ limit
             → depth (query_expr schema.now (tree_view tree.now)) ≤ limit
             → IsQueryOf limit schema.now (tree_view tree.now) bytes) }
         ensures deep { IsSound schema.now.fields (tree_view tree.now)
             → IfOk result (λ bytes. depth (query_expr schema.now (tree_view tree.now)) ≤ limits.now.sql_depth) }
+        ensures lists { IsSound schema.now.fields (tree_view tree.now) → ListsAreShallow schema.now.fields false (tree_view tree.now) }
         ensures long { IfOk result (λ bytes. length bytes ≤ limits.now.query_bytes) }
         ensures refused { IsSound schema.now.fields (tree_view tree.now) → IfErr result (λ e. IsUnwritten limits.now.sql_depth limits.now.query_bytes place
             (depth (query_expr schema.now (tree_view tree.now))) (length (query_bytes schema.now (tree_view tree.now))) e) }
     {
         tree_is_query();
-        let depth = query_depth(schema, tree);
+        lists_are_shallow();
+        let written = guarded(alloc, tree, false)?;
+        let depth = query_depth(&written);
         if depth > limits.sql_depth {
             return Err(refused(Code::QUERY_TOO_DEEP, place, depth, limits.sql_depth));
         }
-        let size = query_size(alloc, schema, tree)?;
+        let size = query_size(alloc, schema, &written)?;
         if size > limits.query_bytes {
             return Err(refused(Code::QUERY_TOO_LONG, place, size, limits.query_bytes));
         }
-        let query = query_of(alloc, size, schema, tree)?;
-        Bytes::copy(alloc, query.as_str().as_bytes())
+        let query = query_of(alloc, size, schema, &written)?;
+        Ok(Bytes::from_vec(query.into_bytes()))
     }
 
-    /// The same, as the backend's query.
+    /// The same, as the backend's query. Before all else it's refused at the first leaf for which something is lacking (111): a
+    /// test of a field that may have several values.
     pub fn write(
         &self,
         alloc: Global,
@@ -140,14 +145,17 @@ impl Sqlite {
     ) -> Result<Bytes, Fault>
         ensures bytes { IsSound schema.now.fields (tree_view tree.now)
             → IfOk result (λ bytes. bytes ≡ query_bytes schema.now (tree_view tree.now)) }
+        ensures lacks { OnOk result (lack_refusal (sqlite_lacks schema.now.fields) (tree_view tree.now) ≡ None) }
         ensures law { IsSound schema.now.fields (tree_view tree.now) → IsTextSchema schema.now
             → IfOk result (λ bytes. IsQueryOf limits.now.sql_depth schema.now (tree_view tree.now) bytes) }
         ensures deep { IsSound schema.now.fields (tree_view tree.now)
             → IfOk result (λ bytes. depth (query_expr schema.now (tree_view tree.now)) ≤ limits.now.sql_depth) }
         ensures long { IfOk result (λ bytes. length bytes ≤ limits.now.query_bytes) }
-        ensures refused { IsSound schema.now.fields (tree_view tree.now) → IfErr result (λ e. IsUnwritten limits.now.sql_depth limits.now.query_bytes place
-            (depth (query_expr schema.now (tree_view tree.now))) (length (query_bytes schema.now (tree_view tree.now))) e) }
+        ensures refused { IsSound schema.now.fields (tree_view tree.now) → IfErr result (λ e. IsRefused (lack_refusal (sqlite_lacks schema.now.fields) (tree_view tree.now))
+            (IsUnwritten limits.now.sql_depth limits.now.query_bytes place
+            (depth (query_expr schema.now (tree_view tree.now))) (length (query_bytes schema.now (tree_view tree.now)))) e) }
     {
+        judge_lacks(alloc, self, schema, tree)?;
         self.text(alloc, limits, schema, tree, place)
     }
 }

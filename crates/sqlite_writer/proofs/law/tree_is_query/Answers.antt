@@ -2,8 +2,9 @@ use Rattle.std.proofs.Common.{ℕ, List, ◌≡◌, refl, sym, ◌∙◌, true, 
 use Rattle.std.specs.Str.{all_scalars}
 use Rattle.std.proofs.lemmas.Str.{encodes_same}
 use Rattle.sql_lang.specs.Grammar.{Query}
-use Rattle.sql_layout.specs.Trees.{layout_query, fine_or, IsSound as IsSoundLeaf}
 use Rattle.event_schema.specs.Rows.{first_values}
+use Rattle.sql_layout.specs.Trees.{IsSound as IsSoundLeaf}
+use Rattle.sql_halves.specs.HalvedTrees.{layout_query, fine_or}
 use Rattle.sqlite_writer.specs.Guarded.{name_at}
 use Rattle.sqlite_writer.specs.Queries.{query_tree, query_text, query_bytes, query_expr}
 use Rattle.sqlite_writer.proofs.Nested.{IsCalm}
@@ -24,7 +25,7 @@ returns c = λ limit schema t texts sound none some deep.
     let tree = query_tree schema t in
     let writable = writable_layout limit fields schema.table tree texts.table each_calm in
     let scanned = c.spelling_is_scanned.ensures (layout_query schema.table tree) writable in
-    let reads = c.layout_is_read.ensures schema tree texts.table each_sound in
+    let reads = c.halved_layout_is_read.ensures schema tree texts.table each_sound in
     record {
       characters = query_text schema t;
       scalars = subst (λ (cs : List ℕ). all_scalars cs ≡ true) (encodes_same reads.characters (query_text schema t) (sym reads.encoded)) reads.scalars;
@@ -36,9 +37,9 @@ returns c = λ limit schema t texts sound none some deep.
       spelled = sym scanned;
       fine = λ q is.
           let same : layout_query schema.table tree ≡ q = c.one_spelling.ensures (layout_query schema.table tree) q (sym scanned ∙ sym is) in
-          subst (λ (p : Query). fine_or p.condition ≡ true) same (c.layout_is_fine.ensures tree);
+          subst (λ (p : Query). fine_or p.condition ≡ true) same (c.halved_layout_is_fine.ensures tree);
       selects = λ row event.
-          let same = c.layout_means_tree.ensures fields tree (first_values row) in
+          let same = c.halved_layout_means_tree.ensures fields tree (first_values row) in
           let holds = c.polarity.ensures.even schema t row texts sound none event in
           ((λ h. holds.0 (sym same ∙ h)), (λ h. same ∙ holds.1 h));
     }

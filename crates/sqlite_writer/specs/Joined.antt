@@ -1,0 +1,44 @@
+-- The tree that is written, as data: below an odd number of words NOT a test that would be unknown where there is no value
+-- stands behind the test that there is one, and what is of a list's own kind is joined into the list.
+use Rattle.std.specs.Prelude.{Bool, true, false, not, ◌&&◌}
+use Rattle.backend_core.specs.declared.tree.Leaf.{Leaf}
+use Rattle.backend_core.specs.declared.tree.LeafTest.TheVariants as tests
+use Rattle.backend_core.specs.Trees.{Plain, Plains, no_parts, a_part, all, any, negated, leaf}
+use Rattle.sqlite_writer.specs.declared.place.Kind.{Kind}
+use Rattle.sqlite_writer.specs.declared.place.Kind.TheVariants.{All, Any}
+use Rattle.sqlite_writer.specs.Guarded.{is_unsure}
+
+abbrev pub append : Plains → Plains → Plains
+append no_parts us = us
+append (a_part t ts) us = a_part t (append ts us)
+
+-- what a tree adds to a list of this kind: the parts of a list of the same kind, else the tree
+abbrev pub parts_of : Kind → Plain → Plains
+parts_of All (all ts) = ts
+parts_of All (any ts) = a_part (any ts) no_parts
+parts_of All (negated t) = a_part (negated t) no_parts
+parts_of All (leaf l) = a_part (leaf l) no_parts
+parts_of Any (all ts) = a_part (all ts) no_parts
+parts_of Any (any ts) = ts
+parts_of Any (negated t) = a_part (negated t) no_parts
+parts_of Any (leaf l) = a_part (leaf l) no_parts
+
+-- that the field of a leaf has a value
+abbrev pub guard_of : Leaf → Leaf
+guard_of l = record { field = l.field; test = tests.Has; place = l.place }
+
+abbrev pub guarded_leaf : Bool → Leaf → Plain
+guarded_leaf true l = all (a_part (leaf (guard_of l)) (a_part (leaf l) no_parts))
+guarded_leaf false l = leaf l
+
+abbrev mutual
+  -- below an odd number of words NOT, or an even one
+  pub guarded : Bool → Plain → Plain
+  guarded odd (all ts) = all (guarded_parts All odd ts)
+  guarded odd (any ts) = any (guarded_parts Any odd ts)
+  guarded odd (negated t) = negated (guarded (not odd) t)
+  guarded odd (leaf l) = guarded_leaf (odd && is_unsure l.test) l
+
+  pub guarded_parts : Kind → Bool → Plains → Plains
+  guarded_parts kind odd no_parts = no_parts
+  guarded_parts kind odd (a_part t ts) = append (parts_of kind (guarded odd t)) (guarded_parts kind odd ts)
