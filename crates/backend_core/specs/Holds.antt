@@ -1,6 +1,6 @@
 -- Whether a tree holds of an event's row: of each leaf its field's values decide, and the rest is two-valued.
 use Rattle.std.specs.Prelude.{List, ◌⊎◌, ⊤}
-use Rattle.event_schema.specs.Lists.{SomeOf, IsSome, IsNone}
+use Rattle.event_schema.specs.Lists.{SomeOf, HasElement, HasNoElement}
 use Rattle.event_schema.specs.Rows.{field_values, value_text}
 use Rattle.event_schema.specs.declared.value.Value.{Value}
 use Rattle.sig_strings.specs.Fits.{Fits}
@@ -10,8 +10,8 @@ use Rattle.backend_core.specs.Trees.{Plain, all, any, negated, leaf, Plains, no_
 
 -- what a test says of a field's values: whether there is one, or whether the pattern fits some value
 abbrev pub TestHolds : LeafTest → List Value → Type 0
-TestHolds tests.Has values = IsSome values
-TestHolds tests.Absent values = IsNone values
+TestHolds tests.Has values = HasElement values
+TestHolds tests.Absent values = HasNoElement values
 TestHolds (tests.Fits pattern cased) values = SomeOf (λ value. Fits pattern (value_text value) cased) values
 
 -- an all where each of its parts holds, an any where one of them does, and a negated tree where its part doesn't

@@ -11,12 +11,12 @@ use Rattle.backend_core.specs.Trees.{Plain, all, any, negated, leaf, Plains, no_
 abbrev pub lack_name : Lack → List ℕ
 lack_name lack.Many = codes "Many"
 
--- the refusal where a leaf lacks something, at its place
+-- the refusal where something is lacking for a leaf, at its place
 abbrev pub leaf_refusal : Leaf → Option Lack → Option Refusal
 leaf_refusal l None = None
 leaf_refusal l (Some what) = Some (record { code = 111; place = l.place; detail = details.Text (lack_name what) })
 
--- the first leaf in the tree's order that lacks something
+-- the first leaf in the tree's order for which something is lacking
 module _ (lacks : Leaf → Option Lack) where
   abbrev mutual
     pub lack_refusal : Plain → Option Refusal

@@ -32,13 +32,13 @@ impl Lack {
     }
 }
 
-/// A backend that can't say every leaf.
+/// A backend, which may not be able to say every leaf.
 pub trait Lacking {
-    ghost lacks: { Self → List Field → Leaf → Option Lack };
+    ghost lacking: { Self → List Field → Leaf → Option Lack };
 
     /// What it lacks for a leaf, if anything. Takes no memory.
-    fn lack(&self, schema: &Schema, leaf: &Leaf) -> Option<Lack>
-        ensures { result ≡ lacks self.now schema.now.fields leaf.now };
+    fn lacks(&self, schema: &Schema, leaf: &Leaf) -> Option<Lack>
+        ensures { result ≡ lacking self.now schema.now.fields leaf.now };
 }
 
 /// Refuses a leaf at its place where something is lacking for it (111).
@@ -64,13 +64,13 @@ pub fn judge_lacks<B: Lacking>(
     schema: &Schema,
     tree: &Tree,
 ) -> Result<(), Fault>
-    ensures { Judged (λ done. Unit {0}) (lack_refusal (B.lacks backend.now schema.now.fields) (tree_view tree.now)) result }
+    ensures { Judged (λ done. Unit {0}) (lack_refusal (B.lacking backend.now schema.now.fields) (tree_view tree.now)) result }
 {
     match tree {
         Tree::All(parts) => judge_parts(alloc, backend, schema, parts.as_slice()),
         Tree::Any(parts) => judge_parts(alloc, backend, schema, parts.as_slice()),
         Tree::Not(part) => judge_lacks(alloc, backend, schema, part),
-        Tree::Leaf(leaf) => judge_lack(alloc, leaf, backend.lack(schema, leaf)),
+        Tree::Leaf(leaf) => judge_lack(alloc, leaf, backend.lacks(schema, leaf)),
     }
 }
 
@@ -81,7 +81,7 @@ fn judge_parts<B: Lacking>(
     schema: &Schema,
     parts: &[Tree],
 ) -> Result<(), Fault>
-    ensures { Judged (λ done. Unit {0}) (lacks_refusal (B.lacks backend.now schema.now.fields) (plains_of parts.now)) result }
+    ensures { Judged (λ done. Unit {0}) (lacks_refusal (B.lacking backend.now schema.now.fields) (plains_of parts.now)) result }
 {
     for part in parts {
         judge_lacks(alloc, backend, schema, part)?;

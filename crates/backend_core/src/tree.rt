@@ -21,13 +21,13 @@ pub struct Leaf {
     pub place: Place,
 }
 
-/// What is asked of a field's value.
+/// What is asked of a field's values.
 #[derive(Drop, Debug)]
 pub enum LeafTest {
-    /// there is one
+    /// there is a value
     Has,
     /// there is none
     Absent,
-    /// it is a text that the pattern fits, as written or without regard to the case of A to Z
+    /// the pattern fits some value's text, or a number's decimal, as written or without regard to the case of A to Z
     Fits { pattern: Pattern, cased: bool },
 }

@@ -4,8 +4,8 @@ ghost use Rattle.std.specs.Prelude.{◌≡◌, ◌≤◌, ◌<◌, ◌+◌, [], 
 ghost use Rattle.std.specs.List.{position};
 ghost use Rattle.std.specs.Io.KnownBytes.{Keeps, IsAtEnd};
 ghost use Rattle.sig_base.specs.Causes.{HasCause};
-ghost use Rattle.event_lines.specs.Lines.{line_step};
-ghost use Rattle.event_lines.specs.Reading.{has_feed, IsNext, IsOver, IsLine, HasLineCause};
+ghost use Rattle.event_lines.specs.Lines.{line_step, lines_of};
+ghost use Rattle.event_lines.specs.Reading.{coming, has_feed, IsNext, IsOver, IsLine, HasLineCause};
 ghost use Rattle.event_lines.specs.Steps.{TakesPiece, Moves, end_step};
 
 use crate::buffer::Buffer;
@@ -68,6 +68,7 @@ impl LineReader {
     /// A reader at a source's first line; only want of memory is answered.
     pub fn new(alloc: Global, limits: &Limits) -> Result<LineReader, Fault>
         ensures ok { IfOk result (λ r. r ≡ record { ahead = []; room = limits.now.events_bytes; number = 1; line_bytes = limits.now.line_bytes; ended = false }) }
+        ensures lines { IfOk result (λ r. (left : List ℕ) → coming r left ≡ lines_of limits.now left) }
         ensures err { IfErr result (λ e. e ≡ Fault.Memory) }
     {
         Ok(LineReader {

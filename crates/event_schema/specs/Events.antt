@@ -34,6 +34,6 @@ pub record AreValuesOf (field : Field) (all : List Value) : Type 0 where
 -- the values of an event, in the order of the fields
 abbrev pub IsEvent : List Field → List (List Value) → Type 0
 IsEvent [] [] = ⊤
-IsEvent [] (row ∷ rows) = ⊥
+IsEvent [] (all ∷ row) = ⊥
 IsEvent (field ∷ fields) [] = ⊥
-IsEvent (field ∷ fields) (row ∷ rows) = AreValuesOf field row × IsEvent fields rows
+IsEvent (field ∷ fields) (all ∷ row) = AreValuesOf field all × IsEvent fields row

@@ -10,10 +10,10 @@ SomeOf P [] = ⊥
 SomeOf P (x ∷ xs) = P x ⊎ SomeOf P xs
 
 -- there is an element, and there is none
-abbrev pub IsSome : {A : Type 0} → List A → Type 0
-IsSome [] = ⊥
-IsSome (x ∷ xs) = ⊤
+abbrev pub HasElement : {A : Type 0} → List A → Type 0
+HasElement [] = ⊥
+HasElement (x ∷ xs) = ⊤
 
-abbrev pub IsNone : {A : Type 0} → List A → Type 0
-IsNone [] = ⊤
-IsNone (x ∷ xs) = ⊥
+abbrev pub HasNoElement : {A : Type 0} → List A → Type 0
+HasNoElement [] = ⊤
+HasNoElement (x ∷ xs) = ⊥

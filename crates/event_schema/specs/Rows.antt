@@ -19,7 +19,7 @@ abbrev pub first_value : List Value → Option Value
 first_value [] = None
 first_value (v ∷ vs) = Some v
 
--- the first value of each field, or none: the event as a row of a table
+-- the first value of each field, or none: the columns of a table
 abbrev pub first_values : List (List Value) → List (Option Value)
 first_values row = map first_value row
 

@@ -1,7 +1,7 @@
 -- What every schema keeps.
 use Rattle.std.specs.Prelude.{◌≡◌, ◌<◌, ◌^◌, ℕ, Bool, true, false, List, [], ◌∷◌, ◌++◌, codes, length, map, ⊤}
 use Rattle.sig_base.specs.Folding.{folded}
-use Rattle.event_schema.specs.Lists.{EachOf, IsSome}
+use Rattle.event_schema.specs.Lists.{EachOf, HasElement}
 use Rattle.event_schema.specs.Names.{IsName}
 use Rattle.event_schema.specs.declared.schema.Field.{Field}
 use Rattle.event_schema.specs.declared.schema.FieldKind.{FieldKind}
@@ -36,7 +36,7 @@ may_be_cased kinds.Address = true
 
 pub record IsField (field : Field) : Type 0 where
   pub name : IsName field.name
-  pub at : IsSome field.at
+  pub at : HasElement field.at
   pub search : field.search ≡ true → may_be_searched field.kind ≡ true
   pub cased : field.cased ≡ true → may_be_cased field.kind ≡ true
 

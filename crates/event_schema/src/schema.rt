@@ -7,7 +7,7 @@ ghost use Rattle.event_schema.specs.Rows.{field_number};
 use crate::fields::Fields;
 use sig_base::{Text, Texts};
 
-/// What values a field takes: texts, whole numbers of 64 bits, or texts that aren't nearly an IPv4 address.
+/// What values a field takes: texts, whole numbers of 64 bits, or texts that are an IPv4 address or don't begin like one.
 #[derive(Clone, Copy, Debug, PartialEq, Eq)]
 pub enum FieldKind {
     Text,

@@ -85,13 +85,6 @@ impl FieldValues {
         }
     }
 
-    /// The first value, if there is one.
-    pub fn first(&self) -> Option<&Value>
-        ensures { option_copied result ≡ first_value self.now }
-    {
-        first_of(self.as_slice())
-    }
-
     /// The same values; only want of memory is answered.
     pub fn copy(&self, alloc: Global) -> Result<FieldValues, Fault>
         ensures ok { IfOk result (λ copy. copy ≡ self.now) }

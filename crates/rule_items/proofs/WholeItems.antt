@@ -18,9 +18,8 @@ use Rattle.rule_items.specs.Items.{IsItem, IsKeyword, bare_chain, key_chain, sha
 use Rattle.event_schema.specs.Names.{is_legal}
 use Rattle.rule_items.specs.Keys.{name_in, words_in, is_item_key, is_keyword_key}
 use Rattle.yaml_tree.specs.Nodes.{is_empty}
-use Rattle.sig_modifiers.specs.Lists.{EachOf}
+use Rattle.event_schema.specs.Lists.{EachOf, HasElement}
 use Rattle.yaml_tree.specs.Nodes.{parts_in, key_place}
-use Rattle.event_schema.specs.Lists.{IsSome}
 use Rattle.rule_items.specs.Whole.{IsPatternTest, IsWholeValue, IsWholeItem, AreWholeFields}
 use Rattle.rule_items.specs.declared.item.Fields.{Fields}
 use Rattle.rule_items.specs.declared.item.Fields.TheVariants.{Keyword, Names}
@@ -28,12 +27,12 @@ use Rattle.rule_items.specs.declared.item.Item.{Item}
 use Rattle.sig_base.proofs.Checks.{first_holds, must_holds, not_holds}
 use Rattle.rule_items.proofs.Zips.{zip_some, zip_each}
 
-use_some : (chain : Written) (u : Use) (ts : List Test) → UseTests chain u ts → IsSome ts
+use_some : (chain : Written) (u : Use) (ts : List Test) → UseTests chain u ts → HasElement ts
 use_some chain unused ts h = absurd h
-use_some chain absent ts h = subst IsSome (sym h) tt
-use_some chain (existing b) ts h = subst IsSome (sym h) tt
-use_some chain (pattern t) ts h = subst IsSome (sym h.tests_are) tt
-use_some chain (number n) ts h = subst IsSome (sym h) tt
+use_some chain absent ts h = subst HasElement (sym h) tt
+use_some chain (existing b) ts h = subst HasElement (sym h) tt
+use_some chain (pattern t) ts h = subst HasElement (sym h.tests_are) tt
+use_some chain (number n) ts h = subst HasElement (sym h) tt
 
 whole_value : (chain : Written) (t : Tree) (ts : List Test) → TestsOf chain t ts → ArePlainTests ts → IsWholeValue ts
 whole_value chain t ts h plain = record { some = use_some chain (use_of chain t) ts h; each = plain }

@@ -6,8 +6,7 @@ use Rattle.std.proofs.lemmas.List.Elements.{filter-append}
 use Rattle.sig_base.specs.declared.refusal.Refusal.{Refusal}
 use Rattle.sig_base.specs.Judged.{first}
 use Rattle.yaml_tree.specs.Nodes.{is_empty}
-use Rattle.sig_modifiers.specs.Lists.{EachOf}
-use Rattle.event_schema.specs.Lists.{IsSome}
+use Rattle.event_schema.specs.Lists.{EachOf, HasElement}
 use Rattle.sig_base.proofs.Firsts.{list_at, taken_at, zip_push}
 
 pub each_more : {A : Type 0} (P : A → Type 0) (done : List A) (y : A) → EachOf P done → P y → EachOf P (done ++ y ∷ [])
@@ -15,7 +14,7 @@ each_more P [] y all one = (one, tt)
 each_more P (x ∷ done) y all one = (all.0, each_more P done y all.1 one)
 
 -- where there is something to read, something is read
-pub zip_some : {A B : Type 0} (R : A → B → Type 0) (xs : List A) (ys : List B) → AllZip R xs ys → is_empty xs ≡ false → IsSome ys
+pub zip_some : {A B : Type 0} (R : A → B → Type 0) (xs : List A) (ys : List B) → AllZip R xs ys → is_empty xs ≡ false → HasElement ys
 zip_some R [] ys all some = absurd cc
 zip_some R (x ∷ xs) [] all some = all
 zip_some R (x ∷ xs) (y ∷ ys) all some = tt

@@ -1,11 +1,10 @@
 -- What the detections of every rule that is read keep: nothing in them is empty, their names are legal, and their patterns can
 -- be written.
 use Rattle.std.specs.Prelude.{ℕ, ◌≡◌, true, List, [], ◌∷◌, ⊤}
-use Rattle.sig_modifiers.specs.Lists.{EachOf}
+use Rattle.event_schema.specs.Lists.{EachOf, HasElement}
 use Rattle.sig_modifiers.specs.PlainTests.{ArePlainTests}
 use Rattle.sig_modifiers.specs.declared.test.Test.{Test}
 use Rattle.sig_modifiers.specs.declared.test.Test.TheVariants.{Absent, Exists, Fits, Equals}
-use Rattle.event_schema.specs.Lists.{IsSome}
 use Rattle.event_schema.specs.Names.{IsName}
 use Rattle.rule_items.specs.declared.detection.Detection.{Detection}
 use Rattle.rule_items.specs.declared.item.Fields.{Fields}
@@ -19,23 +18,23 @@ IsPatternTest (Fits pattern cased) = ⊤
 IsPatternTest (Equals n) = ⊥
 
 pub record IsWholeValue (tests : List Test) : Type 0 where
-  pub some : IsSome tests
+  pub some : HasElement tests
   pub each : ArePlainTests tests
 
 -- at least one name, or patterns alone for a keyword
 abbrev pub AreWholeFields : Fields → List (List Test) → Type 0
 AreWholeFields Keyword values = EachOf (λ tests. EachOf IsPatternTest tests) values
-AreWholeFields (Names names) values = IsSome names × EachOf IsName names
+AreWholeFields (Names names) values = HasElement names × EachOf IsName names
 
 pub record IsWholeItem (i : Item) : Type 0 where
   pub fields : AreWholeFields i.fields i.tests
-  pub some : IsSome i.tests
+  pub some : HasElement i.tests
   pub each : EachOf IsWholeValue i.tests
 
 pub record IsWholeAlternative (items : List Item) : Type 0 where
-  pub some : IsSome items
+  pub some : HasElement items
   pub each : EachOf IsWholeItem items
 
 pub record IsWholeDetection (d : Detection) : Type 0 where
-  pub some : IsSome d.alternatives
+  pub some : HasElement d.alternatives
   pub each : EachOf IsWholeAlternative d.alternatives

@@ -3,7 +3,7 @@
 ghost use Rattle.std.specs.Prelude.{◌≡◌, filter, map as list_map, IfOk};
 ghost use Rattle.std.specs.List.{AllZip, list_any};
 ghost use Rattle.sig_base.specs.Judged.{Judged, first};
-ghost use Rattle.sig_modifiers.specs.Lists.{EachOf};
+ghost use Rattle.event_schema.specs.Lists.{EachOf};
 ghost use Rattle.yaml_tree.specs.View.{node_view, nodes_view, entry_view, entries_view};
 ghost use Rattle.rule_items.specs.Detections as spec;
 ghost use Rattle.rule_items.specs.Items.{IsItem, item_refusal, keyword_refusal};

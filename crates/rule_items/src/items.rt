@@ -3,7 +3,7 @@
 ghost use Rattle.std.specs.Prelude.{◌≡◌, true, map as list_map, [], ◌∷◌, if◌then◌else◌, IfOk, IfErr};
 ghost use Rattle.std.specs.List.{AllZip};
 ghost use Rattle.sig_base.specs.Judged.{Judged, first, refusal};
-ghost use Rattle.sig_modifiers.specs.Lists.{EachOf};
+ghost use Rattle.event_schema.specs.Lists.{EachOf};
 ghost use Rattle.sig_modifiers.specs.PlainTests.{ArePlainTests};
 ghost use Rattle.sig_modifiers.specs.TestsOf.{TestsOf, value_refusal};
 ghost use Rattle.yaml_tree.specs.View.{node_view, nodes_view, entry_view};

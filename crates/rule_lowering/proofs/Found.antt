@@ -8,8 +8,7 @@ use Rattle.std.proofs.lemmas.List.{append_assoc}
 use Rattle.std.proofs.lemmas.Slice.Eq.{bytes_eq-Decides}
 use Rattle.event_schema.specs.declared.schema.Field.{Field}
 use Rattle.rule_schema.specs.Inferred.{is_field}
-use Rattle.sig_modifiers.specs.Lists.{EachOf}
-use Rattle.event_schema.specs.Lists.{IsSome}
+use Rattle.event_schema.specs.Lists.{EachOf, HasElement}
 use Rattle.sig_base.specs.declared.refusal.Place.{Place}
 use Rattle.sig_base.specs.declared.refusal.Refusal.{Refusal}
 use Rattle.sig_base.specs.Judged.{must, first}
@@ -67,12 +66,12 @@ each_kept : {A B : Type 0} (p : A → Bool) (g : A → B) (P : B → Type 0) (xs
 each_kept p g P [] h = tt
 each_kept p g P (x ∷ xs) h = kept_step p g P x xs h.0 (each_kept p g P xs h.1) (p x) refl
 
-some_step : {A B : Type 0} (p : A → Bool) (g : A → B) (x : A) (xs : List A) → (list_any p xs ≡ true → IsSome (map g (filter p xs))) → (b : Bool) → p x ≡ b
-    → (b || list_any p xs) ≡ true → IsSome (map g (filter p (x ∷ xs)))
+some_step : {A B : Type 0} (p : A → Bool) (g : A → B) (x : A) (xs : List A) → (list_any p xs ≡ true → HasElement (map g (filter p xs))) → (b : Bool) → p x ≡ b
+    → (b || list_any p xs) ≡ true → HasElement (map g (filter p (x ∷ xs)))
 some_step p g x xs rest true e h = rw e tt
 some_step p g x xs rest false e h = rw e (rest h)
 
-some_kept : {A B : Type 0} (p : A → Bool) (g : A → B) (xs : List A) → list_any p xs ≡ true → IsSome (map g (filter p xs))
+some_kept : {A B : Type 0} (p : A → Bool) (g : A → B) (xs : List A) → list_any p xs ≡ true → HasElement (map g (filter p xs))
 some_kept p g [] h = absurd (let f : false ≡ true = h in cc)
 some_kept p g (x ∷ xs) h = some_step p g x xs (some_kept p g xs) (p x) refl h
 
@@ -80,7 +79,7 @@ pub searched_within : (fields : List Field) → EachOf (λ n. n < length fields)
 searched_within fields =
     each_kept (λ f. f.search) (λ f. number_of fields f.name) (λ n. n < length fields) fields (each_behind fields [] fields refl)
 
-pub some_searched : (fields : List Field) → list_any (λ f. f.search) fields ≡ true → IsSome (searched fields)
+pub some_searched : (fields : List Field) → list_any (λ f. f.search) fields ≡ true → HasElement (searched fields)
 some_searched fields h = some_kept (λ f. f.search) (λ f. number_of fields f.name) fields h
 
 -- ---- refusals

@@ -5,8 +5,7 @@ use Rattle.std.specs.List.{flat_map}
 use Rattle.backend_core.specs.Holds.{TreeHolds, EachHolds, OneHolds}
 use Rattle.backend_core.specs.Trees.{Plain, all, any, negated, leaf, Plains, no_parts, a_part}
 use Rattle.event_schema.specs.declared.value.Value.{Value}
-use Rattle.sig_modifiers.specs.Lists.{EachOf}
-use Rattle.rule_matching.specs.Lists.{SomeOf}
+use Rattle.event_schema.specs.Lists.{EachOf, SomeOf}
 use Rattle.sig_modifiers.specs.declared.modifier.Joined.{Joined}
 use Rattle.sig_modifiers.specs.declared.modifier.Joined.TheVariants.{All, Any}
 use Rattle.rule_lowering.specs.Joining.{plains, listed, parts_of, tree_with, closed, join}

@@ -10,8 +10,7 @@ use Rattle.event_schema.specs.Rows.{field_number, field_values, values_if_any, v
 use Rattle.event_schema.specs.declared.schema.Field.{Field}
 use Rattle.event_schema.specs.declared.schema.Schema.{Schema}
 use Rattle.event_schema.specs.declared.value.Value.{Value}
-use Rattle.sig_modifiers.specs.Lists.{EachOf}
-use Rattle.rule_matching.specs.Lists.{SomeOf}
+use Rattle.event_schema.specs.Lists.{EachOf, SomeOf}
 use Rattle.rule_matching.specs.Matching.{JoinedHolds, FieldSatisfies, KeywordSatisfied, FieldsHold, ItemHolds, DetectionHolds, NumberHolds, FormHolds, AllFormsHold, SomeFormHolds, Matches}
 use Rattle.rule_model.specs.Plain.{PlainRule}
 use Rattle.rule_items.specs.declared.detection.Detection.{Detection}

@@ -9,10 +9,9 @@ use Rattle.event_schema.specs.Events.{IsPlainText}
 use Rattle.event_schema.specs.declared.schema.Field.{Field}
 use Rattle.event_schema.specs.declared.schema.Schema.{Schema}
 use Rattle.rule_schema.specs.Inferred.{fields_refusal, fit_refusal, items_of}
-use Rattle.sig_modifiers.specs.Lists.{EachOf}
+use Rattle.event_schema.specs.Lists.{EachOf, HasElement}
 use Rattle.rule_model.specs.Plain.{PlainRule}
 use Rattle.sig_modifiers.specs.PlainTests.{IsPlainTest}
-use Rattle.event_schema.specs.Lists.{IsSome}
 use Rattle.rule_items.specs.Whole.{IsWholeValue, AreWholeFields, IsWholeItem, IsWholeAlternative, IsWholeDetection}
 use Rattle.rule_model.specs.Whole.{IsWholeForm, AreSomeForms, AreWholeForms, IsWhole}
 use Rattle.rule_items.specs.declared.detection.Detection.{Detection}
@@ -41,18 +40,18 @@ each_both : {A : Type 0} (P Q : A → Type 0) (xs : List A) → EachOf P xs → 
 each_both P Q [] p q = tt
 each_both P Q (x ∷ xs) p q = ((p.0, q.0), each_both P Q xs p.1 q.1)
 
-some_map : {A B : Type 0} (f : A → B) (xs : List A) → IsSome xs → IsSome (map f xs)
+some_map : {A B : Type 0} (f : A → B) (xs : List A) → HasElement xs → HasElement (map f xs)
 some_map f [] h = absurd h
 some_map f (x ∷ xs) h = tt
 
-some_append : {A : Type 0} (xs ys : List A) → IsSome xs → IsSome (xs ++ ys)
+some_append : {A : Type 0} (xs ys : List A) → HasElement xs → HasElement (xs ++ ys)
 some_append [] ys h = absurd h
 some_append (x ∷ xs) ys h = tt
 
 -- ---- joining
 
 module _ (fields : List Field) where
-  some_listed : (ts : Plains) → AreTwo ts → IsSome (listed ts)
+  some_listed : (ts : Plains) → AreTwo ts → HasElement (listed ts)
   some_listed no_parts h = absurd h
   some_listed (a_part t ts) h = tt
 
@@ -64,7 +63,7 @@ module _ (fields : List Field) where
   plains_sound [] h = tt
   plains_sound (t ∷ ts) h = (h.0, plains_sound ts h.1)
 
-  parts_sound : (j : Joined) (t : Plain) → IsSound fields t → IsSome (parts_of j t) × EachOf (IsSound fields) (parts_of j t)
+  parts_sound : (j : Joined) (t : Plain) → IsSound fields t → HasElement (parts_of j t) × EachOf (IsSound fields) (parts_of j t)
   parts_sound All (all ts) h = (some_listed ts h.0, listed_sound ts h.1)
   parts_sound All (any ts) h = (tt, (h, tt))
   parts_sound All (negated t) h = (tt, (h, tt))
@@ -79,7 +78,7 @@ module _ (fields : List Field) where
   flat_sound j (t ∷ ts) h =
       (each_append (IsSound fields) (parts_of j t) (flat_map (parts_of j) ts)).1 ((parts_sound j t h.0).1, flat_sound j ts h.1)
 
-  some_flat : (j : Joined) (ts : List Plain) → IsSome ts → EachOf (IsSound fields) ts → IsSome (flat_map (parts_of j) ts)
+  some_flat : (j : Joined) (ts : List Plain) → HasElement ts → EachOf (IsSound fields) ts → HasElement (flat_map (parts_of j) ts)
   some_flat j [] s h = absurd s
   some_flat j (t ∷ ts) s h = some_append (parts_of j t) (flat_map (parts_of j) ts) (parts_sound j t h.0).0
 
@@ -87,17 +86,17 @@ module _ (fields : List Field) where
   with_sound All ts two h = (two, h)
   with_sound Any ts two h = (two, h)
 
-  closed_sound : (j : Joined) (ts : List Plain) → IsSome ts → EachOf (IsSound fields) ts → IsSound fields (closed j ts)
+  closed_sound : (j : Joined) (ts : List Plain) → HasElement ts → EachOf (IsSound fields) ts → IsSound fields (closed j ts)
   closed_sound j [] s h = absurd s
   closed_sound j (t ∷ []) s h = h.0
   closed_sound j (t ∷ u ∷ ts) s h = with_sound j (plains (t ∷ u ∷ ts)) tt (plains_sound (t ∷ u ∷ ts) h)
 
-  join_sound : (j : Joined) (ts : List Plain) → IsSome ts → EachOf (IsSound fields) ts → IsSound fields (join j ts)
+  join_sound : (j : Joined) (ts : List Plain) → HasElement ts → EachOf (IsSound fields) ts → IsSound fields (join j ts)
   unfolding join
   join_sound j ts s h = closed_sound j (flat_map (parts_of j) ts) (some_flat j ts s h) (flat_sound j ts h)
 
   join_map_sound : {A : Type 0} (P : A → Type 0) (j : Joined) (f : A → Plain) → ((x : A) → P x → IsSound fields (f x))
-      → (xs : List A) → IsSome xs → EachOf P xs → IsSound fields (join j (map f xs))
+      → (xs : List A) → HasElement xs → EachOf P xs → IsSound fields (join j (map f xs))
   join_map_sound P j f holds xs s h = join_sound j (map f xs) (some_map f xs s) (each_with P (IsSound fields) f holds xs h)
 
   -- ---- values
@@ -116,18 +115,18 @@ module _ (fields : List Field) where
   value_sound place n within ts h =
       join_map_sound IsPlainTest Any (test_tree place n) (λ t whole. (within, test_sound t whole)) ts h.some h.each
 
-  values_sound : (place : Place) (j : Joined) (values : List (List Test)) → IsSome values → EachOf IsWholeValue values
+  values_sound : (place : Place) (j : Joined) (values : List (List Test)) → HasElement values → EachOf IsWholeValue values
       → (n : ℕ) → n < length fields → IsSound fields (values_tree place j values n)
   values_sound place j values s h n within = join_map_sound IsWholeValue j (value_tree place n) (value_sound place n within) values s h
 
-  keyword_sound : (place : Place) → IsSome (searched fields) → (ts : List Test) → IsWholeValue ts → IsSound fields (keyword_tree fields place ts)
+  keyword_sound : (place : Place) → HasElement (searched fields) → (ts : List Test) → IsWholeValue ts → IsSound fields (keyword_tree fields place ts)
   keyword_sound place s ts h =
       join_map_sound (λ n. n < length fields) Any (λ n. value_tree place n ts) (λ n within. value_sound place n within ts h)
       (searched fields) s (searched_within fields)
 
   -- ---- items
 
-  fields_sound : (place : Place) (j : Joined) (values : List (List Test)) (fs : Fields) → AreWholeFields fs values → IsSome values → EachOf IsWholeValue values
+  fields_sound : (place : Place) (j : Joined) (values : List (List Test)) (fs : Fields) → AreWholeFields fs values → HasElement values → EachOf IsWholeValue values
       → fields_refusal fields place fs ≡ None → IsSound fields (fields_tree fields place j values fs)
   fields_sound place j values Keyword w s h fits =
       join_map_sound IsWholeValue j (keyword_tree fields place) (keyword_sound place (some_searched fields (must_holds 83 place _ fits))) values s h
@@ -184,7 +183,7 @@ module _ (fields : List Field) where
     forms_sound ds h no_forms w = tt
     forms_sound ds h (form f fs) w = (form_sound ds h f w.0, forms_sound ds h fs w.1)
 
-    some_forms : (ds : List Detection) (fs : PlainFormulas) → AreSomeForms (length ds) fs → IsSome (form_trees fields ds fs)
+    some_forms : (ds : List Detection) (fs : PlainFormulas) → AreSomeForms (length ds) fs → HasElement (form_trees fields ds fs)
     some_forms ds no_forms w = absurd w
     some_forms ds (form f fs) w = tt
 

@@ -8,8 +8,7 @@ use Rattle.sig_modifiers.specs.Holds.{Holds}
 use Rattle.sig_modifiers.specs.declared.modifier.Joined.{Joined}
 use Rattle.sig_modifiers.specs.declared.modifier.Joined.TheVariants.{All, Any}
 use Rattle.sig_modifiers.specs.declared.test.Test.{Test}
-use Rattle.sig_modifiers.specs.Lists.{EachOf}
-use Rattle.rule_matching.specs.Lists.{SomeOf}
+use Rattle.event_schema.specs.Lists.{EachOf, SomeOf}
 use Rattle.rule_model.specs.Plain.{PlainRule}
 use Rattle.rule_items.specs.declared.detection.Detection.{Detection}
 use Rattle.rule_items.specs.declared.item.Fields.{Fields}

@@ -21,8 +21,7 @@ use Rattle.rule_items.proofs.Zips.{zip_some}
 use Rattle.rule_model.specs.Conditions.{names_of, IsFormula, listed_refusal, conditions_refusal, conditions_in, AreConditions}
 use Rattle.yaml_tree.specs.Nodes.{is_empty}
 use Rattle.yaml_tree.specs.Nodes.{parts_in, value_in, entries_in, refused_by, text_in}
-use Rattle.sig_modifiers.specs.Lists.{EachOf}
-use Rattle.event_schema.specs.Lists.{IsSome}
+use Rattle.event_schema.specs.Lists.{EachOf, HasElement}
 use Rattle.rule_model.specs.Whole.{IsWholeForm}
 
 -- a list that isn't empty isn't refused as such
@@ -60,7 +59,7 @@ each_read R Q f (x ∷ xs) [] all = absurd all
 each_read R Q f (x ∷ xs) (y ∷ ys) all = (f x y all.0, each_read R Q f xs ys all.1)
 
 some_listed : (limits : Limits) (names : List (List ℕ)) (place : Place) (o : Option Tree) (fs : List PlainFormula)
-    → first (must 70 place (is_some o) ∷ refused_by (listed_refusal limits names) o ∷ []) ≡ None → AllZip (IsFormula names) (conditions_in o) fs → IsSome fs
+    → first (must 70 place (is_some o) ∷ refused_by (listed_refusal limits names) o ∷ []) ≡ None → AllZip (IsFormula names) (conditions_in o) fs → HasElement fs
 some_listed limits names place None fs h all = absurd cc
 some_listed limits names place (Some v) fs h all =
     let listed : listed_refusal limits names v ≡ None = sym (first_one (listed_refusal limits names v)) ∙ h in
@@ -68,7 +67,7 @@ some_listed limits names place (Some v) fs h all =
     (not_holds (is_empty (parts_in v)) (must_holds 78 (place_of v) (not (is_empty (parts_in v))) (first_holds _ _ listed).0))
 
 -- a rule that is read has a condition
-pub some_conditions : (limits : Limits) (t : Tree) (fs : List PlainFormula) → conditions_refusal limits t ≡ None → AreConditions t fs → IsSome fs
+pub some_conditions : (limits : Limits) (t : Tree) (fs : List PlainFormula) → conditions_refusal limits t ≡ None → AreConditions t fs → HasElement fs
 some_conditions limits t fs h all = some_listed limits (names_of t) (place_of t) (value_in (codes "condition") (entries_in t)) fs h all
 
 -- whose numbers are below the count of its detections, and which has no empty chain
@@ -78,7 +77,7 @@ whole_conditions t fs all =
     (λ v f is. whole_formula (names_of t) (words (text_in v)) is.condition f is.reads is.formula)
     (conditions_in (value_in (codes "condition") (entries_in t))) fs all
 
-pub judged_some : (limits : Limits) (t : Tree) (r : Result (Vec Formula Global) Fault) → IsJudged limits t r → IfOk r (λ fs. IsSome (forms_view fs.items))
+pub judged_some : (limits : Limits) (t : Tree) (r : Result (Vec Formula Global) Fault) → IsJudged limits t r → IfOk r (λ fs. HasElement (forms_view fs.items))
 judged_some limits t (Ok fs) j = some_conditions limits t (forms_view fs.items) j.0 j.1
 judged_some limits t (Err e) j = tt
 

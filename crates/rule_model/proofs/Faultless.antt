@@ -7,7 +7,7 @@ use Rattle.sig_conditions.specs.Grammar.{IsOr, or_chain, OrTail, or_end, or_next
 use Rattle.sig_conditions.specs.Taken.{number_from, number_of, takes, taken_from, taken}
 use Rattle.sig_conditions.specs.declared.selector.Selector.{Selector}
 use Rattle.sig_conditions.specs.declared.word.Word.{Word}
-use Rattle.sig_modifiers.specs.Lists.{EachOf}
+use Rattle.event_schema.specs.Lists.{EachOf}
 use Rattle.rule_model.specs.Whole.{IsWholeForm, AreSomeForms, AreWholeForms}
 
 named_none : (name : List ℕ) (o : Option ℕ) (f : PlainFormula) → named o ≡ Some f → none_named name o ≡ []

@@ -35,7 +35,7 @@ use Rattle.rule_head.specs.Heads.{head_checks}
 use Rattle.rule_items.specs.Items.{key_chain, shape_refusal, values_refusal, item_refusal, IsItem, bare_chain, keyword_refusal, IsKeyword}
 use Rattle.rule_items.specs.Keys.{pieces, name_in, words_in, is_keyword_key, is_item_key}
 use Rattle.yaml_tree.specs.Nodes.{is_empty}
-use Rattle.sig_modifiers.specs.Lists.{EachOf}
+use Rattle.event_schema.specs.Lists.{EachOf}
 use Rattle.yaml_tree.specs.Nodes.{is_map, is_null, listed, entered, entries_in, parts_in, key_place, value_in, refused_by}
 use Rattle.rule_model.specs.Plain.{PlainRule}
 use Rattle.rule_model.specs.Rules.{rule_refusal, IsRule}

@@ -2,8 +2,7 @@
 -- and their numbers name its detections.
 use Rattle.std.specs.Prelude.{ℕ, ◌<◌, length, ⊤}
 use Rattle.sig_conditions.specs.Formulas.{PlainFormula, FDetection, FNot, FAnd, FOr, PlainFormulas, no_forms, form}
-use Rattle.sig_modifiers.specs.Lists.{EachOf}
-use Rattle.event_schema.specs.Lists.{IsSome}
+use Rattle.event_schema.specs.Lists.{EachOf, HasElement}
 use Rattle.rule_items.specs.Whole.{IsWholeDetection}
 use Rattle.rule_model.specs.Plain.{PlainRule}
 
@@ -25,5 +24,5 @@ abbrev mutual
 
 pub record IsWhole (rule : PlainRule) : Type 0 where
   pub detections : EachOf IsWholeDetection rule.detections
-  pub some : IsSome rule.conditions
+  pub some : HasElement rule.conditions
   pub conditions : EachOf (IsWholeForm (length rule.detections)) rule.conditions

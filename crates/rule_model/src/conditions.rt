@@ -7,9 +7,8 @@ ghost use Rattle.sig_base.specs.Judged.{Judged};
 ghost use Rattle.yaml_tree.specs.View.{node_view, entries_view};
 ghost use Rattle.rule_model.specs.Conditions as spec;
 ghost use Rattle.rule_items.specs.Detections.{is_key};
-ghost use Rattle.sig_modifiers.specs.Lists.{EachOf};
+ghost use Rattle.event_schema.specs.Lists.{EachOf, HasElement};
 ghost use Rattle.yaml_tree.specs.Nodes.{parts_in};
-ghost use Rattle.event_schema.specs.Lists.{IsSome};
 ghost use Rattle.rule_model.specs.Whole.{IsWholeForm};
 
 use sig_base::{Code, Fault, Limits, Text, Texts, must, refused};
@@ -81,7 +80,7 @@ fn read_listed(
 pub fn read_conditions(alloc: Global, limits: &Limits, node: &Node) -> Result<Vec<Formula>, Fault>
     ensures judged { Judged (λ fs. spec.AreConditions (node_view node.now) (forms_view fs.items))
         (spec.conditions_refusal limits.now (node_view node.now)) result }
-    ensures some { IfOk result (λ fs. IsSome (forms_view fs.items)) }
+    ensures some { IfOk result (λ fs. HasElement (forms_view fs.items)) }
     ensures whole { IfOk result (λ fs. EachOf (IsWholeForm (length (spec.names_of (node_view node.now)))) (forms_view fs.items)) }
 {
     let Some(value) = value_at(node, "condition") else {

@@ -10,7 +10,7 @@ use Rattle.sig_base.specs.declared.refusal.Fault.{Fault}
 use Rattle.sig_base.specs.declared.refusal.Fault.TheVariants.{Memory, Refused}
 use Rattle.backend_core.specs.Trees.{Plain}
 use Rattle.event_schema.specs.declared.schema.Schema.{Schema}
-use Rattle.sqlite_writer.specs.Refused.{IsUnwritten}
+use Rattle.sqlite_writer.specs.Refused.{IsRefused, IsUnwritten}
 use Rattle.rule_lowering.specs.Refused.{leaves_refusal}
 use Rattle.rule_model.specs.Rules.{rule_refusal, IsRule}
 use Rattle.rule_queries.specs.Verdicts.{ConvertAnswers, no_query}
@@ -78,6 +78,11 @@ abbrev pub Clauses : Limits → Place → Schema → Plain → Result (List ℕ)
 Clauses limits place schema t r =
     IfOk r (λ bytes. bytes ≡ query_bytes schema t) × IfOk r (λ bytes. depth (query_expr schema t) ≤ limits.sql_depth) × IfOk r (λ bytes. length bytes ≤ limits.query_bytes)
     × IfErr r (λ e. IsUnwritten limits.sql_depth limits.query_bytes place (depth (query_expr schema t)) (length (query_bytes schema t)) e)
+
+-- where nothing is lacking, the writer refuses for the sizes alone
+pub unlacking : (lack : Option Refusal) (U : Fault → Type 0) (r : Result (List ℕ) Fault) → lack ≡ None → IfErr r (λ e. IsRefused lack U e) → IfErr r U
+unlacking lack U (Ok bytes) none h = tt
+unlacking lack U (Err e) none h = subst (λ (o : Option Refusal). IsRefused o U e) none h
 
 second : (a : Option Refusal) (r : Refusal) (rest : List (Option Refusal)) → a ≡ None → (b : Option Refusal) → b ≡ Some r → first (a ∷ b ∷ rest) ≡ Some r
 second a r rest e b f = rw (e, f) refl

@@ -1,5 +1,5 @@
 -- The query of each rule that has one means the rule.
-use Rattle.std.proofs.Common.{ℕ, ◌≡◌, ◌≤◌, List, Option, None, map}
+use Rattle.std.proofs.Common.{ℕ, ◌≡◌, ◌≤◌, List, [], ◌∷◌, None, map}
 use Rattle.std.specs.Prelude.{◌↔◌, codes}
 use Rattle.backend_core.specs.Holds.{TreeHolds}
 use Rattle.backend_core.specs.Sound.{IsSound}
@@ -43,21 +43,28 @@ abbrev TextSchemas : Type 0
 TextSchemas = (names : List (List ℕ)) → AreScalars names → AreApart names → IsTextSchema (record { table = codes "events"; fields = map text_field names; time = None })
 
 abbrev TreesAreQueries : Type 0
-TreesAreQueries = (limit : ℕ) (schema : Schema) (t : Plain) → IsTextSchema schema → IsSound schema.fields t → 1 ≤ limit → depth (query_expr schema t) ≤ limit → IsQueryOf limit schema t (query_bytes schema t)
+TreesAreQueries = (limit : ℕ) (schema : Schema) (t : Plain) → IsTextSchema schema → IsSound schema.fields t → lack_refusal (sqlite_lacks schema.fields) t ≡ None → 1 ≤ limit → depth (query_expr schema t) ≤ limit → IsQueryOf limit schema t (query_bytes schema t)
+
+abbrev NothingLacks : Type 0
+NothingLacks = (names : List (List ℕ)) (t : Plain) → lack_refusal (sqlite_lacks (map text_field names)) t ≡ None
+
+scalars_of : (names : List (List ℕ)) → EachOf IsName names → AreScalars names
+scalars_of [] each = tt
+scalars_of (name ∷ names) each = (each.0.scalars, scalars_of names each.1)
 
 both_ways : {A B C : Type 0} → A ↔ B → B ↔ C → A ↔ C
 both_ways f g = ((λ a. g.0 (f.0 a)), (λ c. f.1 (g.1 c)))
 
-pub query_means : WholeRules → TreesMean → TreesSound → TextSchemas → TreesAreQueries
+pub query_means : WholeRules → TreesMean → TreesSound → TextSchemas → NothingLacks → TreesAreQueries
     → (limits : Limits) (t : Tree) (rule : PlainRule) → HasScalarTexts t → IsConverted limits t rule → Converts limits rule (query_of rule)
 unfolding query_of query_depth rule_tree
-query_means wholes means sounds schemas queries limits t rule texts converted =
+query_means wholes means sounds schemas lacks queries limits t rule texts converted =
     let lines = no_line limits rule converted.written in
     let whole = wholes limits t rule converted.checked.taken converted.checked.is texts in
     let schema = inferred_schema rule in
     let sound = sounds schema rule whole lines.fits in
-    let text_schema : IsTextSchema schema = schemas (rule_names rule) (rule_scalars rule whole) (rule_apart rule lines.schema) in
-    let query = queries limits.sql_depth schema (tree_of schema rule) text_schema sound limits.sql_depth_in.0 lines.deep in
+    let text_schema : IsTextSchema schema = schemas (rule_names rule) (scalars_of (rule_names rule) (rule_legal rule whole)) (rule_apart rule lines.schema) in
+    let query = queries limits.sql_depth schema (tree_of schema rule) text_schema sound (lacks (rule_names rule) (tree_of schema rule)) limits.sql_depth_in.0 lines.deep in
     record {
       characters = query.characters;
       scalars = query.scalars;

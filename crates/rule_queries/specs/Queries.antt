@@ -4,6 +4,7 @@ use Rattle.std.specs.Str.{all_scalars}
 use Rattle.std.specs.declared.option.Option.{Option}
 use Rattle.backend_core.specs.Trees.{Plain}
 use Rattle.event_schema.specs.Events.{IsEvent}
+use Rattle.event_schema.specs.Rows.{first_values}
 use Rattle.event_schema.specs.declared.value.Value.{Value}
 use Rattle.rule_schema.specs.Inferred.{inferred_schema, schema_refusal, fit_refusal}
 use Rattle.rule_matching.specs.Matching.{Matches}
@@ -52,7 +53,8 @@ abbrev pub query_refusal : Limits → PlainRule → Option Refusal
 query_refusal limits rule = first (schema_refusal rule ∷ fit_refusal (inferred_schema rule) rule ∷ size_checks limits rule)
 
 -- The bytes are a text, of Unicode scalar values, that is read as exactly one query of the rule's schema, within the limit of
--- depth, and for every event of this schema the query selects the event exactly where the rule matches it.
+-- depth, and for every event of this schema the query selects the event, as a row with its fields' values, exactly where the rule
+-- matches it. (Each field has at most one value here.)
 pub record Converts (limits : Limits) (rule : PlainRule) (bytes : List ℕ) : Type 0 where
   pub characters : List ℕ
   pub scalars : all_scalars characters ≡ true
@@ -60,5 +62,5 @@ pub record Converts (limits : Limits) (rule : PlainRule) (bytes : List ℕ) : Ty
   pub expression : Expr
   pub reads : ReadsWithin limits.sql_depth (inferred_schema rule) characters expression
   pub only : (other : Expr) → Reads (inferred_schema rule) bytes other → other ≡ expression
-  pub selects : (row : List (Option Value)) → IsEvent (inferred_schema rule).fields row
-      → (SqlSelects expression row ↔ Matches (inferred_schema rule).fields row rule)
+  pub selects : (row : List (List Value)) → IsEvent (inferred_schema rule).fields row
+      → (SqlSelects expression (first_values row) ↔ Matches (inferred_schema rule).fields row rule)

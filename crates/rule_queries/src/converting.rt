@@ -25,6 +25,7 @@ fn write_rule(alloc: Global, limits: &Limits, rule: &Rule, schema: &Schema) -> R
     requires fits { fit_refusal (inferred_schema (rule_view rule.now)) (rule_view rule.now) ≡ None }
     ensures { Judged (λ bytes. bytes ≡ query_of (rule_view rule.now)) (first (size_checks limits.now (rule_view rule.now))) result }
 {
+    sqlite_writer::text_fields_lack_nothing();
     let tree = lower(alloc, limits, rule, schema)?;
     Sqlite.write(alloc, limits, schema, &tree, rule.head.place)
 }

@@ -26,5 +26,6 @@ pub fn queries_mean_rules()
     rule_lowering::tree_means_rule();
     rule_lowering::tree_is_sound();
     sqlite_writer::text_schemas();
+    sqlite_writer::text_fields_lack_nothing();
     sqlite_writer::tree_is_query();
 }

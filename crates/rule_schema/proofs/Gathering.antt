@@ -22,7 +22,7 @@ use Rattle.std.proofs.lemmas.Slice.Eq.{bytes_eq-Decides}
 use Rattle.sig_base.specs.Folding.{folded}
 use Rattle.rule_schema.specs.Gathered.{IsGathered, Gathers, folds_to, with_name, gathered}
 use Rattle.rule_schema.specs.Inferred.{Use, clashes}
-use Rattle.sig_modifiers.specs.Lists.{EachOf}
+use Rattle.event_schema.specs.Lists.{EachOf}
 
 pub choose : {A : Type 0} (b : Bool) (x y z : A) → cond b x y ≡ z → ((b ≡ true) × (x ≡ z)) ⊎ ((b ≡ false) × (y ≡ z))
 choose true x y z e = inl (refl, e)

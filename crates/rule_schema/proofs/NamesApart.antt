@@ -13,7 +13,7 @@ use Rattle.event_schema.specs.Inferred.{text_field}
 use Rattle.event_schema.specs.Schemas.{IsOther, AreApart, twin, IsField, names_of, IsSchema}
 use Rattle.event_schema.specs.declared.schema.Field.{Field}
 use Rattle.rule_schema.specs.Inferred.{Use, clashes, clash_behind, distinct, uses_of, items_of, names_in, rule_names, inferred_schema, schema_refusal}
-use Rattle.sig_modifiers.specs.Lists.{EachOf}
+use Rattle.event_schema.specs.Lists.{EachOf}
 use Rattle.rule_model.specs.Plain.{PlainRule}
 use Rattle.rule_model.specs.Whole.{IsWhole}
 use Rattle.rule_items.specs.Whole.{IsWholeItem, IsWholeAlternative, IsWholeDetection, AreWholeFields}

@@ -10,7 +10,7 @@ use Rattle.sig_base.specs.declared.refusal.Fault.TheVariants.{Memory, Refused}
 use Rattle.sig_base.specs.declared.refusal.Refusal.{Refusal}
 use Rattle.sig_base.specs.Judged.{refusal}
 use Rattle.rule_schema.specs.Inferred.{Use, clashes, names_in}
-use Rattle.sig_modifiers.specs.Lists.{EachOf}
+use Rattle.event_schema.specs.Lists.{EachOf}
 use Rattle.rule_items.specs.declared.detection.Detection.{Detection}
 use Rattle.rule_items.specs.declared.item.Item.{Item}
 

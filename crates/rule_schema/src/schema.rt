@@ -2,10 +2,13 @@
 
 ghost use Rattle.std.specs.Prelude.{◌≡◌, map, IfOk, IfErr};
 ghost use Rattle.event_schema.specs.Inferred as event;
+ghost use Rattle.event_schema.specs.Schemas.{IsSchema};
 ghost use Rattle.sig_base.specs.Judged.{Judged};
 ghost use Rattle.rule_model.specs.Plain.{rule_view};
+ghost use Rattle.rule_model.specs.Whole.{IsWhole};
 ghost use Rattle.rule_schema.specs.Inferred as spec;
 
+use crate::law::inferred_schemas;
 use crate::names::gather;
 use event_schema::{Field, FieldKind, Fields, Schema};
 use rule_model::Rule;
@@ -42,11 +45,16 @@ fn text_fields(alloc: Global, names: Vec<Text>) -> Result<Fields, Fault>
 
 /// The schema that is made of a rule where none is given: the table `events`, with a field of texts for each name that the
 /// rule uses, in the order of their first appearance. Two names that differ in the case of A to Z alone are refused 80 at the
-/// item of the later one.
+/// item of the later one. More than 2^32 - 1 names can't be numbered, which is want of memory.
 pub fn infer_schema(alloc: Global, rule: &Rule) -> Result<Schema, Fault>
-    ensures { Judged (λ schema. schema ≡ spec.inferred_schema (rule_view rule.now)) (spec.schema_refusal (rule_view rule.now)) result }
+    ensures made { Judged (λ schema. schema ≡ spec.inferred_schema (rule_view rule.now)) (spec.schema_refusal (rule_view rule.now)) result }
+    ensures kept { IsWhole (rule_view rule.now) → IfOk result (λ schema. IsSchema schema) }
 {
+    inferred_schemas();
     let names = gather(alloc, rule.detections.as_slice())?;
+    if names.len() > u32::MAX as usize {
+        return Err(Fault::Memory);
+    }
     let fields = text_fields(alloc, names)?;
     let table = Text::copy(alloc, "events")?;
     Ok(Schema {

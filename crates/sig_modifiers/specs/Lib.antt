@@ -1,7 +1,6 @@
 pub mod Chains
 pub mod Holds
 pub mod Kinds
-pub mod Lists
 pub mod PlainTests
 pub mod Resolved
 pub mod TestsOf

@@ -3,7 +3,7 @@ use Rattle.std.specs.Prelude.{◌≡◌, true, List, ⊤}
 use Rattle.event_schema.specs.Events.{IsPlainText}
 use Rattle.sig_strings.specs.Edits.{all_written, plain_text}
 use Rattle.sig_strings.specs.declared.part.Part.{Part}
-use Rattle.sig_modifiers.specs.Lists.{EachOf}
+use Rattle.event_schema.specs.Lists.{EachOf}
 use Rattle.sig_modifiers.specs.declared.test.Test.{Test}
 use Rattle.sig_modifiers.specs.declared.test.Test.TheVariants.{Absent, Exists, Fits, Equals}
 

@@ -3,7 +3,7 @@
 ghost use Rattle.std.specs.Prelude.{◌≡◌, ◌↔◌, IsTrue};
 ghost use Rattle.std.specs.Fmt.{signed_decimal};
 ghost use Rattle.std.specs.Str.{chars};
-ghost use Rattle.event_schema.specs.Lists.{SomeOf, IsNone};
+ghost use Rattle.event_schema.specs.Lists.{SomeOf, HasNoElement};
 ghost use Rattle.event_schema.specs.Rows.{value_text, values_at};
 ghost use Rattle.sig_modifiers.specs.Holds.{Holds};
 ghost use Rattle.sig_strings.specs.Fits.{Fits};
@@ -46,7 +46,7 @@ fn fits_value(pattern: &Pattern, cased: bool, value: &Value) -> bool
 }
 
 fn is_none(values: &[Value]) -> bool
-    ensures { IsTrue result ↔ IsNone values.now }
+    ensures { IsTrue result ↔ HasNoElement values.now }
 {
     values.is_empty()
 }

@@ -1,18 +1,19 @@
-//! Tests of a field's value.
+//! Tests of a field's values.
 
 use sig_base::Sequence;
 use sig_strings::Pattern;
 
-/// What a rule asks of the value of a field.
+/// What a rule asks of the values of a field.
 #[derive(Drop, Debug)]
 pub enum Test {
     /// the field has no value
     Absent,
     /// the field has a value where `true`, and none where `false`
     Exists(bool),
-    /// its text fits the pattern, read exactly where `cased`, else without regard to the case of A to Z
+    /// some value's text, or a number's decimal, fits the pattern, read exactly where `cased`, else without regard to the case
+    /// of A to Z
     Fits { pattern: Pattern, cased: bool },
-    /// its text is the decimal of this number
+    /// some value's text is the decimal of this number, or the value is this number
     Equals(i64),
 }
 

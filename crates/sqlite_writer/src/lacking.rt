@@ -18,10 +18,10 @@ fn is_many(fields: &[Field], number: u32) -> bool
 }
 
 impl Lacking for Sqlite {
-    ghost lacks = { λ _ fields leaf. spec.sqlite_lacks fields leaf };
+    ghost lacking = { λ _ fields leaf. spec.sqlite_lacks fields leaf };
 
     /// A column has one value, so a test of a field that may have several can't be said.
-    fn lack(&self, schema: &Schema, leaf: &Leaf) -> Option<Lack>
+    fn lacks(&self, schema: &Schema, leaf: &Leaf) -> Option<Lack>
         ensures { result ≡ spec.sqlite_lacks schema.now.fields leaf.now }
     {
         if is_many(schema.fields.as_slice(), leaf.field) {

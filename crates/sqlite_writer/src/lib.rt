@@ -4,6 +4,8 @@
 
 mod deep;
 mod guarding;
+#[cfg(test)]
+mod lack_tests;
 mod lacking;
 mod law;
 mod patterns;

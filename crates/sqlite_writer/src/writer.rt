@@ -94,9 +94,64 @@ fn refused(code: Code, place: Place, count: usize, limit: usize) -> Fault
 }
 
 impl Sqlite {
-    /// The query of a sound tree, without a line feed. It is refused at `place` where it's deeper than
-    /// `sql_depth` (112), or else longer than `query_bytes` (114), before it is made.
+    /// The query of a sound tree, without a line feed. It is refused, before it is made, at the first leaf for which something
+    /// is lacking (111: a test of a field that may have several values), else at `place` where it's deeper than `sql_depth`
+    /// (112), or else longer than `query_bytes` (114).
     pub fn text(
+        &self,
+        alloc: Global,
+        limits: &Limits,
+        schema: &Schema,
+        tree: &Tree,
+        place: Place,
+    ) -> Result<Bytes, Fault>
+        ensures bytes { IsSound schema.now.fields (tree_view tree.now)
+            → IfOk result (λ bytes. bytes ≡ query_bytes schema.now (tree_view tree.now)) }
+        ensures lacks { OnOk result (lack_refusal (sqlite_lacks schema.now.fields) (tree_view tree.now) ≡ None) }
+        ensures law { IsSound schema.now.fields (tree_view tree.now) → IsTextSchema schema.now
+            → IfOk result (λ bytes. (limit : ℕ) → 1 ≤ limit
+            → depth (query_expr schema.now (tree_view tree.now)) ≤ limit
+            → IsQueryOf limit schema.now (tree_view tree.now) bytes) }
+        ensures deep { IsSound schema.now.fields (tree_view tree.now)
+            → IfOk result (λ bytes. depth (query_expr schema.now (tree_view tree.now)) ≤ limits.now.sql_depth) }
+        ensures lists { IsSound schema.now.fields (tree_view tree.now) → ListsAreShallow schema.now.fields false (tree_view tree.now) }
+        ensures long { IfOk result (λ bytes. length bytes ≤ limits.now.query_bytes) }
+        ensures refused { IsSound schema.now.fields (tree_view tree.now)
+            → IfErr result (λ e. IsRefused (lack_refusal (sqlite_lacks schema.now.fields) (tree_view tree.now))
+            (IsUnwritten limits.now.sql_depth limits.now.query_bytes place
+            (depth (query_expr schema.now (tree_view tree.now))) (length (query_bytes schema.now (tree_view tree.now)))) e) }
+    {
+        judge_lacks(alloc, self, schema, tree)?;
+        self.written(alloc, limits, schema, tree, place)
+    }
+
+    /// The same, as the backend's query.
+    pub fn write(
+        &self,
+        alloc: Global,
+        limits: &Limits,
+        schema: &Schema,
+        tree: &Tree,
+        place: Place,
+    ) -> Result<Bytes, Fault>
+        ensures bytes { IsSound schema.now.fields (tree_view tree.now)
+            → IfOk result (λ bytes. bytes ≡ query_bytes schema.now (tree_view tree.now)) }
+        ensures lacks { OnOk result (lack_refusal (sqlite_lacks schema.now.fields) (tree_view tree.now) ≡ None) }
+        ensures law { IsSound schema.now.fields (tree_view tree.now) → IsTextSchema schema.now
+            → IfOk result (λ bytes. IsQueryOf limits.now.sql_depth schema.now (tree_view tree.now) bytes) }
+        ensures deep { IsSound schema.now.fields (tree_view tree.now)
+            → IfOk result (λ bytes. depth (query_expr schema.now (tree_view tree.now)) ≤ limits.now.sql_depth) }
+        ensures long { IfOk result (λ bytes. length bytes ≤ limits.now.query_bytes) }
+        ensures refused { IsSound schema.now.fields (tree_view tree.now)
+            → IfErr result (λ e. IsRefused (lack_refusal (sqlite_lacks schema.now.fields) (tree_view tree.now))
+            (IsUnwritten limits.now.sql_depth limits.now.query_bytes place
+            (depth (query_expr schema.now (tree_view tree.now))) (length (query_bytes schema.now (tree_view tree.now)))) e) }
+    {
+        self.text(alloc, limits, schema, tree, place)
+    }
+
+    /// The query of a tree, refused for its depth or else its bytes alone.
+    fn written(
         &self,
         alloc: Global,
         limits: &Limits,
@@ -131,31 +186,5 @@ impl Sqlite {
         }
         let query = query_of(alloc, size, schema, &written)?;
         Ok(Bytes::from_vec(query.into_bytes()))
-    }
-
-    /// The same, as the backend's query. Before all else it's refused at the first leaf for which something is lacking (111): a
-    /// test of a field that may have several values.
-    pub fn write(
-        &self,
-        alloc: Global,
-        limits: &Limits,
-        schema: &Schema,
-        tree: &Tree,
-        place: Place,
-    ) -> Result<Bytes, Fault>
-        ensures bytes { IsSound schema.now.fields (tree_view tree.now)
-            → IfOk result (λ bytes. bytes ≡ query_bytes schema.now (tree_view tree.now)) }
-        ensures lacks { OnOk result (lack_refusal (sqlite_lacks schema.now.fields) (tree_view tree.now) ≡ None) }
-        ensures law { IsSound schema.now.fields (tree_view tree.now) → IsTextSchema schema.now
-            → IfOk result (λ bytes. IsQueryOf limits.now.sql_depth schema.now (tree_view tree.now) bytes) }
-        ensures deep { IsSound schema.now.fields (tree_view tree.now)
-            → IfOk result (λ bytes. depth (query_expr schema.now (tree_view tree.now)) ≤ limits.now.sql_depth) }
-        ensures long { IfOk result (λ bytes. length bytes ≤ limits.now.query_bytes) }
-        ensures refused { IsSound schema.now.fields (tree_view tree.now) → IfErr result (λ e. IsRefused (lack_refusal (sqlite_lacks schema.now.fields) (tree_view tree.now))
-            (IsUnwritten limits.now.sql_depth limits.now.query_bytes place
-            (depth (query_expr schema.now (tree_view tree.now))) (length (query_bytes schema.now (tree_view tree.now)))) e) }
-    {
-        judge_lacks(alloc, self, schema, tree)?;
-        self.text(alloc, limits, schema, tree, place)
     }
 }

@@ -3,7 +3,7 @@ use Rattle.std.specs.Prelude.{List}
 use Rattle.std.specs.List.{AllZip}
 use Rattle.yaml_tree.specs.View.{node_view, nodes_view}
 use Rattle.rule_items.specs.Detections.{IsAlternative, alternative_refusal}
-use Rattle.sig_modifiers.specs.Lists.{EachOf}
+use Rattle.event_schema.specs.Lists.{EachOf}
 use Rattle.rule_items.specs.Whole.{IsWholeAlternative}
 use Rattle.rule_items.specs.declared.item.Item.{Item}
 use Rattle.sig_base.proofs.Firsts.{one_more, rest_first}

@@ -3,7 +3,7 @@ use Rattle.std.specs.List.{AllZip}
 use Rattle.sig_base.specs.Judged.{first}
 use Rattle.yaml_tree.specs.View.{nodes_view}
 use Rattle.rule_items.specs.Detections.{IsAlternative, alternative_refusal}
-use Rattle.sig_modifiers.specs.Lists.{EachOf}
+use Rattle.event_schema.specs.Lists.{EachOf}
 use Rattle.rule_items.specs.Whole.{IsWholeAlternative}
 use Rattle.rule_items.proofs.detections.read_alternatives.Given as goal
 

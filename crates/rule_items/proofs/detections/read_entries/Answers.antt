@@ -3,7 +3,7 @@ use Rattle.std.specs.Prelude.{List, filter}
 use Rattle.std.specs.List.{AllZip}
 use Rattle.yaml_tree.specs.View.{entry_view, entries_view}
 use Rattle.rule_items.specs.Detections.{IsDetection, detection_refusal, is_no_condition}
-use Rattle.sig_modifiers.specs.Lists.{EachOf}
+use Rattle.event_schema.specs.Lists.{EachOf}
 use Rattle.rule_items.specs.Whole.{IsWholeDetection}
 use Rattle.rule_items.specs.declared.detection.Detection.{Detection}
 use Rattle.rule_items.proofs.Zips.{each_more, kept_first, kept_more}

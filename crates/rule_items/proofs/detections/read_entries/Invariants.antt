@@ -4,7 +4,7 @@ use Rattle.std.specs.List.{AllZip}
 use Rattle.sig_base.specs.Judged.{first}
 use Rattle.yaml_tree.specs.View.{entries_view}
 use Rattle.rule_items.specs.Detections.{IsDetection, detection_refusal, is_no_condition}
-use Rattle.sig_modifiers.specs.Lists.{EachOf}
+use Rattle.event_schema.specs.Lists.{EachOf}
 use Rattle.rule_items.specs.Whole.{IsWholeDetection}
 use Rattle.rule_items.proofs.detections.read_entries.Given as goal
 

@@ -5,7 +5,7 @@ use Rattle.sig_modifiers.specs.PlainTests.{ArePlainTests}
 use Rattle.sig_modifiers.specs.TestsOf.{TestsOf, value_refusal}
 use Rattle.sig_modifiers.specs.declared.test.Test.{Test}
 use Rattle.yaml_tree.specs.View.{node_view, nodes_view}
-use Rattle.sig_modifiers.specs.Lists.{EachOf}
+use Rattle.event_schema.specs.Lists.{EachOf}
 use Rattle.sig_base.proofs.Firsts.{one_more, rest_first}
 use Rattle.rule_items.proofs.Zips.{each_more}
 use Rattle.rule_items.proofs.items.read_values.Goals as goal

@@ -4,7 +4,7 @@ use Rattle.sig_base.specs.Judged.{first}
 use Rattle.sig_modifiers.specs.PlainTests.{ArePlainTests}
 use Rattle.sig_modifiers.specs.TestsOf.{TestsOf, value_refusal}
 use Rattle.yaml_tree.specs.View.{nodes_view}
-use Rattle.sig_modifiers.specs.Lists.{EachOf}
+use Rattle.event_schema.specs.Lists.{EachOf}
 use Rattle.rule_items.proofs.items.read_values.Given as goal
 
 abbrev pub invariant-loop-value : goal.invariant-loop-value

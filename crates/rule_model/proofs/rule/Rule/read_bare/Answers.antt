@@ -1,7 +1,7 @@
 use Rattle.std.proofs.Common.{ℕ, subst}
 use Rattle.sig_conditions.specs.Formulas.{forms_view}
 use Rattle.yaml_tree.specs.View.{node_view}
-use Rattle.sig_modifiers.specs.Lists.{EachOf}
+use Rattle.event_schema.specs.Lists.{EachOf}
 use Rattle.rule_model.specs.Whole.{IsWholeForm}
 use Rattle.rule_model.proofs.RuleLemmas.{as_many}
 use Rattle.rule_model.proofs.rule.Rule.read_bare.Goals as goal

@@ -2,7 +2,7 @@ use Rattle.std.proofs.Common.{List, ℕ, ◌≡◌, ◌∙◌, sym, ap, subst}
 use Rattle.std.specs.Prelude.{encode_utf8_all}
 use Rattle.backend_core.specs.View.{tree_view}
 use Rattle.sqlite_writer.specs.Queries.{query_text, query_bytes, IsQueryOf}
-use Rattle.sqlite_writer.proofs.writer.Sqlite.text.Goals as goal
+use Rattle.sqlite_writer.proofs.writer.Sqlite.written.Goals as goal
 
 pub returns-clause-law : goal.returns-clause-law
 returns-clause-law c = λ sound texts none limit some deep.

@@ -1,2 +1,0 @@
--- What holds of some element of a list.
-pub use Rattle.event_schema.specs.Lists.{SomeOf}
