@@ -2,11 +2,15 @@
 use Rattle.std.proofs.Common.{◌≡◌, ◌∙◌, ◌⊎◌, inl, inr, ℕ, ◌==◌, Bool, true, false, not, ◌&&◌, ◌||◌, List, [], ◌∷◌, ◌++◌, map, Option, Some, None, cond, refl, sym, ap, subst}
 use Rattle.std.specs.Prelude.{is_some, ◌↔◌}
 use Rattle.std.specs.List.{list_all, list_any, before_first, after_first}
+use Rattle.std.specs.Str.{bytes_eq}
+use Rattle.std.proofs.lemmas.Slice.Eq.{bytes_eq-Decides}
 use Rattle.clap.proofs.CutLemmas.{Lacks, list_any-Lacks, list_any-at, before_first-at, after_first-at}
 use Rattle.command_words.specs.Given.{Word, Item, named, file, is_value, is_nonempty, dashed, joined, is_among, less, Reads, nothing, apart, together, placed, ended, value_of, names_of}
 use Rattle.command_words.specs.Clean.{behind_dashes}
 use Rattle.command_words.specs.Computed.{before, with_value, word_items, items_of, items_apart, is_all, if_all, given}
-use Rattle.command_words.specs.Table.{Row, takes_names, are_enough, IsGiven}
+use Rattle.command_words.specs.Table.{Row, row_of, backend, takes_names, are_enough, IsGiven}
+use Rattle.command_words.specs.declared.command_name.CommandName.{CommandName}
+use Rattle.command_words.specs.declared.command_name.CommandName.TheVariants as commands
 use Rattle.command_words.proofs.Fresh.{and_left, and_right, still_among}
 use Rattle.command_words.proofs.Views.{Cut, uncut, cut, cut_of, dashes_are}
 
@@ -167,3 +171,21 @@ computed row words items names = (to, from) where
 
   from : given row words ≡ Some items → IsGiven row words items
   from e = all (items_of (row.required ++ row.optional) (takes_names row.files) words) refl e
+
+-- ---- the options of each command
+
+lacks_of : (text : Word) → list_any (λ b. b == 61) text ≡ false → Lacks 61 text
+lacks_of text none = by (cut_of text) where
+  by : Cut text → Lacks 61 text
+  by (uncut lacks) = lacks
+  by (cut x v same lacks) =
+      let has : list_any (λ b. b == 61) text ≡ true = ap (list_any (λ b. b == 61)) same ∙ list_any-at 61 x v in
+      let bad : true ≡ false = sym has ∙ none in
+      absurd cc
+
+pub plain_names : (command : CommandName) → AreNames ((row_of command).required ++ (row_of command).optional)
+plain_names commands.Check x e = absurd cc
+plain_names commands.Convert x e = by (bytes_eq backend x) refl e where
+  by : (b : Bool) → bytes_eq backend x ≡ b → (b || false) ≡ true → IsOptionName x
+  by true same e = subst IsOptionName ((bytes_eq-Decides backend x).0 same) (refl, lacks_of backend refl)
+  by false same e = absurd cc

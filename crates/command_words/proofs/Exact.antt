@@ -16,7 +16,8 @@ use Rattle.command_words.specs.declared.command_name.Count.{Count}
 use Rattle.command_words.specs.declared.command_name.Count.TheVariants.{NoName, OneName, SomeNames}
 use Rattle.command_words.specs.declared.command_name.CommandName.{CommandName}
 use Rattle.command_words.specs.Given.{Word, Item, named, file, dashed, joined, is_among, is_value, is_nonempty, less, Reads, nothing, apart, together, placed, ended, names_of}
-use Rattle.command_words.specs.Table.{Row, row_of, takes_names, are_enough, IsGiven, IsRead}
+use Rattle.command_words.specs.Table.{Row, row_of, takes_names, are_enough, IsGiven}
+use Rattle.command_words.specs.Matched.{IsRead}
 use Rattle.command_words.specs.Apps.{app_with, file_id}
 use Rattle.command_words.specs.Matched.{HasItems}
 use Rattle.command_words.specs.Clean.{behind_dashes, is_clean_option, is_option_or_value, is_last_dashes, clean_by, clean_from, are_clean}

@@ -8,18 +8,19 @@ use Rattle.clap.specs.Takes.{takes}
 use Rattle.clap.specs.declared.parser.matches.ArgMatches.{ArgMatches}
 use Rattle.clap.proofs.WalkLemmas.{first_value-rows, raw_values-rows}
 use Rattle.command_words.specs.declared.command_name.CommandName.{CommandName}
-use Rattle.command_words.specs.declared.command_name.CommandName.TheVariants as names
+use Rattle.command_words.specs.declared.command_name.CommandName.TheVariants as commands
 use Rattle.command_words.specs.Given.{Word, Item, Reads, value_of, names_of}
 use Rattle.command_words.specs.Apps.{app_with, file_id}
 use Rattle.command_words.specs.Matched.{HasItems}
-use Rattle.command_words.specs.Table.{Row, row_of, takes_names, IsGiven, IsRead}
+use Rattle.command_words.specs.Table.{Row, row_of, takes_names, IsGiven}
+use Rattle.command_words.specs.Matched.{IsRead}
 use Rattle.command_words.proofs.Apps.{IsServed, check_served, convert_served}
 use Rattle.command_words.proofs.Fresh.{new_row}
 use Rattle.command_words.proofs.Taken.{read_by_clap, taken_by_clap}
 
 pub served : (w : CommandName) → IsServed (row_of w)
-served names.Check = check_served
-served names.Convert = convert_served
+served commands.Check = check_served
+served commands.Convert = convert_served
 
 pub takes_of : (w : CommandName) (a : App) (words : List Word) (items : List Item) → a ≡ app_with (row_of w) → IsGiven (row_of w) words items → takes a words ≡ true
 takes_of w a words items is given = subst (λ (b : App). takes b words ≡ true) (sym is) (taken_by_clap (row_of w) words items (served w) given)

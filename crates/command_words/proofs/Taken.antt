@@ -19,7 +19,8 @@ use Rattle.command_words.proofs.Backward.{Only, back}
 use Rattle.command_words.specs.Given.{Word, Item, named, file, Reads, value_of, names_of}
 use Rattle.command_words.specs.declared.command_name.Count.{Count}
 use Rattle.command_words.specs.declared.command_name.Count.TheVariants.{NoName, OneName, SomeNames}
-use Rattle.command_words.specs.Table.{Row, takes_names, are_enough, IsGiven, IsRead}
+use Rattle.command_words.specs.Table.{Row, takes_names, are_enough, IsGiven}
+use Rattle.command_words.specs.Matched.{IsRead}
 use Rattle.command_words.specs.Apps.{app_with}
 use Rattle.command_words.proofs.Shapes.{file_id, option_rule, file_rule, shape_with, Serves, rows_from, at, is_idle}
 use Rattle.command_words.proofs.Turns.{Goes}

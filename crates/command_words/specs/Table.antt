@@ -1,10 +1,10 @@
 -- The commands, and what each takes: the names of the options that it asks for and of those that it may have, and how many files.
-use Rattle.std.specs.Prelude.{◌≡◌, ◌<◌, ◌^◌, ℕ, Bool, true, false, List, [], ◌∷◌, ◌++◌, codes, length, is_some}
+use Rattle.std.specs.Prelude.{◌≡◌, Bool, true, false, List, [], ◌∷◌, ◌++◌, codes, is_some}
 use Rattle.std.specs.List.{list_all}
 use Rattle.command_words.specs.declared.command_name.Count.{Count}
 use Rattle.command_words.specs.declared.command_name.Count.TheVariants.{NoName, OneName, SomeNames}
 use Rattle.command_words.specs.declared.command_name.CommandName.{CommandName}
-use Rattle.command_words.specs.declared.command_name.CommandName.TheVariants as names
+use Rattle.command_words.specs.declared.command_name.CommandName.TheVariants as commands
 use Rattle.command_words.specs.Given.{Word, Item, Reads, value_of, names_of}
 
 pub record Row : Type 0 where
@@ -25,8 +25,8 @@ abbrev pub convert : Row
 convert = record { name = codes "convert"; required = backend ∷ []; optional = []; files = SomeNames }
 
 abbrev pub row_of : CommandName → Row
-row_of names.Check = check
-row_of names.Convert = convert
+row_of commands.Check = check
+row_of commands.Convert = convert
 
 abbrev pub takes_names : Count → Bool
 takes_names NoName = false
@@ -38,11 +38,6 @@ are_enough OneName (w ∷ []) = true
 are_enough OneName names = false
 are_enough SomeNames [] = false
 are_enough SomeNames (w ∷ names) = true
-
--- so do they, whatever stands for the names
-pub record IsRead (row : Row) (words : List Word) (items : List Item) : Type 0 where
-  pub reads : Reads (row.required ++ row.optional) (takes_names row.files) words items
-  pub required : list_all (λ x. is_some (value_of x items)) row.required ≡ true
 
 -- the words behind the command's name give these items, with all that the command asks for
 pub record IsGiven (row : Row) (words : List Word) (items : List Item) : Type 0 where

@@ -1,11 +1,15 @@
-//! The words of the command line.
+//! The words of the command line: which are taken, what they give, and their reading by clap.
+//!
+//! `specs/Given` says when words give items, and `specs/Computed` reads the same items word by word. clap reads and decides.
 #![tactic(auto)]
 
+pub use command_name::{CommandName, Count};
+pub use law::items_are_read;
 pub use reading::read;
-pub use command_name::{Count, CommandName};
 
+mod command_name;
+mod law;
 mod parts;
 mod reading;
 #[cfg(test)]
 mod tests;
-mod command_name;

@@ -7,7 +7,8 @@ ghost use Rattle.command_words.specs.Given.{Item};
 ghost use Rattle.command_words.specs.Clean.{are_clean};
 ghost use Rattle.command_words.specs.Matched.{HasItems};
 ghost use Rattle.command_words.specs.Apps as apps;
-ghost use Rattle.command_words.specs.Table.{row_of, IsGiven, IsRead};
+ghost use Rattle.command_words.specs.Table.{row_of, IsGiven};
+ghost use Rattle.command_words.specs.Matched.{IsRead};
 
 use crate::command_name::CommandName;
 use clap::{Arg, ArgAction, ArgMatches, Command, Error};

@@ -1,27 +1,73 @@
-//! Words that are taken, and words that aren't.
+//! Words that are taken, with what they give, and words that aren't.
 
 use crate::{CommandName, read};
+use std::alloc::Global;
+use std::test::Fail;
 
-fn told(rt: &HostRuntime, which: CommandName, words: &[&str]) -> bool {
-    match read(rt.alloc(), which, words) {
-        Ok(Some(matches)) => true,
-        _ => false,
+/// What the words behind a command's name give: the backend, and the files with a `;` behind each.
+fn told(alloc: Global, command: CommandName, words: &[&str]) -> Result<String, Fail> {
+    let mut all = String::new(alloc);
+    let Ok(Some(matches)) = read(alloc, command, words) else {
+        all.push_str("not taken")?;
+        return Ok(all);
+    };
+    if let Some(backend) = matches.get_str("backend") {
+        all.push_str(backend)?;
+        all.push_str(": ")?;
     }
+    if let Some(files) = matches.get_raw("FILE") {
+        for file in files {
+            all.push_str(file)?;
+            all.push(';')?;
+        }
+    }
+    Ok(all)
 }
 
 #[test]
-fn taken(rt: HostRuntime) {
-    assert!(rt; told(&rt, CommandName::Convert, ["--backend", "sqlite", "r.yml"].as_slice()));
-    assert!(rt; told(&rt, CommandName::Convert, ["r.yml", "--backend=sqlite"].as_slice()));
-    assert!(rt; told(&rt, CommandName::Convert, ["--backend", "sqlite", "--", "-r.yml"].as_slice()));
-    assert!(rt; told(&rt, CommandName::Generate, ["--seed=7", "--events", "3"].as_slice()));
+fn words_of_convert(rt: HostRuntime) -> Result<(), Fail> {
+    let alloc = rt.alloc();
+    for (words, want) in [
+        (["--backend", "sqlite", "r.yml"].as_slice(), "sqlite: r.yml;"),
+        (["r.yml", "--backend=sqlite"].as_slice(), "sqlite: r.yml;"),
+        (["a", "--backend", "sqlite", "b", "a"].as_slice(), "sqlite: a;b;a;"),
+        (["--backend=a=b", "r"].as_slice(), "a=b: r;"),
+        (["--backend", "sqlite", "--", "-r.yml", "--backend", "--"].as_slice(), "sqlite: -r.yml;--backend;--;"),
+        (["a", "--backend=sqlite", "--"].as_slice(), "sqlite: a;"),
+        (["--backend", "sqlite"].as_slice(), "not taken"),
+        (["r.yml"].as_slice(), "not taken"),
+        (["--backend", "sqlite", "--backend", "sqlite", "r"].as_slice(), "not taken"),
+        (["--backend=sqlite", "r", "--backend=sqlite"].as_slice(), "not taken"),
+        (["--backend", "sqlite", "-"].as_slice(), "not taken"),
+        (["--backend", "sqlite", ""].as_slice(), "not taken"),
+        (["--backend", "", "r"].as_slice(), "not taken"),
+        (["--backend=", "r"].as_slice(), "not taken"),
+        (["--backend", "-x", "r"].as_slice(), "not taken"),
+        (["--backend"].as_slice(), "not taken"),
+        (["--Backend", "sqlite", "r"].as_slice(), "not taken"),
+        (["--back", "sqlite", "r"].as_slice(), "not taken"),
+        (["-b", "sqlite", "r"].as_slice(), "not taken"),
+        (["--help"].as_slice(), "not taken"),
+        (["--backend", "sqlite", "--", ""].as_slice(), "not taken"),
+    ] {
+        assert_eq!(rt; told(alloc, CommandName::Convert, words)?.as_str(), want);
+    }
+    Ok(())
 }
 
 #[test]
-fn untaken(rt: HostRuntime) {
-    assert!(rt; !told(&rt, CommandName::Convert, ["--backend", "sqlite"].as_slice()));
-    assert!(rt; !told(&rt, CommandName::Convert, ["--backend", "sqlite", "--backend", "sqlite", "r.yml"].as_slice()));
-    assert!(rt; !told(&rt, CommandName::Convert, ["--backend", "sqlite", "-"].as_slice()));
-    assert!(rt; !told(&rt, CommandName::Run, ["a.yml", "b.yml"].as_slice()));
-    assert!(rt; !told(&rt, CommandName::Run, ["--schema=-s", "a.yml"].as_slice()));
+fn words_of_check(rt: HostRuntime) -> Result<(), Fail> {
+    let alloc = rt.alloc();
+    for (words, want) in [
+        (["a", "b"].as_slice(), "a;b;"),
+        (["a", "--", "-b"].as_slice(), "a;-b;"),
+        (["a", "--"].as_slice(), "a;"),
+        ([].as_slice(), "not taken"),
+        (["--"].as_slice(), "not taken"),
+        (["--backend", "sqlite", "a"].as_slice(), "not taken"),
+        (["-h"].as_slice(), "not taken"),
+    ] {
+        assert_eq!(rt; told(alloc, CommandName::Check, words)?.as_str(), want);
+    }
+    Ok(())
 }
