@@ -1,5 +1,5 @@
 -- What is written is read.
-use Rattle.std.proofs.Common.{ℕ, ◌≡◌, refl, sym, true, List, []}
+use Rattle.std.proofs.Common.{◌≡◌, refl, sym, true, List, []}
 use Rattle.std.specs.Prelude.{encode_utf8_all}
 use Rattle.text_places.specs.Places.{At}
 use Rattle.sql_lang.specs.Tokens.{tokens}

@@ -16,6 +16,7 @@ module _ (fields : List Field)
   where
     mutual
       unfolding ors_in_halves
+
       pub lists_are_shallow : (odd : Bool) (t : Plain) → IsSound fields t → ListsAreShallow fields odd t
       lists_are_shallow odd (all no_parts) s = absurd s.0
       lists_are_shallow odd (all (a_part t no_parts)) s = absurd s.0

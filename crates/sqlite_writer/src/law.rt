@@ -18,10 +18,10 @@ ghost use Rattle.sqlite_writer.specs.Shallow.{ListsAreShallow};
 ghost use Rattle.sqlite_writer.specs.Schemas.{IsTextSchema, AreScalars, AreApart};
 
 use sig_strings::plain_fits;
-use sql_lang::{one_reading, one_spelling};
 use sql_halves::{
     halved_layout_is_fine, halved_layout_is_read, halved_layout_means_tree, halves_are_shallow,
 };
+use sql_lang::{one_reading, one_spelling};
 use sql_layout::{leaves_are_sound, spelling_is_scanned};
 use sql_patterns::{glob_means, like_means};
 

@@ -167,7 +167,14 @@ fn depth_of(alloc: Global, tree: &Tree) -> Result<i128, Fail> {
     let mut limits = Limits::standard();
     limits.sql_depth = 1;
     match Sqlite.write(alloc, &limits, &schema, tree, PLACE) {
-        Err(Fault::Refused(Refusal { detail: Detail::Numbers(depth, _), .. })) => Ok(depth),
+        Err(
+            Fault::Refused(
+                Refusal {
+                    detail: Detail::Numbers(depth, _),
+                    ..
+                },
+            ),
+        ) => Ok(depth),
         _ => Err(Fail::new("not refused")),
     }
 }
@@ -186,11 +193,18 @@ fn add_row(row: &mut Vec<u8>, text: &str, word: &str, count: usize) -> Result<()
 /// Whether these bytes are the condition of the tree's query.
 fn is_condition(alloc: Global, tree: &Tree, condition: &[u8]) -> Result<bool, Fail> {
     let bytes = query(alloc, tree)?;
-    Ok(bytes.as_slice().strip_prefix(b"SELECT * FROM \"events\" WHERE ".as_slice()) == Some(condition))
+    Ok(
+        bytes
+            .as_slice()
+            .strip_prefix(b"SELECT * FROM \"events\" WHERE ".as_slice())
+            == Some(condition),
+    )
 }
 
 const TEST: &str = "\"Image\" = 'a' COLLATE NOCASE";
+
 const GUARD: &str = "\"Image\" IS NOT NULL";
+
 const GUARDED: &str = "\"Image\" IS NOT NULL AND \"Image\" = 'a' COLLATE NOCASE";
 
 #[test]
