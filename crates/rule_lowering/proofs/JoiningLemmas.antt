@@ -1,6 +1,5 @@
 -- When joined trees hold.
 use Rattle.std.proofs.Common.{◌≡◌, ◌↔◌, ◌⊎◌, Bool, true, false, List, [], ◌∷◌, ◌++◌, map, filter, inl, inr, refl}
-use Rattle.std.specs.Prelude.{Option}
 use Rattle.std.specs.List.{flat_map}
 use Rattle.backend_core.specs.Holds.{TreeHolds, EachHolds, OneHolds}
 use Rattle.backend_core.specs.Trees.{Plain, all, any, negated, leaf, Plains, no_parts, a_part}
@@ -104,7 +103,7 @@ some_filtered p g P Q same (x ∷ xs) = some_step p g P Q same x xs (some_filter
 
 -- ---- trees
 
-module _ (row : List (Option Value)) where
+module _ (row : List (List Value)) where
   abbrev PartsHold : Joined → Plains → Type 0
   PartsHold All ts = EachHolds row ts
   PartsHold Any ts = OneHolds row ts

@@ -1,5 +1,5 @@
 -- Chains of tests of plain texts, each 3 deep, with the depths of their halves, reckoned by hand.
-use Rattle.std.proofs.Common.{ℕ, zero, suc, ◌≡◌, List, [], ◌∷◌, codes, map, refl}
+use Rattle.std.proofs.Common.{ℕ, zero, suc, ◌≡◌, [], ◌∷◌, codes, map, refl}
 use Rattle.sql_lang.specs.Tokens.{Eq}
 use Rattle.sql_lang.specs.Grammar.{Unsaid, NoCase, a_text, a_literal, compares, Ors, last_and, and_or, Ands, last_not, not_and, Nots, a_test}
 use Rattle.sql_lang.specs.Expression.{or_expr, and_expr, depth}

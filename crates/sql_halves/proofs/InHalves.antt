@@ -1,11 +1,11 @@
 -- A chain in halves has the chain's value, and is no deeper than 63 and one for each halving above its deepest part.
-use Rattle.std.proofs.Common.{ℕ, zero, suc, ◌+◌, ◌-◌, ◌*◌, ◌/◌, ◌^◌, ◌≡◌, ◌≤◌, ◌<◌, refl, sym, ◌∙◌, ap, Bool, true, false, List, arith, max, subst}
-use Rattle.std.specs.Prelude.{Option, nat_le, if◌then◌else◌}
+use Rattle.std.proofs.Common.{ℕ, zero, suc, ◌+◌, ◌*◌, ◌^◌, ◌≡◌, ◌≤◌, ◌<◌, refl, sym, ◌∙◌, ap, Bool, true, false, List, arith, max, subst}
+use Rattle.std.specs.Prelude.{Option, nat_le}
 use Rattle.std.proofs.lemmas.Bool.Decides.{nat_tests}
 use Rattle.event_schema.specs.declared.schema.Field.{Field}
 use Rattle.event_schema.specs.declared.value.Value.{Value}
 use Rattle.sql_lang.specs.Grammar.{Ors, last_and, and_or, Ands, last_not, not_and, Nots, enclosed}
-use Rattle.sql_lang.specs.Expression.{Exprs, or_expr, or_exprs, and_expr, and_exprs, not_expr, depth, chain_depth}
+use Rattle.sql_lang.specs.Expression.{or_expr, or_exprs, and_expr, and_exprs, not_expr, depth, chain_depth}
 use Rattle.sql_lang.specs.Meaning.{Truth, both, either}
 use Rattle.sql_halves.specs.Halves.{or_join, and_join, or_count, and_count, first_ors, later_ors, first_ands, later_ands, middle, ors_in_halves, ands_in_halves, halved_ors, halved_ands, ShallowOrs, ShallowAnds}
 use Rattle.sql_halves.proofs.Joined.{value_or, value_and, joined_or, joined_and}

@@ -10,13 +10,13 @@ use Rattle.sql_lang.specs.Grammar.{Leaf, Ors, last_and, and_or, Ands, last_not, 
 use Rattle.event_schema.specs.declared.schema.Field.{Field}
 use Rattle.event_schema.specs.declared.schema.Schema.{Schema}
 use Rattle.event_schema.specs.declared.value.Value.{Value}
-use Rattle.sql_lang.specs.Expression.{or_expr, or_exprs, and_expr, and_exprs, not_expr}
+use Rattle.sql_lang.specs.Expression.{or_expr}
 use Rattle.sql_lang.specs.Faults.{or_faults, and_faults, not_faults, query_faults}
 use Rattle.sql_lang.specs.Reading.{Reads}
-use Rattle.sql_lang.specs.Meaning.{Truth, Yes, No, Unknown, both, either, negation, sql_value, any_value, all_value}
+use Rattle.sql_lang.specs.Meaning.{Truth, both, either, negation, sql_value}
 use Rattle.sql_layout.specs.Layout.{has_text, is_writable}
-use Rattle.sql_layout.specs.Trees.{Tree, leaf, all, any, negated, Trees, no_trees, a_tree, Form, is_long_or, is_long, tree_value, all_trees, any_tree, IsSound, EachLeaf, EachOfTrees}
-use Rattle.sql_halves.specs.HalvedTrees.{form_of_or, form_of_and, form, ors_behind, ands_behind, layout, layout_query, layout_text, fine_or, fine_ors, fine_behind, fine_and, fine_ands, fine_alone, fine_part, fine_after}
+use Rattle.sql_layout.specs.Trees.{Tree, leaf, all, any, negated, Trees, no_trees, a_tree, tree_value, all_trees, any_tree, IsSound, EachLeaf, EachOfTrees}
+use Rattle.sql_halves.specs.HalvedTrees.{Form, is_long_or, is_long, form_of_or, form_of_and, form, ors_behind, ands_behind, layout, layout_query, layout_text, fine_or, fine_ors, fine_behind, fine_and, fine_ands, fine_alone, fine_part, fine_after}
 use Rattle.sql_halves.specs.Halves.{or_join, and_join, or_count, and_count, first_ors, later_ors, first_ands, later_ands, middle, ors_in_halves, ands_in_halves, halved_ors, halved_ands}
 use Rattle.sql_halves.proofs.Joined.{either_no, both_yes, value_or, value_and, value_not, joined_or, joined_and}
 use Rattle.sql_halves.proofs.InHalves.{count_some, and_count_some, later_count, later_and_count, halves_value_or, halves_value_and}

@@ -1,9 +1,8 @@
 -- What a long list in halves is: a row, or two halves.
-use Rattle.std.proofs.Common.{ℕ, zero, suc, ◌+◌, ◌-◌, ◌/◌, ◌≡◌, ◌≤◌, ◌<◌, refl, sym, ◌∙◌, ap, Bool, true, false, List, [], ◌∷◌, length, map, arith}
-use Rattle.std.specs.Prelude.{nat_le, if◌then◌else◌, take, drop, min}
+use Rattle.std.proofs.Common.{ℕ, zero, suc, ◌-◌, ◌≡◌, ◌≤◌, ◌<◌, refl, sym, ◌∙◌, ap, Bool, true, false, List, length, map, arith}
+use Rattle.std.specs.Prelude.{nat_le, take, drop}
 use Rattle.std.proofs.lemmas.Bool.Decides.{nat_tests}
 use Rattle.std.proofs.lemmas.List.{length-take, length-drop, take-map, drop-map, length-map}
-use Rattle.sql_halves.specs.Halves.{middle}
 use Rattle.sql_halves.specs.Lists.{half, in_halves, halved}
 
 -- each half of a list of more than 64 is shorter

@@ -2,8 +2,14 @@
 use Rattle.std.specs.Prelude.{ℕ, Bool, true, false, ◌&&◌, List}
 use Rattle.sql_lang.specs.Grammar.{Ors, last_and, and_or, Ands, last_not, not_and, Nots, not_not, a_test, enclosed, Query}
 use Rattle.sql_layout.specs.Layout.{text_query}
-use Rattle.sql_layout.specs.Trees.{Tree, leaf, all, any, negated, Trees, no_trees, a_tree, Form, is_long_or, is_long}
+use Rattle.sql_layout.specs.Trees.{Tree, leaf, all, any, negated, Trees, no_trees, a_tree}
 use Rattle.sql_halves.specs.Halves.{or_join, and_join, halved_ors, halved_ands}
+
+-- how a tree is written as the whole or as a part of an or, as a part of an and, and after NOT
+pub record Form : Type 0 where
+  pub in_or : Ors
+  pub in_and : Ands
+  pub in_not : Nots
 
 abbrev pub form_of_not : Nots → Form
 form_of_not n = record { in_or = last_and (last_not n); in_and = last_not n; in_not = n }
@@ -45,6 +51,15 @@ abbrev pub layout_text : List ℕ → Tree → List ℕ
 layout_text table t = text_query (layout_query table t)
 
 -- ---- no needless parentheses
+
+abbrev pub is_long_or : Ors → Bool
+is_long_or (and_or a o) = true
+is_long_or (last_and a) = false
+
+abbrev pub is_long : Ors → Bool
+is_long (and_or a o) = true
+is_long (last_and (not_and n a)) = true
+is_long (last_and (last_not n)) = false
 
 -- Each pair of parentheses holds an or of at least two parts and is a part of an and of at least two; or it holds an or
 -- or an and of at least two parts and stands directly after NOT; or it is a half: it holds a chain of at least two parts, and

@@ -1,14 +1,11 @@
 -- What is written is read.
-use Rattle.std.proofs.Common.{ℕ, ◌≡◌, refl, sym, true, List, []}
+use Rattle.std.proofs.Common.{◌≡◌, refl, sym, true, List, []}
 use Rattle.std.specs.Prelude.{encode_utf8_all}
-use Rattle.std.proofs.lemmas.Slice.Eq.{bytes_eq-Decides}
 use Rattle.text_places.specs.Places.{At}
 use Rattle.sql_lang.specs.Tokens.{tokens}
 use Rattle.text_places.specs.Tokens.{places}
-use Rattle.sig_base.specs.Folding.{folded}
 use Rattle.sql_lang.specs.Grammar.{Query}
 use Rattle.event_schema.specs.declared.schema.Schema.{Schema}
-use Rattle.sql_lang.specs.Names.{is_named}
 use Rattle.sql_lang.specs.Expression.{or_expr}
 use Rattle.sql_lang.specs.Faults.{query_faults}
 use Rattle.sql_lang.specs.Reading.{Reads}
@@ -29,8 +26,3 @@ written_reads schema q writable faultless = record {
     means = refl;
   };
 }
-
--- ---- names
-
-pub named_itself : (n : List ℕ) → is_named n n ≡ true
-named_itself n = (bytes_eq-Decides (folded n) (folded n)).1 refl

@@ -1,5 +1,4 @@
-//! How queries are written: the texts of tokens, tests and patterns, and the layout of trees of tests
-//! with the least parentheses.
+//! How queries are written: the texts of tokens, tests and patterns, and trees of tests.
 //!
 //! `specs/` has the definitions; the functions are their laws: what is written is read again.
 #![tactic(auto)]
@@ -8,8 +7,6 @@ mod laws;
 mod leaves;
 mod patterns;
 
-pub use laws::{
-    layout_is_fine, layout_is_read, layout_means_tree, spelling_is_scanned, written_is_read,
-};
+pub use laws::{spelling_is_scanned, written_is_read};
 pub use leaves::{leaves_are_read, leaves_are_sound};
 pub use patterns::{glob_text_is_read, like_text_is_read};

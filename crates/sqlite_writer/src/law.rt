@@ -1,6 +1,6 @@
 //! Laws of written trees, each the contract of a function that does nothing.
 
-ghost use Rattle.std.specs.Prelude.{◌≡◌, ◌≤◌, ◌↔◌, ℕ, Bool, true, false, List, map, codes, None};
+ghost use Rattle.std.specs.Prelude.{◌≡◌, ◌≤◌, ◌↔◌, ℕ, true, false, List, map, codes, None};
 ghost use Rattle.event_schema.specs.declared.schema.Field.{Field};
 ghost use Rattle.event_schema.specs.declared.schema.Schema.{Schema};
 ghost use Rattle.event_schema.specs.declared.value.Value.{Value};
@@ -14,7 +14,7 @@ ghost use Rattle.backend_core.specs.Lacks.{lack_refusal};
 ghost use Rattle.backend_core.specs.Sound.{IsSound};
 ghost use Rattle.sql_lang.specs.Expression.{depth};
 ghost use Rattle.sql_lang.specs.Meaning.{Yes, No};
-ghost use Rattle.sql_layout.specs.Trees.{tree_value};
+ghost use Rattle.sql_layout.specs.Trees.{Tree, tree_value};
 ghost use Rattle.sqlite_writer.specs.Guarded.{sql_tree};
 ghost use Rattle.sqlite_writer.specs.Queries.{query_text, query_bytes, query_expr, IsQueryOf};
 ghost use Rattle.sqlite_writer.specs.Lacking.{sqlite_lacks};
@@ -22,10 +22,10 @@ ghost use Rattle.sqlite_writer.specs.Shallow.{ListsAreShallow};
 ghost use Rattle.sqlite_writer.specs.Schemas.{IsTextSchema, AreScalars};
 
 use sig_strings::plain_fits;
-use sql_lang::{one_reading, one_spelling};
 use sql_halves::{
     halved_layout_is_fine, halved_layout_is_read, halved_layout_means_tree, halves_are_shallow,
 };
+use sql_lang::{one_reading, one_spelling};
 use sql_layout::{leaves_are_sound, spelling_is_scanned};
 use sql_patterns::{glob_means, like_means};
 
@@ -59,9 +59,9 @@ pub fn tree_is_query()
     one_spelling();
 }
 
-/// Each list of a sound tree is at most 63 above its deepest part, and one for each halving.
+/// Each list of a tree is at most 63 deeper than its deepest part, and one more for each halving.
 pub fn lists_are_shallow()
-    ensures { (fields : List Field) (odd : Bool) (t : Plain) → IsSound fields t → ListsAreShallow fields odd t }
+    ensures { (fields : List Field) (t : Tree) → ListsAreShallow fields t }
 {
     halves_are_shallow();
 }

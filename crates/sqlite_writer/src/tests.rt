@@ -153,6 +153,112 @@ fn parentheses_and_guards_in_lists(rt: HostRuntime) -> Result<(), Fail> {
     Ok(())
 }
 
+/// So many equal tests.
+fn copies(alloc: Global, count: usize) -> Result<Vec<Tree>, Fail> {
+    let mut parts = Vec::new(alloc);
+    for _ in 0..count {
+        parts.push(fits(alloc, 0, "a", false)?)?;
+    }
+    Ok(parts)
+}
+
+/// The depth of the query of a tree that is deeper than 1.
+fn depth_of(alloc: Global, tree: &Tree) -> Result<i128, Fail> {
+    let schema = schema(alloc)?;
+    let mut limits = Limits::standard();
+    limits.sql_depth = 1;
+    match Sqlite.write(alloc, &limits, &schema, tree, PLACE) {
+        Err(
+            Fault::Refused(
+                Refusal {
+                    detail: Detail::Numbers(depth, _),
+                    ..
+                },
+            ),
+        ) => Ok(depth),
+        _ => Err(Fail::new("not refused")),
+    }
+}
+
+/// A text so many times, with a word between.
+fn add_row(row: &mut Vec<u8>, text: &str, word: &str, count: usize) -> Result<(), Fail> {
+    for i in 0..count {
+        if i > 0 {
+            row.extend_from_slice(word.as_bytes())?;
+        }
+        row.extend_from_slice(text.as_bytes())?;
+    }
+    Ok(())
+}
+
+/// Whether these bytes are the condition of the tree's query.
+fn is_condition(alloc: Global, tree: &Tree, condition: &[u8]) -> Result<bool, Fail> {
+    let bytes = query(alloc, tree)?;
+    Ok(
+        bytes
+            .as_slice()
+            .strip_prefix(b"SELECT * FROM \"events\" WHERE ".as_slice())
+            == Some(condition),
+    )
+}
+
+const TEST: &str = "\"Image\" = 'a' COLLATE NOCASE";
+
+const GUARD: &str = "\"Image\" IS NOT NULL";
+
+const GUARDED: &str = "\"Image\" IS NOT NULL AND \"Image\" = 'a' COLLATE NOCASE";
+
+#[test]
+fn depths_of_long_lists(rt: HostRuntime) -> Result<(), Fail> {
+    let alloc = rt.alloc();
+    for (count, want) in [(64, 66), (65, 36), (2000, 70), (4096, 72)] {
+        let depth = depth_of(alloc, &Tree::Any(copies(alloc, count)?))?;
+        assert_eq!(rt; depth, want);
+        let depth = depth_of(alloc, &Tree::All(copies(alloc, count)?))?;
+        assert_eq!(rt; depth, want);
+    }
+    Ok(())
+}
+
+#[test]
+fn long_lists_in_halves(rt: HostRuntime) -> Result<(), Fail> {
+    let alloc = rt.alloc();
+    let mut want = Vec::new(alloc);
+    add_row(&mut want, TEST, " OR ", 64)?;
+    assert!(rt; is_condition(alloc, &Tree::Any(copies(alloc, 64)?), want.as_slice())?);
+    want.clear();
+    add_row(&mut want, TEST, " OR ", 33)?;
+    want.extend_from_slice(b" OR (")?;
+    add_row(&mut want, TEST, " OR ", 32)?;
+    want.extend_from_slice(b")")?;
+    assert!(rt; is_condition(alloc, &Tree::Any(copies(alloc, 65)?), want.as_slice())?);
+    Ok(())
+}
+
+#[test]
+fn guards_count_among_parts(rt: HostRuntime) -> Result<(), Fail> {
+    let alloc = rt.alloc();
+    let mut want = Vec::new(alloc);
+    want.extend_from_slice(b"NOT (")?;
+    add_row(&mut want, GUARDED, " AND ", 32)?;
+    want.extend_from_slice(b")")?;
+    let tree = not(alloc, Tree::All(copies(alloc, 32)?))?;
+    assert!(rt; is_condition(alloc, &tree, want.as_slice())?);
+    let tree = not(alloc, Tree::All(copies(alloc, 33)?))?;
+    want.clear();
+    want.extend_from_slice(b"NOT (")?;
+    add_row(&mut want, GUARDED, " AND ", 16)?;
+    add_row(&mut want, "", " AND ", 2)?;
+    want.extend_from_slice(GUARD.as_bytes())?;
+    want.extend_from_slice(b" AND (")?;
+    want.extend_from_slice(TEST.as_bytes())?;
+    add_row(&mut want, "", " AND ", 2)?;
+    add_row(&mut want, GUARDED, " AND ", 16)?;
+    want.extend_from_slice(b"))")?;
+    assert!(rt; is_condition(alloc, &tree, want.as_slice())?);
+    Ok(())
+}
+
 fn is_refused(answer: Result<Bytes, Fault>, code: Code, count: i128, limit: i128) -> bool {
     match answer {
         Err(
@@ -172,13 +278,11 @@ fn is_refused(answer: Result<Bytes, Fault>, code: Code, count: i128, limit: i128
 fn too_deep_and_too_long(rt: HostRuntime) -> Result<(), Fail> {
     let alloc = rt.alloc();
     let schema = schema(alloc)?;
-    let mut parts = Vec::new(alloc);
-    for _ in 0..2000 {
-        parts.push(fits(alloc, 0, "a", false)?)?;
-    }
     let mut limits = Limits::standard();
-    let answer = Sqlite.write(alloc, &limits, &schema, &Tree::Any(parts), PLACE);
-    assert!(rt; is_refused(answer, Code::QUERY_TOO_DEEP, 2002, 1000));
+    limits.sql_depth = 69;
+    let many = Tree::Any(copies(alloc, 2000)?);
+    let answer = Sqlite.write(alloc, &limits, &schema, &many, PLACE);
+    assert!(rt; is_refused(answer, Code::QUERY_TOO_DEEP, 70, 69));
     limits.query_bytes = 10;
     let tree = fits(alloc, 0, "cmd.exe", false)?;
     let answer = Sqlite.write(alloc, &limits, &schema, &tree, PLACE);

@@ -33,12 +33,7 @@ pub(crate) fn put_leaf(out: &mut Text, fields: &[Field], leaf: &Leaf) -> Result<
 
 /// Adds the text of the parts of a list, in halves where it's long.
 #[cycle(texts)]
-fn put_parts(
-    out: &mut Text,
-    fields: &[Field],
-    kind: Kind,
-    parts: &[Tree],
-) -> Result<(), Fault>
+fn put_parts(out: &mut Text, fields: &[Field], kind: Kind, parts: &[Tree]) -> Result<(), Fault>
     ensures ok { OnOk result (out.new ≡ out.old ++ halved_text kind (items_text fields.now (standing kind) parts.now)) }
     ensures err { IfErr result (λ e. e ≡ Fault.Memory) }
 {

@@ -7,7 +7,7 @@ ghost use Rattle.backend_core.specs.Sound.{IsSound};
 ghost use Rattle.backend_core.specs.Trees.{Plain};
 ghost use Rattle.backend_core.specs.View.{tree_view};
 ghost use Rattle.sql_lang.specs.Expression.{depth};
-ghost use Rattle.sqlite_writer.specs.Queries.{query_text, query_bytes, query_expr, IsQueryOf};
+ghost use Rattle.sqlite_writer.specs.Queries.{query_tree, query_text, query_bytes, query_expr, IsQueryOf};
 ghost use Rattle.sqlite_writer.specs.Pieces.{head_text, written_text};
 ghost use Rattle.sqlite_writer.specs.Sizes.{bytes_in};
 ghost use Rattle.sqlite_writer.specs.Joined.{guarded as guarded_tree};
@@ -114,7 +114,7 @@ impl Sqlite {
             → IsQueryOf limit schema.now (tree_view tree.now) bytes) }
         ensures deep { IsSound schema.now.fields (tree_view tree.now)
             → IfOk result (λ bytes. depth (query_expr schema.now (tree_view tree.now)) ≤ limits.now.sql_depth) }
-        ensures lists { IsSound schema.now.fields (tree_view tree.now) → ListsAreShallow schema.now.fields false (tree_view tree.now) }
+        ensures lists { ListsAreShallow schema.now.fields (query_tree schema.now (tree_view tree.now)) }
         ensures long { IfOk result (λ bytes. length bytes ≤ limits.now.query_bytes) }
         ensures refused { IsSound schema.now.fields (tree_view tree.now)
             → IfErr result (λ e. IsRefused (lack_refusal (sqlite_lacks schema.now.fields) (tree_view tree.now))

@@ -2,4 +2,4 @@ use Rattle.sqlite_writer.proofs.Lists.{lists_are_shallow}
 use Rattle.sqlite_writer.proofs.law.lists_are_shallow.Goals as goal
 
 pub returns : goal.returns
-returns c = λ fields odd t sound. lists_are_shallow fields (c.halves_are_shallow.ensures.ors fields) (c.halves_are_shallow.ensures.ands fields) odd t sound
+returns c = λ fields t. lists_are_shallow fields (c.halves_are_shallow.ensures.ors fields) (c.halves_are_shallow.ensures.ands fields) t

@@ -1,5 +1,0 @@
-use Rattle.sql_layout.proofs.Laid.{layout_reads}
-use Rattle.sql_layout.proofs.laws.layout_is_read.Goals as goal
-
-pub returns : goal.returns
-returns c = layout_reads
