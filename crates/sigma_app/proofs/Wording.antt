@@ -1,30 +1,37 @@
 -- Words are accepted as the request that is read from them word by word, and as no other.
-use Rattle.std.proofs.Common.{◌≡◌, ℕ, ◌<◌, ◌^◌, Bool, true, false, cond, List, [], ◌∷◌, length, nat_lt, refl, ap, ap₂, sym, ◌∙◌, subst, arith, Option, Some, None, inl, inr}
-use Rattle.std.specs.Prelude.{◌⊎◌, ◌&&◌, codes}
-use Rattle.std.specs.List.{list_all}
+use Rattle.std.proofs.Common.{◌≡◌, ℕ, ◌<◌, ◌^◌, Bool, true, false, cond, List, [], ◌∷◌, length, nat_lt, refl, ap, sym, ◌∙◌, subst, Option, Some, None, inl, inr}
+use Rattle.std.specs.Prelude.{◌⊎◌, codes, option_and_then}
 use Rattle.std.specs.Str.{bytes_eq}
 use Rattle.std.proofs.lemmas.Bool.{lt-ltb, ltb-true}
 use Rattle.std.proofs.lemmas.Slice.Eq.{bytes_eq-Decides}
-use Rattle.sigma_app.specs.Words.{IsAccepted, IsUnaccepted, words_of, names_of, is_file, with_files, convert_of, request_of, read}
+use Rattle.command_words.proofs.Computing.{computed, plain_names}
+use Rattle.command_words.specs.Computed.{given}
+use Rattle.command_words.specs.Given.{Item}
+use Rattle.command_words.specs.Table.{row_of}
+use Rattle.command_words.specs.declared.command_name.CommandName.{CommandName}
+use Rattle.command_words.specs.declared.command_name.CommandName.TheVariants as commands
+use Rattle.sigma_app.specs.Words.{in_utf8, request_with, IsAccepted, IsUnaccepted, asked, asked_if_any, command_named, request_of, read}
 use Rattle.sigma_app.specs.declared.request.Request.{Request}
-use Rattle.sigma_app.specs.declared.request.Request.TheVariants.{Check, Convert}
 
 -- ---- what is accepted is read
-
-files_read : (request : List (List ℕ) → Request) (names : List (List ℕ)) → 0 < length names → list_all is_file names ≡ true → with_files request names ≡ Some (request names)
-files_read request [] some all = absurd (omega (arith, some))
-files_read request (name ∷ names) some all = rw all refl
 
 if_true : {A : Type 0} (b : Bool) (x y : A) → b ≡ true → cond b x y ≡ x
 if_true true x y is = refl
 if_true false x y is = absurd cc
 
+named_so : (command : CommandName) → command_named (row_of command).name ≡ Some command
+named_so commands.Check = refl
+named_so commands.Convert = refl
+
 pub accepted_read : (words : List (List ℕ)) (request : Request) → IsAccepted words request → read words ≡ Some request
-accepted_read words request accepted = if_true (nat_lt (length words) (2 ^ 20)) (request_of words) None (lt-ltb (length words) (2 ^ 20) accepted.few) ∙ (ap request_of accepted.shape ∙ of request accepted.some accepted.files)
-  where
-    of : (r : Request) → 0 < length (names_of r) → list_all is_file (names_of r) ≡ true → request_of (words_of r) ≡ Some r
-    of (Check rules) some files = files_read Check rules some files
-    of (Convert rules) some files = files_read Convert rules some files
+accepted_read words request accepted =
+    let command = accepted.command in
+    let items : given (row_of command) (in_utf8 accepted.others) ≡ Some accepted.items =
+    (computed (row_of command) (in_utf8 accepted.others) accepted.items (plain_names command)).0 accepted.given in
+    if_true (nat_lt (length words) (2 ^ 20)) (request_of words) None (lt-ltb (length words) (2 ^ 20) accepted.few)
+    ∙ (ap request_of accepted.shape
+    ∙ (ap (λ (c : Option CommandName). asked_if_any c accepted.others) (named_so command)
+    ∙ (ap (λ (i : Option (List Item)). option_and_then (request_with command) i) items ∙ accepted.asks)))
 
 -- ---- what is read is accepted
 
@@ -38,59 +45,50 @@ choose : {A : Type 0} (b : Bool) (x y z : A) → cond b x y ≡ z → ((b ≡ tr
 choose true x y z is = inl (refl, is)
 choose false x y z is = inr (refl, is)
 
-both : (a b : Bool) → (a && b) ≡ true → (a ≡ true) × (b ≡ true)
-both true b is = (refl, is)
-both false b is = absurd cc
-
-read_files : (request : List (List ℕ) → Request) (names : List (List ℕ)) (r : Request) → with_files request names ≡ Some r → (request names ≡ r) × (0 < length names) × (list_all is_file names ≡ true)
-read_files request [] r is = absurd (none_some r is)
-read_files request (name ∷ names) r is = elim (choose (list_all is_file (name ∷ names)) (Some (request (name ∷ names))) None (Some r) is) [
-  | inl h ↦ (some_is (request (name ∷ names)) r h.1, omega arith, h.0)
-  | inr h ↦ absurd (none_some r h.1)
-]
-
 same_word : (word other : List ℕ) → bytes_eq word other ≡ true → word ≡ other
 same_word word other is = (bytes_eq-Decides word other).0 is
 
--- these words are the request's, but for their number
-abbrev Shaped : List (List ℕ) → Request → Type 0
-Shaped words request = (words ≡ words_of request) × (0 < length (names_of request)) × (list_all is_file (names_of request) ≡ true)
-
-read_convert : (words : List (List ℕ)) (r : Request) → convert_of words ≡ Some r → Shaped (codes "convert" ∷ words) r
-read_convert [] r is = absurd (none_some r is)
-read_convert (option ∷ []) r is = absurd (none_some r is)
-read_convert (option ∷ backend ∷ names) r is = elim (choose (bytes_eq option (codes "--backend") && bytes_eq backend (codes "sqlite")) (with_files Convert names) None (Some r) is) [
-  | inl h ↦ of (both (bytes_eq option (codes "--backend")) (bytes_eq backend (codes "sqlite")) h.0) (read_files Convert names r h.1)
-  | inr h ↦ absurd (none_some r h.1)
-]
-  where
-    of : (bytes_eq option (codes "--backend") ≡ true) × (bytes_eq backend (codes "sqlite") ≡ true) → (Convert names ≡ r) × (0 < length names) × (list_all is_file names ≡ true)
-        → Shaped (codes "convert" ∷ option ∷ backend ∷ names) r
-    of tests files = subst (Shaped (codes "convert" ∷ option ∷ backend ∷ names)) files.0
-        (ap₂ (λ (o b : List ℕ). codes "convert" ∷ o ∷ b ∷ names) (same_word option (codes "--backend") tests.0) (same_word backend (codes "sqlite") tests.1), files.1, files.2)
-
-read_shaped : (words : List (List ℕ)) (r : Request) → request_of words ≡ Some r → Shaped words r
-read_shaped [] r is = absurd (none_some r is)
-read_shaped (command ∷ words) r is =
-    elim (choose (bytes_eq command (codes "check")) (with_files Check words) (cond (bytes_eq command (codes "convert")) (convert_of words) None) (Some r) is) [
-      | inl h ↦ of_check h.0 (read_files Check words r h.1)
-      | inr h ↦ elim (choose (bytes_eq command (codes "convert")) (convert_of words) None (Some r) h.1) [
-        | inl k ↦ subst (λ (c : List ℕ). Shaped (c ∷ words) r) (sym (same_word command (codes "convert") k.0)) (read_convert words r k.1)
-        | inr k ↦ absurd (none_some r k.1)
+name_of : (word : List ℕ) (command : CommandName) → command_named word ≡ Some command → word ≡ (row_of command).name
+name_of word command is =
+    elim (choose (bytes_eq word (row_of commands.Check).name) (Some commands.Check) (cond (bytes_eq word (row_of commands.Convert).name) (Some commands.Convert) None) (Some command) is) [
+      | inl h ↦ same_word word (row_of commands.Check).name h.0 ∙ ap (λ (c : CommandName). (row_of c).name) (some_is commands.Check command h.1)
+      | inr h ↦ elim (choose (bytes_eq word (row_of commands.Convert).name) (Some commands.Convert) None (Some command) h.1) [
+        | inl k ↦ same_word word (row_of commands.Convert).name k.0 ∙ ap (λ (c : CommandName). (row_of c).name) (some_is commands.Convert command k.1)
+        | inr k ↦ absurd (none_some command k.1)
       ]
     ]
-  where
-    of_check : bytes_eq command (codes "check") ≡ true → (Check words ≡ r) × (0 < length words) × (list_all is_file words ≡ true) → Shaped (command ∷ words) r
-    of_check test files = subst (Shaped (command ∷ words)) files.0 (ap (λ (c : List ℕ). c ∷ words) (same_word command (codes "check") test), files.1, files.2)
+
+-- the items that were read, and what they ask for
+asked_of : (command : CommandName) (others : List (List ℕ)) (request : Request) → asked command others ≡ Some request
+    → (items : List Item) × (given (row_of command) (in_utf8 others) ≡ Some items) × (request_with command items ≡ Some request)
+asked_of command others request is = by (given (row_of command) (in_utf8 others)) refl is where
+  by : (found : Option (List Item)) → given (row_of command) (in_utf8 others) ≡ found → option_and_then (request_with command) found ≡ Some request
+      → (items : List Item) × (given (row_of command) (in_utf8 others) ≡ Some items) × (request_with command items ≡ Some request)
+  by None same is = absurd (none_some request is)
+  by (Some items) same is = (items, same, is)
+
+read_words : (words : List (List ℕ)) (request : Request) → length words < 2 ^ 20 → request_of words ≡ Some request → IsAccepted words request
+read_words [] request few is = absurd (none_some request is)
+read_words (word ∷ others) request few is = by (command_named word) refl is where
+  by : (named : Option CommandName) → command_named word ≡ named → asked_if_any named others ≡ Some request → IsAccepted (word ∷ others) request
+  by None same is = absurd (none_some request is)
+  by (Some command) same is =
+      let found = asked_of command others request is in
+      record {
+        command = command;
+        others = others;
+        shape = ap (λ (w : List ℕ). w ∷ others) (name_of word command same);
+        items = found.0;
+        given = (computed (row_of command) (in_utf8 others) found.0 (plain_names command)).1 found.1;
+        asks = found.2;
+        few = few;
+      }
 
 pub read_accepted : (words : List (List ℕ)) (request : Request) → read words ≡ Some request → IsAccepted words request
 read_accepted words request is = elim (choose (nat_lt (length words) (2 ^ 20)) (request_of words) None (Some request) is) [
-  | inl h ↦ of (read_shaped words request h.1) (ltb-true (length words) (2 ^ 20) h.0)
+  | inl h ↦ read_words words request (ltb-true (length words) (2 ^ 20) h.0) h.1
   | inr h ↦ absurd (none_some request h.1)
 ]
-  where
-    of : Shaped words request → length words < 2 ^ 20 → IsAccepted words request
-    of shaped few = record { shape = shaped.0; some = shaped.1; files = shaped.2; few = few }
 
 -- ---- what follows
 

@@ -1,30 +1,40 @@
 -- The words that the program accepts, and the request that they are.
-use Rattle.std.specs.Prelude.{◌≡◌, ℕ, ◌^◌, ◌<◌, nat_lt, Bool, true, false, not, ◌==◌, ◌&&◌, if◌then◌else◌, List, [], ◌∷◌, length, codes, Option, Some, None}
-use Rattle.std.specs.List.{list_all}
-use Rattle.std.specs.Str.{bytes_eq}
+use Rattle.std.specs.Prelude.{◌≡◌, ℕ, ◌^◌, ◌<◌, nat_lt, Bool, false, if◌then◌else◌, List, [], ◌∷◌, length, map, codes, Option, Some, None, option_and_then, encode_utf8_all}
+use Rattle.std.specs.Str.{bytes_eq, chars}
+use Rattle.command_words.specs.Computed.{given}
+use Rattle.command_words.specs.Given.{Item, value_of, names_of}
+use Rattle.command_words.specs.Table.{row_of, backend, IsGiven}
+use Rattle.command_words.specs.declared.command_name.CommandName.{CommandName}
+use Rattle.command_words.specs.declared.command_name.CommandName.TheVariants as commands
 use Rattle.sigma_app.specs.declared.request.Request.{Request}
 use Rattle.sigma_app.specs.declared.request.Request.TheVariants.{Check, Convert}
 
--- the words of a request
-abbrev pub words_of : Request → List (List ℕ)
-words_of (Check rules) = codes "check" ∷ rules
-words_of (Convert rules) = codes "convert" ∷ codes "--backend" ∷ codes "sqlite" ∷ rules
+-- the words in UTF-8
+abbrev pub in_utf8 : List (List ℕ) → List (List ℕ)
+in_utf8 words = map encode_utf8_all words
 
--- the files that it names
-abbrev pub names_of : Request → List (List ℕ)
-names_of (Check rules) = rules
-names_of (Convert rules) = rules
+-- the files that the items name
+abbrev pub files_of : List Item → List (List ℕ)
+files_of items = map chars (names_of items)
 
--- a file's name is not empty and doesn't begin with `-`
-abbrev pub is_file : List ℕ → Bool
-is_file [] = false
-is_file (c ∷ cs) = not (c == 45)
+-- queries are written for SQLite alone
+abbrev pub is_sqlite : Option (List ℕ) → Bool
+is_sqlite None = false
+is_sqlite (Some name) = bytes_eq name (codes "sqlite")
 
--- The words are those of the request, which names at least one file. There are fewer than 2^20 words.
+-- what a command with these items asks for
+abbrev pub request_with : CommandName → List Item → Option Request
+request_with commands.Check items = Some (Check (files_of items))
+request_with commands.Convert items = if is_sqlite (value_of backend items) then Some (Convert (files_of items)) else None
+
+-- The first word is a command's name, and those behind it give items that ask for the request. There are fewer than 2^20 words.
 pub record IsAccepted (words : List (List ℕ)) (request : Request) : Type 0 where
-  pub shape : words ≡ words_of request
-  pub some : 0 < length (names_of request)
-  pub files : list_all is_file (names_of request) ≡ true
+  pub command : CommandName
+  pub others : List (List ℕ)
+  pub shape : words ≡ (row_of command).name ∷ others
+  pub items : List Item
+  pub given : IsGiven (row_of command) (in_utf8 others) items
+  pub asks : request_with command items ≡ Some request
   pub few : length words < 2 ^ 20
 
 -- the words are accepted as no request
@@ -33,24 +43,24 @@ IsUnaccepted words = (request : Request) → IsAccepted words request → ⊥
 
 -- ---- read word by word
 
--- the request of these files, of which there is at least one
-abbrev pub with_files : (List (List ℕ) → Request) → List (List ℕ) → Option Request
-with_files request [] = None
-with_files request (name ∷ names) = if list_all is_file (name ∷ names) then Some (request (name ∷ names)) else None
+-- the request of a command with these words behind its name
+abbrev pub asked : CommandName → List (List ℕ) → Option Request
+asked command others = option_and_then (request_with command) (given (row_of command) (in_utf8 others))
 
--- the words behind `convert`
-abbrev pub convert_of : List (List ℕ) → Option Request
-convert_of [] = None
-convert_of (option ∷ []) = None
-convert_of (option ∷ backend ∷ names) =
-    if bytes_eq option (codes "--backend") && bytes_eq backend (codes "sqlite") then with_files Convert names else None
+abbrev pub asked_if_any : Option CommandName → List (List ℕ) → Option Request
+asked_if_any None others = None
+asked_if_any (Some command) others = asked command others
+
+-- the command of this name
+abbrev pub command_named : List ℕ → Option CommandName
+command_named word =
+    if bytes_eq word (row_of commands.Check).name then Some commands.Check
+    else if bytes_eq word (row_of commands.Convert).name then Some commands.Convert
+    else None
 
 abbrev pub request_of : List (List ℕ) → Option Request
 request_of [] = None
-request_of (command ∷ words) =
-    if bytes_eq command (codes "check") then with_files Check words
-    else if bytes_eq command (codes "convert") then convert_of words
-    else None
+request_of (word ∷ others) = asked_if_any (command_named word) others
 
 -- the request that the words are, if they are one
 abbrev pub read : List (List ℕ) → Option Request

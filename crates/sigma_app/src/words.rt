@@ -1,111 +1,122 @@
 //! The words of the command line.
 
-ghost use Rattle.std.specs.Prelude.{◌≡◌, ◌<◌, ◌∷◌, true, length, List, ℕ, IfSome, IfNone, IfOk, codes};
-ghost use Rattle.std.specs.List.{list_all};
-ghost use Rattle.sigma_app.specs.Words.{IsAccepted, IsUnaccepted};
+ghost use Rattle.std.specs.Prelude.{◌≡◌, List, [], map, unwrap_or, option_map, IfOk, IfSome, IfNone};
+ghost use Rattle.std.specs.Str.{chars};
+ghost use Rattle.command_words.specs.Given.{Item};
+ghost use Rattle.command_words.specs.Matched.{HasItems};
+ghost use Rattle.sigma_app.specs.Words.{IsAccepted, IsUnaccepted, request_with};
 ghost use Rattle.sigma_app.specs.Words as accepted_words;
 
 use crate::request::Request;
+use clap::ArgMatches;
+use command_words::{CommandName, items_are_read, read};
 use sig_base::{Text, Texts};
 use std::alloc::{AllocError, Global};
 
 /// So many words, or more, aren't accepted.
 const TOO_MANY_WORDS: usize = 1 << 20;
 
-fn is_file(name: &Text) -> bool
-    ensures { result ≡ accepted_words.is_file name.now }
+/// The command of this name.
+fn command_named(word: &Text) -> Option<CommandName>
+    ensures { result ≡ accepted_words.command_named word.now }
 {
-    match name.as_str().chars().next() {
-        Some(first) => first != '-',
+    if word.is("check") {
+        return Some(CommandName::Check);
+    }
+    if word.is("convert") {
+        return Some(CommandName::Convert);
+    }
+    None
+}
+
+/// The words in UTF-8, which are lent.
+fn lent<'a>(alloc: Global, words: &'a [Text]) -> Result<Vec<&'a str>, AllocError>
+    ensures { IfOk result (λ all. map (λ s. s.now) all.items ≡ accepted_words.in_utf8 words.entry.now) }
+{
+    let mut all = Vec::with_capacity(alloc, words.len())?;
+    for word in words {
+        all.push(word.as_str())?;
+    }
+    Ok(all)
+}
+
+/// Copies of the names of files.
+fn copies(alloc: Global, names: Option<&[&str]>) -> Result<Texts, AllocError>
+    ensures { IfOk result (λ all. all ≡ map chars (unwrap_or (option_map (λ s. map (λ v. v.now) s.now) names.entry) [])) }
+{
+    let mut all = Texts::new(alloc);
+    if let Some(names) = names {
+        for name in names {
+            match Text::copy(alloc, name) {
+                Ok(copy) => all.push(copy)?,
+                Err(_) => return Err(AllocError),
+            }
+        }
+    }
+    Ok(all)
+}
+
+/// Whether this is the backend that queries are written for.
+fn is_sqlite(backend: Option<&str>) -> bool
+    ensures { result ≡ accepted_words.is_sqlite (option_map (λ s. s.now) backend.entry) }
+{
+    match backend {
+        Some(name) => name.as_bytes() == b"sqlite".as_slice(),
         None => false,
     }
 }
 
-/// Whether the words are files, and there is one.
-fn are_files(names: &[Text]) -> bool
-    ensures all { result ≡ true → list_all accepted_words.is_file names.now ≡ true }
-    ensures some { result ≡ true → 0 < length names.now }
-    ensures whenever { 0 < length names.now → list_all accepted_words.is_file names.now ≡ true → result ≡ true }
+/// What a command asks for, by what clap found in the words behind its name.
+fn request_with(
+    alloc: Global,
+    command: CommandName,
+    found: &ArgMatches,
+) -> Result<Option<Request>, AllocError>
+    ensures { (items : List Item) → HasItems found.now items → IfOk result (λ r. r ≡ request_with command items) }
 {
-    !names.is_empty() && all_files(names)
-}
-
-fn all_files(names: &[Text]) -> bool
-    ensures { result ≡ list_all accepted_words.is_file names.now }
-{
-    names.iter().all(|name| is_file(name))
-}
-
-/// The words behind those of `check`.
-fn behind_check(words: &[Text]) -> Option<&[Text]>
-    ensures some { IfSome result (λ names. words.now ≡ codes "check" ∷ names.now) }
-    ensures none { IfNone result ((names : List (List ℕ)) → words.now ≡ codes "check" ∷ names → ⊥) }
-{
-    match words {
-        [check, ..] => {
-            if check.is("check") {
-                Some(words.split_at(1).1)
-            } else {
-                None
+    let rules = copies(alloc, found.get_raw("FILE"))?;
+    match command {
+        CommandName::Check => Ok(Some(Request::Check { rules })),
+        CommandName::Convert => {
+            if !is_sqlite(found.get_str("backend")) {
+                return Ok(None);
             }
+            Ok(Some(Request::Convert { rules }))
         }
-        _ => None,
     }
 }
 
-/// The words behind those of `convert`.
-fn behind_convert(words: &[Text]) -> Option<&[Text]>
-    ensures some { IfSome result (λ names. words.now ≡ codes "convert" ∷ codes "--backend" ∷ codes "sqlite" ∷ names.now) }
-    ensures none { IfNone result ((names : List (List ℕ)) → words.now ≡ codes "convert" ∷ codes "--backend" ∷ codes "sqlite" ∷ names → ⊥) }
+/// The request of a command with these words behind its name, if there is one.
+fn read_request(
+    alloc: Global,
+    command: CommandName,
+    others: &[Text],
+) -> Result<Option<Request>, AllocError>
+    ensures { IfOk result (λ r. r ≡ accepted_words.asked command others.now) }
 {
-    match words {
-        [convert, option, backend, ..] => {
-            if convert.is("convert") && option.is("--backend") && backend.is("sqlite") {
-                Some(words.split_at(3).1)
-            } else {
-                None
-            }
-        }
-        _ => None,
+    items_are_read();
+    let others = lent(alloc, others)?;
+    match read(alloc, command, others.as_slice()) {
+        Ok(Some(found)) => request_with(alloc, command, &found),
+        Ok(None) => Ok(None),
+        Err(_) => Err(AllocError),
     }
-}
-
-/// Copies of the names.
-fn copies(alloc: Global, names: &[Text]) -> Option<Texts>
-    ensures { IfSome result (λ all. all ≡ names.now) }
-{
-    let mut all = Texts::new(alloc);
-    for name in names {
-        all.push(Text::copy(alloc, name.as_str()).ok()?).ok()?;
-    }
-    Some(all)
 }
 
 /// The request that the words are, if they are one; an error is want of memory.
 pub(super) fn read_words(alloc: Global, words: &[Text]) -> Result<Option<Request>, AllocError>
+    ensures read { IfOk result (λ r. r ≡ accepted_words.read words.now) }
     ensures accepted { IfOk result (λ r. IfSome r (λ request. IsAccepted words.now request)) }
     ensures unaccepted { IfOk result (λ r. IfNone r (IsUnaccepted words.now)) }
 {
     if words.len() >= TOO_MANY_WORDS {
         return Ok(None);
     }
-    if let Some(names) = behind_check(words) {
-        if !are_files(names) {
-            return Ok(None);
-        }
-        return match copies(alloc, names) {
-            Some(rules) => Ok(Some(Request::Check { rules })),
-            None => Err(AllocError),
-        };
-    }
-    if let Some(names) = behind_convert(words) {
-        if !are_files(names) {
-            return Ok(None);
-        }
-        return match copies(alloc, names) {
-            Some(rules) => Ok(Some(Request::Convert { rules })),
-            None => Err(AllocError),
-        };
-    }
-    Ok(None)
+    let [word, ..] = words else {
+        return Ok(None);
+    };
+    let Some(command) = command_named(word) else {
+        return Ok(None);
+    };
+    read_request(alloc, command, words.split_at(1).1)
 }

@@ -72,12 +72,27 @@ fn fields_of_several_values_are_lacking(rt: HostRuntime) -> Result<(), Fail> {
     let cases = [
         (has(0, 4), "query", "1: 112"),
         (has(1, 4), "4: 111 Many", "4: 111 Many"),
-        (Tree::Not(Box::new(alloc, has(1, 5))?), "5: 111 Many", "5: 111 Many"),
-        (both(alloc, has(0, 6), has(1, 7))?, "7: 111 Many", "7: 111 Many"),
-        (both(alloc, has(1, 9), has(1, 8))?, "9: 111 Many", "9: 111 Many"),
+        (
+            Tree::Not(Box::new(alloc, has(1, 5))?),
+            "5: 111 Many",
+            "5: 111 Many",
+        ),
+        (
+            both(alloc, has(0, 6), has(1, 7))?,
+            "7: 111 Many",
+            "7: 111 Many",
+        ),
+        (
+            both(alloc, has(1, 9), has(1, 8))?,
+            "9: 111 Many",
+            "9: 111 Many",
+        ),
     ];
     for (tree, want, want_shallow) in &cases {
-        let answer = shown(alloc, Sqlite.write(alloc, &Limits::standard(), &schema, tree, RULE))?;
+        let answer = shown(
+            alloc,
+            Sqlite.write(alloc, &Limits::standard(), &schema, tree, RULE),
+        )?;
         assert_eq!(rt; answer.as_str(), *want);
         let answer = shown(alloc, Sqlite.text(alloc, &shallow, &schema, tree, RULE))?;
         assert_eq!(rt; answer.as_str(), *want_shallow);

@@ -121,6 +121,7 @@ impl Sqlite {
             (IsUnwritten limits.now.sql_depth limits.now.query_bytes place
             (depth (query_expr schema.now (tree_view tree.now))) (length (query_bytes schema.now (tree_view tree.now)))) e) }
     {
+        lists_are_shallow();
         judge_lacks(alloc, self, schema, tree)?;
         self.written(alloc, limits, schema, tree, place)
     }
@@ -168,13 +169,11 @@ impl Sqlite {
             → IsQueryOf limit schema.now (tree_view tree.now) bytes) }
         ensures deep { IsSound schema.now.fields (tree_view tree.now)
             → IfOk result (λ bytes. depth (query_expr schema.now (tree_view tree.now)) ≤ limits.now.sql_depth) }
-        ensures lists { IsSound schema.now.fields (tree_view tree.now) → ListsAreShallow schema.now.fields false (tree_view tree.now) }
         ensures long { IfOk result (λ bytes. length bytes ≤ limits.now.query_bytes) }
         ensures refused { IsSound schema.now.fields (tree_view tree.now) → IfErr result (λ e. IsUnwritten limits.now.sql_depth limits.now.query_bytes place
             (depth (query_expr schema.now (tree_view tree.now))) (length (query_bytes schema.now (tree_view tree.now))) e) }
     {
         tree_is_query();
-        lists_are_shallow();
         let written = guarded(alloc, tree, false)?;
         let depth = query_depth(&written);
         if depth > limits.sql_depth {
