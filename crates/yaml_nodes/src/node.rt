@@ -18,6 +18,7 @@ use std::alloc::Global;
 use yaml_blocks::lines::{body, is_barred, lines_behind, stray};
 use yaml_lines::flow::{is_quote, no_reading, quoted, refused};
 use yaml_lines::key::{key_at, past_colon, plain_key_at};
+use yaml_lines::room::push_fitting;
 use yaml_lines::scan::{behind, is_dash, skip_blanks, spot};
 use yaml_lines::{Halt, Line, Seen};
 use yaml_tree::{Entry, Node};
@@ -160,14 +161,14 @@ fn elements(
     let mut elements = Vec::new(alloc);
     let inner = lines_inside(false, level, lines);
     let first = element(alloc, depth, level, line, rest, inner)?;
-    elements.push(first)?;
+    push_fitting(&mut elements, first)?;
     let mut at = inner.len();
     while at < lines.len() {
         let line = &lines[at];
         let others = lines_behind(lines, at + 1);
         let inner = lines_inside(false, level, others);
         let next = element(alloc, depth, level, line, body(line), inner)?;
-        elements.push(next)?;
+        push_fitting(&mut elements, next)?;
         at += 1 + inner.len();
     }
     Ok(elements)
@@ -225,14 +226,14 @@ fn entries(
     let mut entries = Vec::new(alloc);
     let inner = lines_inside(true, level, lines);
     let first = entry(alloc, depth, level, &mut seen, line, rest, inner)?;
-    entries.push(first)?;
+    push_fitting(&mut entries, first)?;
     let mut at = inner.len();
     while at < lines.len() {
         let line = &lines[at];
         let others = lines_behind(lines, at + 1);
         let inner = lines_inside(true, level, others);
         let next = entry(alloc, depth, level, &mut seen, line, body(line), inner)?;
-        entries.push(next)?;
+        push_fitting(&mut entries, next)?;
         at += 1 + inner.len();
     }
     Ok(entries)

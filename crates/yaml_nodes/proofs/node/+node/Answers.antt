@@ -83,7 +83,7 @@ elements-loop-at-init t c =
     let i = c.offset-level.result in
     let inner = c.lines_inside-inner.result.now in
     let k = c.lines_inside-inner.ensures in
-    let grown = ap nodes_view (c.in_ok-push.ensures.items ∙ ap (λ ns. ns ++ c.in_ok-first.first ∷ []) c.new-elements.ensures.items) in
+    let grown = ap nodes_view (c.in_ok-push_fitting.ensures ∙ ap (λ ns. ns ++ c.in_ok-first.first ∷ []) c.new-elements.ensures.items) in
     record {
       out = outside_rest false i (lines_view c.args.lines.now) _ k.rest;
       far =
@@ -115,7 +115,7 @@ elements-loop-at-preserved t c =
     let inner = c.lines_inside-inner-in-loop-at.result.now in
     let k = c.lines_inside-inner-in-loop-at.ensures in
     let x : Item = item c.index-lines-at.result c.body.result.now inner in
-    let grown = ap nodes_view c.in_ok-push-2.ensures.items ∙ map_push node_view c.loop-at.elements.items c.in_ok-next.next in
+    let grown = ap nodes_view c.in_ok-push_fitting-2.ensures ∙ map_push node_view c.loop-at.elements.items c.in_ok-next.next in
     record {
       out = outside_next false i c.args.lines.now c.lines_behind-others.result.now inner c.loop-at.at c.lines_behind-others.ensures k.rest;
       far =
@@ -147,7 +147,7 @@ entries-loop-at-init t c =
     let inner = c.lines_inside-inner.result.now in
     let k = c.lines_inside-inner.ensures in
     let none = knows_none c.new-seen.result c.new-seen.ensures in
-    let grown = ap entries_view (c.in_ok-push.ensures.items ∙ ap (λ es. es ++ c.in_ok-first.first ∷ []) c.new-entries.ensures.items) in
+    let grown = ap entries_view (c.in_ok-push_fitting.ensures ∙ ap (λ es. es ++ c.in_ok-first.first ∷ []) c.new-entries.ensures.items) in
     record {
       out = outside_rest true i (lines_view c.args.lines.now) _ k.rest;
       far =
@@ -183,7 +183,7 @@ entries-loop-at-preserved t c =
     let k = c.lines_inside-inner-in-loop-at.ensures in
     let x : Item = item c.index-lines-at.result c.body.result.now inner in
     let m = entry_view c.in_ok-next.next in
-    let grown = ap entries_view c.in_ok-push-2.ensures.items ∙ map_push entry_view c.loop-at.entries.items c.in_ok-next.next in
+    let grown = ap entries_view c.in_ok-push_fitting-2.ensures ∙ map_push entry_view c.loop-at.entries.items c.in_ok-next.next in
     record {
       out = outside_next true i c.args.lines.now c.lines_behind-others.result.now inner c.loop-at.at c.lines_behind-others.ensures k.rest;
       far =
