@@ -22,21 +22,21 @@ begins_one c (d ∷ ds) e = (ds, ap (λ (x : ℕ). x ∷ ds) (grind (arith, nat_
 abbrev is_passed : List ℕ → ℕ → Bool
 is_passed cs n = is_left_out cs || (begins 37 cs && n == 0)
 
-quote_passed : (cs : List ℕ) (n : ℕ) → is_quote cs ≡ true → is_passed cs n ≡ false
+pub quote_passed : (cs : List ℕ) (n : ℕ) → is_quote cs ≡ true → is_passed cs n ≡ false
 quote_passed cs n e =
     elim (either (begins 39 cs) (begins 34 cs) e) [
       | inl h ↦ let (rest, is) = begins_one 39 cs h in subst (λ (cs : List ℕ). is_passed cs n ≡ false) (sym is) refl
       | inr h ↦ let (rest, is) = begins_one 34 cs h in subst (λ (cs : List ℕ). is_passed cs n ≡ false) (sym is) refl
     ]
 
-bracket_passed : (cs : List ℕ) (n : ℕ) → is_bracket cs ≡ true → (is_passed cs n ≡ false) × (is_quote cs ≡ false)
+pub bracket_passed : (cs : List ℕ) (n : ℕ) → is_bracket cs ≡ true → (is_passed cs n ≡ false) × (is_quote cs ≡ false)
 bracket_passed cs n e =
     elim (either (begins 91 cs) (begins 123 cs) e) [
       | inl h ↦ let (rest, is) = begins_one 91 cs h in subst (λ (cs : List ℕ). (is_passed cs n ≡ false) × (is_quote cs ≡ false)) (sym is) (refl, refl)
       | inr h ↦ let (rest, is) = begins_one 123 cs h in subst (λ (cs : List ℕ). (is_passed cs n ≡ false) × (is_quote cs ≡ false)) (sym is) (refl, refl)
     ]
 
-head_passed : (cs : List ℕ) (n : ℕ) → (begins 124 cs || begins 62 cs) ≡ true → (is_passed cs n ≡ false) × (is_quote cs ≡ false) × (is_bracket cs ≡ false)
+pub head_passed : (cs : List ℕ) (n : ℕ) → (begins 124 cs || begins 62 cs) ≡ true → (is_passed cs n ≡ false) × (is_quote cs ≡ false) × (is_bracket cs ≡ false)
 head_passed cs n e =
     elim (either (begins 124 cs) (begins 62 cs) e) [
       | inl h ↦ let (rest, is) = begins_one 124 cs h in subst (λ (cs : List ℕ). (is_passed cs n ≡ false) × (is_quote cs ≡ false) × (is_bracket cs ≡ false)) (sym is) (refl, refl, refl)
@@ -55,7 +55,7 @@ begins_other c (d ∷ ds) plain sign = by (d == c) refl where
       cc
   by false e = refl
 
-plain_passed : (cs : List ℕ) (n : ℕ) → starts_plain cs ≡ true → is_left_out cs ≡ false
+pub plain_passed : (cs : List ℕ) (n : ℕ) → starts_plain cs ≡ true → is_left_out cs ≡ false
     → (is_passed cs n ≡ false) × (is_quote cs ≡ false) × (is_bracket cs ≡ false) × ((begins 124 cs || begins 62 cs) ≡ false)
 plain_passed cs n plain left =
     let a = begins_other 37 cs plain refl in

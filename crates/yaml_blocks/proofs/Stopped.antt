@@ -12,6 +12,8 @@ use Rattle.yaml_blocks.specs.Form.{StopsLone, StopsBlock, StopsBehindDash, Stops
 use Rattle.yaml_blocks.proofs.Tools.{choose, bind_err, none_of, none_is, not_false, not_true, both}
 use Rattle.yaml_blocks.proofs.Cases.{lists, maps, node_cases}
 use Rattle.yaml_blocks.proofs.Sound.{nodes_sound, element_sound, value_sound, head_ok}
+use Rattle.yaml_blocks.proofs.LineStopped.{block_key_stopped, block_key_stopping}
+use Rattle.yaml_blocks.proofs.ScalarStopped.{content_stopped, content_stopping}
 use Rattle.yaml_blocks.proofs.Complete.{node_lone, node_list, node_map, node_complete, element_complete, value_complete, head_complete}
 
 -- ---- a stop is one of the cases
@@ -78,7 +80,7 @@ head_stopped d i seen x s e =
           ]
     ] where
       by : (found : Keyed) → key_at x.line x.text ≡ found → barred x.line ≡ None → is_level i x ≡ true → new_key (block_with (node_in d)) (node_in d) seen x found ≡ Err s → StopsEntry d (StopsNode d) i seen x s
-      by (key_stop t) at open_line level e = inr (inr (inl (open_line, level, at ∙ ap key_stop cc)))
+      by (key_stop t) at open_line level e = inr (inr (inl (open_line, level, block_key_stopped x.line x.text s (at ∙ ap key_stop cc))))
       by unkeyed at open_line level e = inr (inr (inr (inl (open_line, level, at, cc))))
       by (keyed k rest) at open_line level e =
           elim (choose (is_seen k seen) _ _ _ e) [
@@ -107,14 +109,14 @@ nodes_stopped : (d : ℕ) → NodesStop d
 unfolding node_in
 nodes_stopped zero may m l cs ls s e =
     elim (node_cases too_deep too_deep zero may m l cs ls (Err s) e) [
-      | inl h ↦ inl (inl h)
+      | inl h ↦ inl (inl (h.0, content_stopped zero m l cs ls s h.1))
       | inr (inl h) ↦ inr (inl (h.0, h.1), cc)
       | inr (inr (inl h)) ↦ inr (inr (h.0, h.1, h.2, h.3, h.4), cc)
-      | inr (inr (inr h)) ↦ inl (inr (h.0, h.1, h.3 ∙ ap key_stop cc))
+      | inr (inr (inr h)) ↦ inl (inr (h.0, h.1, block_key_stopped l cs s (h.3 ∙ ap key_stop cc)))
     ]
 nodes_stopped (suc d) may m l cs ls s e =
     elim (node_cases (lists d) (maps d) (suc d) may m l cs ls (Err s) e) [
-      | inl h ↦ inl (inl h)
+      | inl h ↦ inl (inl (h.0, content_stopped (suc d) m l cs ls s h.1))
       | inr (inl h) ↦
           elim (bind_err (elements_in (block_with (node_in d)) (node_in d) (offset l cs) (items_of false l cs ls)) _ s h.2) [
             | inl g ↦ inr (inl ((h.0, h.1), elements_stopped d (nodes_stopped d) (offset l cs) (items_of false l cs ls) s g))
@@ -125,7 +127,7 @@ nodes_stopped (suc d) may m l cs ls s e =
             | inl g ↦ inr (inr ((h.0, h.1, h.2, h.3, h.4), entries_stopped d (nodes_stopped d) (offset l cs) [] (items_of true l cs ls) s g))
             | inr g ↦ cc
           ]
-      | inr (inr (inr h)) ↦ inl (inr (h.0, h.1, h.3 ∙ ap key_stop cc))
+      | inr (inr (inr h)) ↦ inl (inr (h.0, h.1, block_key_stopped l cs s (h.3 ∙ ap key_stop cc)))
     ]
 
 pub stops_by_cases : (depth : ℕ) (home : At) (ls : List Line) (s : Stop) → block_in depth 0 home ls ≡ Err s → Stops depth ls s
@@ -163,7 +165,7 @@ entry_stopping : (d : ℕ) → NodesCases d → (i : ℕ) (seen : List (List ℕ
 unfolding head_in
 entry_stopping d cases i seen x xs s (inl h) = rw (h.0, h.1) refl
 entry_stopping d cases i seen x xs s (inr (inl h)) = rw (none_is _ h.0, h.1, h.2) refl
-entry_stopping d cases i seen x xs s (inr (inr (inl h))) = rw (none_is _ h.0, h.1, h.2) refl
+entry_stopping d cases i seen x xs s (inr (inr (inl h))) = rw (none_is _ h.0, h.1, block_key_stopping x.line x.text s h.2) refl
 entry_stopping d cases i seen x xs s (inr (inr (inr (inl h)))) = rw (none_is _ h.0, h.1, h.2, h.3) refl
 entry_stopping d cases i seen x xs s (inr (inr (inr (inr (inl h))))) = rw (none_is _ h.0, h.1, h.4, h.5, h.6) refl
 entry_stopping d cases i seen x xs s (inr (inr (inr (inr (inr (k, rest, key, h)))))) =
@@ -178,8 +180,8 @@ entries_stopping d cases i seen (x ∷ xs) s (inr (k, rest, key, t, laid, more))
 
 lone_stopping : (a_list a_map : Line → List ℕ → List Line → Read Tree) (d : ℕ) (may : Bool) (m : ℕ) (l : Line) (cs : List ℕ) (ls : List Line) (s : Stop) → StopsLone d may m l cs ls s
     → node_with a_list a_map d may m l cs ls ≡ Err s
-lone_stopping a_list a_map d may m l cs ls s (inl h) = node_lone a_list a_map d may m l cs ls h.0 ∙ h.1
-lone_stopping a_list a_map d may m l cs ls s (inr h) = rw (h.0, h.1, h.2) refl
+lone_stopping a_list a_map d may m l cs ls s (inl h) = node_lone a_list a_map d may m l cs ls h.0 ∙ content_stopping d m l cs ls s h.1
+lone_stopping a_list a_map d may m l cs ls s (inr h) = rw (h.0, h.1, block_key_stopping l cs s h.2) refl
 
 nodes_stopping : (d : ℕ) → NodesCases d
 unfolding node_in

@@ -1,6 +1,8 @@
 pub mod Blocks
 pub mod Reading
 pub mod Lays
+pub mod LineStops
+pub mod ScalarStops
 pub mod Form
 pub mod Laws
 pub mod Documents

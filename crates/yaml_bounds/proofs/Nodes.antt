@@ -9,7 +9,7 @@ use Rattle.yaml_blocks.specs.Reading.{Item, items_of, offset}
 use Rattle.yaml_blocks.specs.Lays.{IsFlow, IsScalar, LaysBlock, LaysElement, LaysValue, LaysNode, LaysElements, LaysMembers}
 use Rattle.yaml_blocks.proofs.Tools.{either}
 use Rattle.yaml_bounds.specs.Nodes.{nodes, element_nodes, value_nodes}
-use Rattle.yaml_bounds.proofs.Rests.{skip_within, body_within, dash_tail, key_within}
+use Rattle.yaml_blocks.proofs.Rests.{skip_within, body_within, dash_tail, key_within}
 use Rattle.yaml_bounds.proofs.Flows.{node_paid as flow_paid}
 use Rattle.yaml_bounds.proofs.Blocks.{weight, rest_within, item_weight, items_weight, items_of_within}
 
