@@ -7,6 +7,6 @@ pub mod Form
 pub mod Laws
 pub mod Documents
 pub mod Views
-pub mod Furthers
-pub mod Endings
+pub mod Continuations
+pub mod Chompings
 pub mod Contents

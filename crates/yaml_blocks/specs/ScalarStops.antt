@@ -1,13 +1,13 @@
 -- Where and why the reading of a scalar stops over the lines of its block, by cases.
 use Rattle.std.specs.Prelude.{◌≡◌, ℕ, Bool, true, false, not, ◌||◌, nat_lt, if◌then◌else◌, ◌⊎◌, List, [], ◌∷◌, drop, is_some, Ok}
 use Rattle.yaml_lines.specs.File.{Line, is_empty, begins, ends_line}
-use Rattle.yaml_lines.specs.Line.{spot, Stop, refused, syntax, indent, body, is_void, barred, stray, plain_rest}
-use Rattle.yaml_lines.specs.Scalar.{Ending}
-use Rattle.yaml_blocks.specs.Blocks.{skip_void, empty_line, comment_line, text_line, last_line, further, digit_first, head_of, scalar_lines}
+use Rattle.yaml_lines.specs.Line.{spot, Stop, refused, syntax, indent, body, is_comment, bad_start, unexpected, plain_rest}
+use Rattle.yaml_lines.specs.Scalar.{Chomping}
+use Rattle.yaml_blocks.specs.Blocks.{skip_comments, empty_line, comment_line, text_line, last_line, continuation, digit_first, header_of, scalar_lines}
 
 -- Nothing more may stand in the block.
 abbrev pub StopsBehind : List Line → Stop → Type 0
-StopsBehind ls s = (first : Line) × (more : List Line) × (skip_void ls ≡ first ∷ more) × (s ≡ stray first)
+StopsBehind ls s = (first : Line) × (more : List Line) × (skip_comments ls ≡ first ∷ more) × (s ≡ unexpected first)
 
 -- A value is to end its line and its block.
 abbrev pub StopsAlone : Line → List ℕ → List Line → Stop → Type 0
@@ -17,19 +17,19 @@ StopsAlone l rest ls s =
 
 -- ---- plain scalars
 
--- A line that carries something is to be a further one: indented at least m, and without a colon before a blank or the end.
-abbrev pub StopsFurther : ℕ → Line → Stop → Type 0
-StopsFurther m l s =
-    ((is_void l ≡ false) × (is_some (barred l) ≡ true) × (s ≡ stray l))
-    ⊎ ((is_void l ≡ false) × (is_some (barred l) ≡ false) × (nat_lt (indent l) m || not (ends_line (plain_rest false (body l))) ≡ true) × (s ≡ syntax l))
+-- A line that carries something is to be a continuation line: indented at least m, and without a colon before a blank or the end.
+abbrev pub StopsContinuation : ℕ → Line → Stop → Type 0
+StopsContinuation m l s =
+    ((is_comment l ≡ false) × (is_some (bad_start l) ≡ true) × (s ≡ unexpected l))
+    ⊎ ((is_comment l ≡ false) × (is_some (bad_start l) ≡ false) × (nat_lt (indent l) m || not (ends_line (plain_rest false (body l))) ≡ true) × (s ≡ syntax l))
 
--- The first lines are further ones, and the next one stops; or a comment ends the scalar, and something stands behind it.
+-- The first lines are continuation lines, and the next one stops; or a comment ends the scalar, and something stands behind it.
 abbrev pub StopsPlainLines : ℕ → List Line → Stop → Type 0
 StopsPlainLines m [] s = ⊥
 StopsPlainLines m (l ∷ ls) s =
-    StopsFurther m l s
-    ⊎ (((further m l ≡ Ok empty_line) ⊎ ((t : List ℕ) × (further m l ≡ Ok (text_line t)))) × StopsPlainLines m ls s)
-    ⊎ (((further m l ≡ Ok comment_line) ⊎ ((t : List ℕ) × (further m l ≡ Ok (last_line t)))) × StopsBehind ls s)
+    StopsContinuation m l s
+    ⊎ (((continuation m l ≡ Ok empty_line) ⊎ ((t : List ℕ) × (continuation m l ≡ Ok (text_line t)))) × StopsPlainLines m ls s)
+    ⊎ (((continuation m l ≡ Ok comment_line) ⊎ ((t : List ℕ) × (continuation m l ≡ Ok (last_line t)))) × StopsBehind ls s)
 
 abbrev pub StopsPlain : ℕ → Line → List ℕ → List Line → Stop → Type 0
 StopsPlain m l cs ls s =
@@ -51,4 +51,4 @@ StopsHeader l cs s =
 abbrev pub StopsBlockScalar : ℕ → Line → List ℕ → List Line → Stop → Type 0
 StopsBlockScalar m l cs ls s =
     StopsHeader l (drop 1 cs) s
-    ⊎ ((e : Ending) × (head_of l (drop 1 cs) ≡ Ok e) × StopsBehind (scalar_lines m ls).1 s)
+    ⊎ ((e : Chomping) × (header_of l (drop 1 cs) ≡ Ok e) × StopsBehind (scalar_lines m ls).1 s)
