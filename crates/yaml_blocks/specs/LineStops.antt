@@ -1,7 +1,7 @@
 -- Where and why a reading stops on one line, by cases: in quotes, at a key of a block map, in a flow collection.
-use Rattle.std.specs.Prelude.{◌≡◌, ℕ, zero, suc, Bool, true, false, not, ◌&&◌, ◌||◌, if◌then◌else◌, ◌⊎◌, List, [], ◌∷◌, ◌++◌, drop, Ok}
+use Rattle.std.specs.Prelude.{◌≡◌, ℕ, zero, suc, true, false, not, ◌&&◌, ◌||◌, if◌then◌else◌, ◌⊎◌, List, [], ◌∷◌, ◌++◌, drop, Ok}
 use Rattle.std.specs.Str.{bytes_eq}
-use Rattle.yaml_tree.specs.Tree.{At, Tree, Elements, no_elements, element, Members, no_members, member}
+use Rattle.yaml_tree.specs.Tree.{Tree, Elements, no_elements, element, Members, no_members, member}
 use Rattle.yaml_lines.specs.File.{Line, begins, skip_blanks, ends_line}
 use Rattle.yaml_lines.specs.Line.{spot, Stop, refused, unclosed, syntax, starts_plain, plain_front, plain_rest, is_left_out}
 use Rattle.yaml_lines.specs.Scalar.{Quoted, open_ended, bad_escape, single, double}

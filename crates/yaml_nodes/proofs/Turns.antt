@@ -1,5 +1,5 @@
 -- The items of a block, a turn at a time.
-use Rattle.std.proofs.Common.{◌≡◌, ℕ, zero, suc, ◌+◌, ◌<◌, ◌≤◌, Bool, true, false, not, ◌&&◌, cond, if◌then◌else◌, Option, Some, None, is_some, IfSome, List, [], ◌∷◌, ◌++◌, length, get_or, drop, Ok, Err, refl, sym, ap, ◌∙◌, subst, arith}
+use Rattle.std.proofs.Common.{◌≡◌, ℕ, zero, suc, ◌+◌, ◌<◌, ◌≤◌, Bool, true, false, cond, Option, Some, None, is_some, IfSome, List, [], ◌∷◌, ◌++◌, length, get_or, drop, Ok, Err, refl, sym, ap, ◌∙◌, subst, arith}
 use Rattle.std.specs.Prelude.{map as list_map}
 use Rattle.std.proofs.lemmas.List.{drop-drop, at_drop_all}
 use Rattle.std.proofs.lemmas.Bool.Decides.{nat_tests}
@@ -7,8 +7,7 @@ use Rattle.yaml_tree.specs.Tree.{At, Tree, Elements, element, Members, member, M
 use Rattle.yaml_tree.specs.View.{elements_of, members_of}
 use Rattle.yaml_lines.specs.declared.line.Line as code
 use Rattle.yaml_lines.specs.File.{Line, carries_nothing, skip_blanks}
-use Rattle.yaml_lines.specs.Line.{Stop, refused, syntax, Read, ◌>>=◌, body, spot, is_comment, bad_start, unexpected, is_dash}
-use Rattle.yaml_lines.specs.Flow.{is_seen}
+use Rattle.yaml_lines.specs.Line.{Stop, Read, ◌>>=◌, body, spot, is_comment, bad_start, is_dash}
 use Rattle.yaml_lines.specs.Key.{Keyed, keyed, unkeyed, key_stop, key_at}
 use Rattle.yaml_lines.specs.declared.seen.Seen.{Seen}
 use Rattle.yaml_lines.specs.SeenKeys.{Knows}

@@ -1,5 +1,5 @@
 -- The blocks' reading, as the readers of its parts give it.
-use Rattle.std.specs.Prelude.{◌≡◌, ◌≤◌, length, ℕ, zero, suc, false, not, ◌&&◌, Bool, ◌==◌, if◌then◌else◌, List, drop, is_some, Ok, Err}
+use Rattle.std.specs.Prelude.{◌≡◌, ◌≤◌, length, ℕ, zero, suc, false, Bool, List, Ok}
 use Rattle.std.specs.declared.vec.Vec.{Vec}
 use Rattle.std.specs.declared.alloc.Global.{Global}
 use Rattle.yaml_tree.specs.Tree.{At, Tree, scalar, Elements, Members, Member}
@@ -8,13 +8,11 @@ use Rattle.yaml_tree.specs.declared.tree.Node.{Node}
 use Rattle.yaml_tree.specs.declared.tree.Entry.{Entry}
 use Rattle.yaml_lines.specs.declared.line.Line as code
 use Rattle.yaml_lines.specs.File.{Line, blank_or_end, carries_nothing, skip_blanks}
-use Rattle.yaml_lines.specs.Line.{spot, refused, syntax, Read, ◌>>=◌, bad_start, unexpected, is_dash}
-use Rattle.yaml_lines.specs.Flow.{is_seen}
-use Rattle.yaml_lines.specs.Key.{Keyed, keyed, unkeyed, key_stop, key_at}
+use Rattle.yaml_lines.specs.Line.{spot, Read, ◌>>=◌}
 use Rattle.yaml_lines.specs.Scalar.{resolved}
 use Rattle.yaml_lines.specs.View.{line_view}
 use Rattle.yaml_blocks.specs.Blocks.{plain_text}
-use Rattle.yaml_blocks.specs.Reading.{Item, offset, behind_in, element_in, elements_in, entry_in, entries_in, sequence_in, map_in, too_deep, block_with, node_in}
+use Rattle.yaml_blocks.specs.Reading.{Item, behind_in, element_in, elements_in, entry_in, entries_in, sequence_in, map_in, too_deep, block_with, node_in}
 use Rattle.yaml_blocks.specs.Views.{lines_view}
 
 -- a line from its dash or key on, and the lines inside it

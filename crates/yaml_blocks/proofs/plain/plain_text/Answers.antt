@@ -1,7 +1,7 @@
 use Rattle.std.proofs.Common.{◌≡◌, List, ℕ, true, false, Ok, sym, ap, ◌∙◌, subst, arith}
 use Rattle.std.proofs.lemmas.Grind.{common_steps}
 use Rattle.yaml_lines.specs.File.{is_empty, ends_line}
-use Rattle.yaml_lines.specs.Line.{plain_front, plain_rest, syntax}
+use Rattle.yaml_lines.specs.Line.{plain_rest, syntax}
 use Rattle.yaml_lines.specs.View.{line_view, Fails}
 use Rattle.yaml_blocks.specs.Blocks.{plain_text, nothing_in}
 use Rattle.yaml_blocks.specs.Continuations.{plain_view}
