@@ -268,6 +268,11 @@ plain_lines : answers 32 (codes "a: x\n  y\n\n  z") ≡ tree (map (at 1 1) (entr
 unfolding line_texts lines_of documents_of parted is_parting is_marker skip_blanks carries_nothing ends_line indentation indent body is_comment is_empty_line bad_start unexpected plain_len trimmed plain_front plain_rest value_within whole_of resolved single escape double block_text quoted behind_colon flow_key fresh_key after_element flow_element flow_elements flow_value flow_entry flow_members flow_scalar flow_node nothing_in key_at continuation more_plain plain_text scalar_lines block_scalar element_in item_key key_in entry_in scalar_or_flow_in node_in
 plain_lines = refl
 
+-- outside flow collections their signs are text, on continuation lines too (YAML 1.2, 7.3.3)
+plain_lines_with_flow_signs : answers 32 (codes "a: x\n  y, [z]") ≡ tree (map (at 1 1) (entry 1 1 (codes "a") (text_at 1 4 (codes "x y, [z]")) no_members)) ∷ []
+unfolding line_texts lines_of documents_of parted is_parting is_marker skip_blanks carries_nothing ends_line indentation indent body is_comment is_empty_line bad_start unexpected plain_len trimmed plain_front plain_rest value_within whole_of resolved single escape double block_text quoted behind_colon flow_key fresh_key after_element flow_element flow_elements flow_value flow_entry flow_members flow_scalar flow_node nothing_in key_at continuation more_plain plain_text scalar_lines block_scalar element_in item_key key_in entry_in scalar_or_flow_in node_in
+plain_lines_with_flow_signs = refl
+
 quotes : answers 32 (codes "a: 'it''s' # c\n'b' : 2") ≡ tree (map (at 1 1) (entry 1 1 (codes "a") (text_at 1 4 (codes "it's")) (entry 2 1 (codes "b") (scalar (at 2 7) (whole (pos 2))) no_members))) ∷ []
 unfolding line_texts lines_of documents_of parted is_parting is_marker skip_blanks carries_nothing ends_line indentation indent body is_comment is_empty_line bad_start unexpected plain_len trimmed plain_front plain_rest value_within whole_of resolved single escape double block_text quoted behind_colon flow_key fresh_key after_element flow_element flow_elements flow_value flow_entry flow_members flow_scalar flow_node nothing_in key_at continuation more_plain plain_text scalar_lines block_scalar element_in item_key key_in entry_in scalar_or_flow_in node_in
 quotes = refl
