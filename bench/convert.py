@@ -6,7 +6,8 @@
 PROGRAM is the built program, as crates/sigma_app/out/sigma_app. It makes N realistic rules, writes them as one file each
 and as one file, and runs `convert --backend sqlite` and `check` on them. Beside that PyYAML's two safe loaders, the one
 in C and the plain one, merely parse the same files. Then it shows how the times grow from 500 to 4,000 small rules in one
-file, and for YAML alone, by `check` on one big document, from 64 KiB to 1 MiB.
+file, and for YAML alone, by `check` on one big document, from 64 KiB to 1 MiB; and the peak memory of `check` on 1 MiB of
+YAML by its shape.
 
 Each time is the least of K runs. A run of the program is a process of its own, from its start to its end; a loader's time
 is that of parsing alone, without starting Python. Peak memory is that of the process, Python's own included; less than
@@ -187,7 +188,35 @@ def text(rng, room):
     return " |\n" + "\n".join(lines[:-1]) + "\n"
 
 
+def flow_keys(rng, room):
+    return " {" + "".join(f"{number:05x}: ," for number in range((room - 4) // 8)) + "}\n"
+
+
+def lines_of(line):
+    """A shape that is one line again and again."""
+    return lambda rng, room: "\n" + (line + "\n") * ((room - 1) // (len(line) + 1))
+
+
+def elements_of(element):
+    """A flow sequence that is one element again and again."""
+    return lambda rng, room: " [" + (element + ",") * ((room - 4) // (len(element) + 1)) + "]\n"
+
+
+def empty_lines(rng, room):
+    return " |\n  x\n" + "\n" * (room - 12) + "  y\n"
+
+
 SHAPES = [("mixed", mixed), ("a map of keys", keys), ("a flow sequence", flow), ("a block scalar", text)]
+
+# small nodes in large numbers, which take the most memory for each byte
+DENSE_SHAPES = [
+    ("a flow map of keys", flow_keys), ("lines of four dashes", lines_of("- - - - x")), ("lines of a dash", lines_of("-")),
+    ("lines of a map of one key", lines_of("- a:")), ("lines of a short key", lambda rng, room: "\n" + "".join(f" {n:05x}:\n" for n in range((room - 1) // 8))),
+    ("a flow sequence of letters", elements_of("a")), ("flow sequences of a letter", elements_of("[a]")),
+    ("flow sequences of three letters", elements_of("[a,a,a]")), ("flow sequences in twelve", elements_of("[" * 12 + "a" + "]" * 12)),
+    ("flow maps of one key", elements_of("{a: }")), ("flow maps in twelve", elements_of('{"":' * 12 + "}" * 12)),
+    ("empty lines in a block scalar", empty_lines),
+]
 
 # ---- runs
 
@@ -327,6 +356,16 @@ def show_growth(told, title, steps, command_rows):
     print(f"  at the last: {', '.join(ratios)}" if ratios else "")
 
 
+def show_peaks(told):
+    """The peak memory of `check` by the shape of a document of 1 MiB."""
+    print(f"\n`check` of one document\n  {'':34}{'bytes':>12}{'peak MiB':>10}{'for a byte':>12}")
+    for shape, make in SHAPES + DENSE_SHAPES:
+        name = f"{shape.replace(' ', '_')}.yml"
+        size = write(told, name, HEAD + make(random.Random(told.seed), MOST_BYTES - len(HEAD) - 64))
+        run = run_sigma(told, COMMANDS[1][1], [name], 1)
+        print(f"  {shape:34}{size:>12,}{run.peak:>10.1f}{run.peak * MIB / size:>12.1f}")
+
+
 def bench(told):
     rng = random.Random(told.seed)
     rules = [rule(rng, number) for number in range(told.rules)]
@@ -357,6 +396,7 @@ def bench(told):
             name = f"{shape.replace(' ', '_')}{kibibytes}.yml"
             steps.append((f"{kibibytes} KiB", name, write(told, name, HEAD + make(random.Random(told.seed), room)), 1))
         show_growth(told, f"YAML alone, one document: {shape}", steps, COMMANDS[1:])
+    show_peaks(told)
 
 
 def main():

@@ -6,8 +6,8 @@ use Rattle.yaml_lines.specs.File.{Line, begins}
 use Rattle.yaml_lines.specs.Line.{spot, Read, ◌>>=◌, body, is_dash, is_left_out, is_indicator, starts_plain}
 use Rattle.yaml_lines.specs.Flow.{is_quote, is_bracket}
 use Rattle.yaml_lines.specs.Key.{keyed, key_at}
-use Rattle.yaml_blocks.specs.Reading.{Item, offset, element_in, elements_in, value_in, head_in, entries_in, lone_in, node_in, node_with, block_with, block_in, too_deep}
-use Rattle.yaml_blocks.specs.Lays.{IsFlow, IsScalar, IsNoCollection, IsKeyed, LaysBlock, LaysElement, LaysValue, LaysNode, LaysElements, LaysMembers, Lays}
+use Rattle.yaml_blocks.specs.Reading.{Item, offset, item_key, key_in, element_in, elements_in, entry_in, entries_in, scalar_or_flow_in, node_in, node_with, block_with, block_in, too_deep}
+use Rattle.yaml_blocks.specs.Lays.{IsFlow, IsScalar, IsNoCollection, IsDashed, IsKeyed, LaysBlock, LaysElement, LaysValue, LaysNode, LaysElements, LaysMembers, Lays}
 use Rattle.yaml_blocks.proofs.Tools.{either, both, none_is}
 use Rattle.yaml_blocks.proofs.Cases.{lists, maps, alone_is}
 
@@ -22,22 +22,22 @@ begins_one c (d ∷ ds) e = (ds, ap (λ (x : ℕ). x ∷ ds) (grind (arith, nat_
 abbrev is_passed : List ℕ → ℕ → Bool
 is_passed cs n = is_left_out cs || (begins 37 cs && n == 0)
 
-quote_passed : (cs : List ℕ) (n : ℕ) → is_quote cs ≡ true → is_passed cs n ≡ false
+pub quote_passed : (cs : List ℕ) (n : ℕ) → is_quote cs ≡ true → is_passed cs n ≡ false
 quote_passed cs n e =
     elim (either (begins 39 cs) (begins 34 cs) e) [
       | inl h ↦ let (rest, is) = begins_one 39 cs h in subst (λ (cs : List ℕ). is_passed cs n ≡ false) (sym is) refl
       | inr h ↦ let (rest, is) = begins_one 34 cs h in subst (λ (cs : List ℕ). is_passed cs n ≡ false) (sym is) refl
     ]
 
-bracket_passed : (cs : List ℕ) (n : ℕ) → is_bracket cs ≡ true → (is_passed cs n ≡ false) × (is_quote cs ≡ false)
+pub bracket_passed : (cs : List ℕ) (n : ℕ) → is_bracket cs ≡ true → (is_passed cs n ≡ false) × (is_quote cs ≡ false)
 bracket_passed cs n e =
     elim (either (begins 91 cs) (begins 123 cs) e) [
       | inl h ↦ let (rest, is) = begins_one 91 cs h in subst (λ (cs : List ℕ). (is_passed cs n ≡ false) × (is_quote cs ≡ false)) (sym is) (refl, refl)
       | inr h ↦ let (rest, is) = begins_one 123 cs h in subst (λ (cs : List ℕ). (is_passed cs n ≡ false) × (is_quote cs ≡ false)) (sym is) (refl, refl)
     ]
 
-head_passed : (cs : List ℕ) (n : ℕ) → (begins 124 cs || begins 62 cs) ≡ true → (is_passed cs n ≡ false) × (is_quote cs ≡ false) × (is_bracket cs ≡ false)
-head_passed cs n e =
+pub header_passed : (cs : List ℕ) (n : ℕ) → (begins 124 cs || begins 62 cs) ≡ true → (is_passed cs n ≡ false) × (is_quote cs ≡ false) × (is_bracket cs ≡ false)
+header_passed cs n e =
     elim (either (begins 124 cs) (begins 62 cs) e) [
       | inl h ↦ let (rest, is) = begins_one 124 cs h in subst (λ (cs : List ℕ). (is_passed cs n ≡ false) × (is_quote cs ≡ false) × (is_bracket cs ≡ false)) (sym is) (refl, refl, refl)
       | inr h ↦ let (rest, is) = begins_one 62 cs h in subst (λ (cs : List ℕ). (is_passed cs n ≡ false) × (is_quote cs ≡ false) × (is_bracket cs ≡ false)) (sym is) (refl, refl, refl)
@@ -55,7 +55,7 @@ begins_other c (d ∷ ds) plain sign = by (d == c) refl where
       cc
   by false e = refl
 
-plain_passed : (cs : List ℕ) (n : ℕ) → starts_plain cs ≡ true → is_left_out cs ≡ false
+pub plain_passed : (cs : List ℕ) (n : ℕ) → starts_plain cs ≡ true → is_left_out cs ≡ false
     → (is_passed cs n ≡ false) × (is_quote cs ≡ false) × (is_bracket cs ≡ false) × ((begins 124 cs || begins 62 cs) ≡ false)
 plain_passed cs n plain left =
     let a = begins_other 37 cs plain refl in
@@ -69,29 +69,29 @@ plain_passed cs n plain left =
 
 -- ---- what begins no block collection
 
-lone_complete : (a : At) (s : Scalar) (d m : ℕ) (l : Line) (cs : List ℕ) (ls : List Line) → a ≡ spot l cs → IsScalar s m l cs ls → lone_in d m l cs ls ≡ Ok (scalar a s)
-unfolding lone_in
-lone_complete a s d m l cs ls place (inl (t, is, inl q)) =
+scalar_or_flow_complete : (a : At) (s : Scalar) (d m : ℕ) (l : Line) (cs : List ℕ) (ls : List Line) → a ≡ spot l cs → IsScalar s m l cs ls → scalar_or_flow_in d m l cs ls ≡ Ok (scalar a s)
+unfolding scalar_or_flow_in
+scalar_or_flow_complete a s d m l cs ls place (inl (t, is, inl q)) =
     let passed = quote_passed cs (offset l cs) q.0 in
     rw (passed, q.0, q.2, is, place) (alone_is l q.1 ls _ q.3)
-lone_complete a s d m l cs ls place (inl (t, is, inr b)) =
-    let passed = head_passed cs (offset l cs) b.0 in
+scalar_or_flow_complete a s d m l cs ls place (inl (t, is, inr b)) =
+    let passed = header_passed cs (offset l cs) b.0 in
     rw (passed.0, passed.1, passed.2, b.0, b.1, is, place) refl
-lone_complete a s d m l cs ls place (inr p) =
+scalar_or_flow_complete a s d m l cs ls place (inr p) =
     let passed = plain_passed cs (offset l cs) p.0 p.1 in
     rw (passed.0, passed.1, passed.2, passed.3, p.0, p.3, p.4, place) refl
 
-flow_complete : (t : Tree) (d m : ℕ) (l : Line) (cs : List ℕ) (ls : List Line) → IsFlow t d l cs ls → lone_in d m l cs ls ≡ Ok t
-unfolding lone_in
+flow_complete : (t : Tree) (d m : ℕ) (l : Line) (cs : List ℕ) (ls : List Line) → IsFlow t d l cs ls → scalar_or_flow_in d m l cs ls ≡ Ok t
+unfolding scalar_or_flow_in
 flow_complete t d m l cs ls h =
     let passed = bracket_passed cs (offset l cs) h.0 in
     rw (passed.0, passed.1, h.0, h.2) (alone_is l h.1 ls _ h.3)
 
-pub node_lone : (a_list a_map : Line → List ℕ → List Line → Read Tree) (d : ℕ) (may : Bool) (m : ℕ) (l : Line) (cs : List ℕ) (ls : List Line) → IsNoCollection may l cs
-    → node_with a_list a_map d may m l cs ls ≡ lone_in d m l cs ls
-node_lone a_list a_map d may m l cs ls (inl h) = rw h refl
-node_lone a_list a_map d false m l cs ls (inr h) = refl
-node_lone a_list a_map d true m l cs ls (inr h) = rw (h.0, h.1) refl
+pub node_scalar_or_flow : (a_list a_map : Line → List ℕ → List Line → Read Tree) (d : ℕ) (may : Bool) (m : ℕ) (l : Line) (cs : List ℕ) (ls : List Line) → IsNoCollection may l cs
+    → node_with a_list a_map d may m l cs ls ≡ scalar_or_flow_in d m l cs ls
+node_scalar_or_flow a_list a_map d may m l cs ls (inl h) = rw h refl
+node_scalar_or_flow a_list a_map d false m l cs ls (inr h) = refl
+node_scalar_or_flow a_list a_map d true m l cs ls (inr h) = rw (h.0, h.1) refl
 
 pub node_list : (a_list a_map : Line → List ℕ → List Line → Read Tree) (d : ℕ) (may : Bool) (m : ℕ) (l : Line) (cs : List ℕ) (ls : List Line) (r : Read Tree)
     → may ≡ true → is_dash cs ≡ true → a_list l cs ls ≡ r → node_with a_list a_map d may m l cs ls ≡ r
@@ -112,22 +112,21 @@ block_complete t d complete m home ls (inl h) = rw (h.0, h.1) refl
 block_complete t d complete m home ls (inr (first, more, is, open_line, laid)) =
     rw (is, none_is _ open_line) (complete true m first (body first) more laid)
 
-pub element_complete : (t : Tree) (d : ℕ) → CompleteNode t d → (i : ℕ) (x : Item) → LaysElement (λ may m l cs ls. LaysNode t d may m l cs ls) t i x
+pub element_complete : (t : Tree) (d : ℕ) → CompleteNode t d → (i : ℕ) (x : Item) → IsDashed i x → LaysElement (λ may m l cs ls. LaysNode t d may m l cs ls) t i x
     → element_in (block_with (node_in d)) (node_in d) i x ≡ Ok t
 unfolding element_in
-element_complete t d complete i x (inl h) = rw h.0 (block_complete t d complete _ _ _ h.1)
-element_complete t d complete i x (inr h) = rw h.0 (complete _ _ _ _ _ h.1)
+element_complete t d complete i x dashed (inl h) = rw (none_is _ dashed.open_line, dashed.level, dashed.dash, h.0) (block_complete t d complete _ _ _ h.1)
+element_complete t d complete i x dashed (inr h) = rw (none_is _ dashed.open_line, dashed.level, dashed.dash, h.0) (complete _ _ _ _ _ h.1)
 
-pub value_complete : (t : Tree) (d : ℕ) → CompleteNode t d → (i : ℕ) (x : Item) (rest : List ℕ) → LaysValue (λ may m l cs ls. LaysNode t d may m l cs ls) t i x rest
-    → value_in (block_with (node_in d)) (node_in d) i x rest ≡ Ok t
-unfolding value_in
-value_complete t d complete i x rest (inl h) = rw h.0 (block_complete t d complete _ _ _ h.1)
-value_complete t d complete i x rest (inr h) = rw h.0 (complete _ _ _ _ _ h.1)
+pub key_complete : (i : ℕ) (seen : List (List ℕ)) (k rest : List ℕ) (a : At) (x : Item) → IsKeyed i seen k rest a x → key_in i seen x.line x.text ≡ Ok (k, rest)
+unfolding key_in item_key
+key_complete i seen k rest a x h = rw (none_is _ h.open_line, h.level, h.key, h.fresh) refl
 
-pub head_complete : (block : ℕ → At → List Line → Read Tree) (node : Bool → ℕ → Line → List ℕ → List Line → Read Tree) (i : ℕ) (seen : List (List ℕ)) (k rest : List ℕ) (a : At) (x : Item)
-    → IsKeyed i seen k rest a x → head_in block node i seen x ≡ Ok (k, rest)
-unfolding head_in
-head_complete block node i seen k rest a x h = rw (none_is _ h.open_line, h.level, h.key, h.fresh) refl
+pub entry_complete : (t : Tree) (d : ℕ) → CompleteNode t d → (i : ℕ) (seen : List (List ℕ)) (k rest : List ℕ) (a : At) (x : Item) → IsKeyed i seen k rest a x
+    → LaysValue (λ may m l cs ls. LaysNode t d may m l cs ls) t i x rest → entry_in (block_with (node_in d)) (node_in d) i seen x ≡ Ok (record { key = k; place = a; value = t })
+unfolding entry_in
+entry_complete t d complete i seen k rest a x key (inl h) = rw (key_complete i seen k rest a x key, h.0, block_complete t d complete _ _ _ h.1, key.place) refl
+entry_complete t d complete i seen k rest a x key (inr h) = rw (key_complete i seen k rest a x key, h.0, complete _ _ _ _ _ h.1, key.place) refl
 
 -- the first item of a map that is laid out has a key
 first_keyed : (ms : Members) (d i : ℕ) (seen : List (List ℕ)) (x : Item) (xs : List Item) → LaysMembers ms d i seen (x ∷ xs)
@@ -141,15 +140,15 @@ mutual
   unfolding node_in
 
   pub node_complete : (t : Tree) (d : ℕ) → CompleteNode t d
-  node_complete (scalar a s) zero may m l cs ls h = node_lone too_deep too_deep zero may m l cs ls h.0 ∙ lone_complete a s zero m l cs ls h.1 h.2
-  node_complete (scalar a s) (suc d) may m l cs ls h = node_lone (lists d) (maps d) (suc d) may m l cs ls h.0 ∙ lone_complete a s (suc d) m l cs ls h.1 h.2
+  node_complete (scalar a s) zero may m l cs ls h = node_scalar_or_flow too_deep too_deep zero may m l cs ls h.0 ∙ scalar_or_flow_complete a s zero m l cs ls h.1 h.2
+  node_complete (scalar a s) (suc d) may m l cs ls h = node_scalar_or_flow (lists d) (maps d) (suc d) may m l cs ls h.0 ∙ scalar_or_flow_complete a s (suc d) m l cs ls h.1 h.2
   node_complete (list a es) zero may m l cs ls h = absurd h
-  node_complete (list a es) (suc d) may m l cs ls (inl h) = node_lone (lists d) (maps d) (suc d) may m l cs ls h.0 ∙ flow_complete (list a es) (suc d) m l cs ls h.1
+  node_complete (list a es) (suc d) may m l cs ls (inl h) = node_scalar_or_flow (lists d) (maps d) (suc d) may m l cs ls h.0 ∙ flow_complete (list a es) (suc d) m l cs ls h.1
   node_complete (list a es) (suc d) may m l cs ls (inr h) =
       node_list (lists d) (maps d) (suc d) may m l cs ls _ h.0 h.1
       (ap (λ (r : Read Elements). r >>= (λ ts. Ok (list (spot l cs) ts))) (elements_complete es d _ _ h.3) ∙ ap (λ (b : At). Ok (list b es)) (sym h.2))
   node_complete (map a ms) zero may m l cs ls h = absurd h
-  node_complete (map a ms) (suc d) may m l cs ls (inl h) = node_lone (lists d) (maps d) (suc d) may m l cs ls h.0 ∙ flow_complete (map a ms) (suc d) m l cs ls h.1
+  node_complete (map a ms) (suc d) may m l cs ls (inl h) = node_scalar_or_flow (lists d) (maps d) (suc d) may m l cs ls h.0 ∙ flow_complete (map a ms) (suc d) m l cs ls h.1
   node_complete (map a ms) (suc d) may m l cs ls (inr h) =
       let (k, rest, key) = first_keyed ms d _ _ _ _ h.3 in
       node_map (lists d) (maps d) (suc d) may m l cs ls _ k rest h.0 h.1 key
@@ -158,12 +157,12 @@ mutual
   elements_complete : (es : Elements) (d i : ℕ) (xs : List Item) → LaysElements es d i xs → elements_in (block_with (node_in d)) (node_in d) i xs ≡ Ok es
   elements_complete no_elements d i xs h = rw h refl
   elements_complete (element t ts) d i xs (x, others, is, dashed, laid, more) =
-      rw (is, none_is _ dashed.open_line, dashed.level, dashed.dash, element_complete t d (node_complete t d) i x laid, elements_complete ts d i others more) refl
+      rw (is, element_complete t d (node_complete t d) i x dashed laid, elements_complete ts d i others more) refl
 
   members_complete : (ms : Members) (d i : ℕ) (seen : List (List ℕ)) (xs : List Item) → LaysMembers ms d i seen xs → entries_in (block_with (node_in d)) (node_in d) i seen xs ≡ Ok ms
   members_complete no_members d i seen xs h = rw h refl
   members_complete (member k a t ms) d i seen xs (x, others, is, rest, key, laid, more) =
-      rw (is, head_complete _ _ i seen k rest a x key, value_complete t d (node_complete t d) i x rest laid, members_complete ms d i (seen ++ k ∷ []) others more, key.place) refl
+      rw (is, entry_complete t d (node_complete t d) i seen k rest a x key laid, members_complete ms d i (seen ++ k ∷ []) others more) refl
 
 pub reads_all : (depth : ℕ) (home : At) (ls : List Line) (t : Tree) → Lays t depth home ls → block_in depth 0 home ls ≡ Ok t
 reads_all depth home ls t h = block_complete t depth (node_complete t depth) 0 home ls h

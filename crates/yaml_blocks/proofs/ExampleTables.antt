@@ -1,14 +1,13 @@
 -- Tables of small texts with what they are, reckoned by hand from YAML 1.2 and the profile's differences.
-use Rattle.std.proofs.Common.{◌≡◌, ℕ, List, [], ◌∷◌, ◌++◌, if◌then◌else◌, codes, pos, negsuc, Bool, true, false, map as list_map, refl}
-use Rattle.yaml_tree.specs.Tree.{At, Scalar, null, truth, text, whole, Tree, scalar, list, map, no_elements, element, Members, no_members, member, Answer, tree, refusal}
-use Rattle.yaml_lines.specs.File.{Line, line_texts, lines_of, is_parting, is_marker, parted, documents_of, skip_blanks, carries_nothing, ends_line}
-use Rattle.yaml_lines.specs.Line.{indentation, indent, body, is_void, is_bare, barred, stray, plain_len, trimmed, plain_front, plain_rest, Read}
+use Rattle.std.proofs.Common.{◌≡◌, ℕ, List, [], ◌∷◌, codes, pos, negsuc, true, false, map as list_map, refl}
+use Rattle.yaml_tree.specs.Tree.{Scalar, null, truth, text, whole, Tree, scalar, list, map, no_elements, element, no_members, Answer, tree, refusal}
+use Rattle.yaml_lines.specs.File.{line_texts, lines_of, is_parting, is_marker, parted, documents_of, skip_blanks, carries_nothing, ends_line}
+use Rattle.yaml_lines.specs.Line.{indentation, indent, body, is_comment, is_empty_line, bad_start, unexpected, plain_len, trimmed, plain_front, plain_rest}
 use Rattle.yaml_lines.specs.Scalar.{value_within, whole_of, resolved, single, escape, double, block_text}
 use Rattle.yaml_lines.specs.Flow.{quoted, behind_colon, flow_key, fresh_key, after_element, flow_element, flow_elements, flow_value, flow_entry, flow_members, flow_scalar, flow_node}
 use Rattle.yaml_lines.specs.Key.{key_at}
-use Rattle.yaml_blocks.specs.Blocks.{nothing_in, further, more_plain, plain_text, scalar_lines, block_scalar}
-use Rattle.yaml_blocks.specs.Reading.{element_in, value_in, head_in, lone_in, node_in, block_in}
-use Rattle.yaml_blocks.specs.Documents.{home, is_alive, code_at}
+use Rattle.yaml_blocks.specs.Blocks.{nothing_in, continuation, more_plain, plain_text, scalar_lines, block_scalar}
+use Rattle.yaml_blocks.specs.Reading.{element_in, item_key, key_in, entry_in, scalar_or_flow_in, node_in}
 use Rattle.yaml_blocks.proofs.Examples.{at, text_at, entry, answers}
 
 -- what each of some texts is answered
@@ -87,7 +86,7 @@ escapes : told
     ∷ (is_text (codes ""))
     ∷ (is_text (codes ""))
     ∷ (is_text (codes "\"")) ∷ [])
-unfolding line_texts lines_of documents_of parted is_parting is_marker skip_blanks carries_nothing ends_line indentation indent body is_void is_bare barred stray plain_len trimmed plain_front plain_rest value_within whole_of resolved single escape double block_text quoted behind_colon flow_key fresh_key after_element flow_element flow_elements flow_value flow_entry flow_members flow_scalar flow_node nothing_in key_at further more_plain plain_text scalar_lines block_scalar element_in value_in head_in lone_in node_in
+unfolding line_texts lines_of documents_of parted is_parting is_marker skip_blanks carries_nothing ends_line indentation indent body is_comment is_empty_line bad_start unexpected plain_len trimmed plain_front plain_rest value_within whole_of resolved single escape double block_text quoted behind_colon flow_key fresh_key after_element flow_element flow_elements flow_value flow_entry flow_members flow_scalar flow_node nothing_in key_at continuation more_plain plain_text scalar_lines block_scalar element_in item_key key_in entry_in scalar_or_flow_in node_in
 escapes = refl
 
 -- Each word for null and for a truth value, and words that are texts (YAML 1.2, 10.3.2).
@@ -132,7 +131,7 @@ words : told
     ∷ (is_text (codes "true"))
     ∷ (is_text (codes "null"))
     ∷ (is_text (codes "7")) ∷ [])
-unfolding line_texts lines_of documents_of parted is_parting is_marker skip_blanks carries_nothing ends_line indentation indent body is_void is_bare barred stray plain_len trimmed plain_front plain_rest value_within whole_of resolved single escape double block_text quoted behind_colon flow_key fresh_key after_element flow_element flow_elements flow_value flow_entry flow_members flow_scalar flow_node nothing_in key_at further more_plain plain_text scalar_lines block_scalar element_in value_in head_in lone_in node_in
+unfolding line_texts lines_of documents_of parted is_parting is_marker skip_blanks carries_nothing ends_line indentation indent body is_comment is_empty_line bad_start unexpected plain_len trimmed plain_front plain_rest value_within whole_of resolved single escape double block_text quoted behind_colon flow_key fresh_key after_element flow_element flow_elements flow_value flow_entry flow_members flow_scalar flow_node nothing_in key_at continuation more_plain plain_text scalar_lines block_scalar element_in item_key key_in entry_in scalar_or_flow_in node_in
 words = refl
 
 -- Whole numbers fit 64 bits; all else is a text (YAML 1.2, 10.3.2).
@@ -171,7 +170,7 @@ numbers : told
     ∷ (is_text (codes "/0"))
     ∷ (is_text (codes "1:0"))
     ∷ (is_text (codes "0o7")) ∷ [])
-unfolding line_texts lines_of documents_of parted is_parting is_marker skip_blanks carries_nothing ends_line indentation indent body is_void is_bare barred stray plain_len trimmed plain_front plain_rest value_within whole_of resolved single escape double block_text quoted behind_colon flow_key fresh_key after_element flow_element flow_elements flow_value flow_entry flow_members flow_scalar flow_node nothing_in key_at further more_plain plain_text scalar_lines block_scalar element_in value_in head_in lone_in node_in
+unfolding line_texts lines_of documents_of parted is_parting is_marker skip_blanks carries_nothing ends_line indentation indent body is_comment is_empty_line bad_start unexpected plain_len trimmed plain_front plain_rest value_within whole_of resolved single escape double block_text quoted behind_colon flow_key fresh_key after_element flow_element flow_elements flow_value flow_entry flow_members flow_scalar flow_node nothing_in key_at continuation more_plain plain_text scalar_lines block_scalar element_in item_key key_in entry_in scalar_or_flow_in node_in
 numbers = refl
 
 -- Folded lines, lines that begin with a blank, empty ones, and what stays at the end (YAML 1.2, 8.1.1.2 and 8.1.3).
@@ -220,7 +219,7 @@ folds : told
     ∷ (at_a (text_at 1 4 (codes "b\n\nc d")))
     ∷ (at_a (text_at 1 4 (codes "b c")))
     ∷ (at_a (text_at 1 4 (codes "b"))) ∷ [])
-unfolding line_texts lines_of documents_of parted is_parting is_marker skip_blanks carries_nothing ends_line indentation indent body is_void is_bare barred stray plain_len trimmed plain_front plain_rest value_within whole_of resolved single escape double block_text quoted behind_colon flow_key fresh_key after_element flow_element flow_elements flow_value flow_entry flow_members flow_scalar flow_node nothing_in key_at further more_plain plain_text scalar_lines block_scalar element_in value_in head_in lone_in node_in
+unfolding line_texts lines_of documents_of parted is_parting is_marker skip_blanks carries_nothing ends_line indentation indent body is_comment is_empty_line bad_start unexpected plain_len trimmed plain_front plain_rest value_within whole_of resolved single escape double block_text quoted behind_colon flow_key fresh_key after_element flow_element flow_elements flow_value flow_entry flow_members flow_scalar flow_node nothing_in key_at continuation more_plain plain_text scalar_lines block_scalar element_in item_key key_in entry_in scalar_or_flow_in node_in
 folds = refl
 
 -- Each place inside a flow collection where a reading stops (YAML 1.2, 7.4).
@@ -319,10 +318,10 @@ flows : told
     ∷ (tree (map (at 1 2) (entry 1 2 (codes "a") (text_at 1 6 (codes "b")) (entry 1 9 (codes "c") (scalar (at 1 9) null) (entry 1 14 (codes "d") (scalar (at 1 14) null) no_members)))) ∷ [])
     ∷ (tree (list (at 1 1) (element (text_at 1 2 (codes "a")) (element (text_at 1 6 (codes "b")) no_elements))) ∷ [])
     ∷ (tree (map (at 1 2) (entry 1 2 (codes "a") (map (at 1 5) no_members) (entry 1 9 (codes "b") (list (at 1 12) no_elements) no_members))) ∷ []) ∷ [])
-unfolding line_texts lines_of documents_of parted is_parting is_marker skip_blanks carries_nothing ends_line indentation indent body is_void is_bare barred stray plain_len trimmed plain_front plain_rest value_within whole_of resolved single escape double block_text quoted behind_colon flow_key fresh_key after_element flow_element flow_elements flow_value flow_entry flow_members flow_scalar flow_node nothing_in key_at further more_plain plain_text scalar_lines block_scalar element_in value_in head_in lone_in node_in
+unfolding line_texts lines_of documents_of parted is_parting is_marker skip_blanks carries_nothing ends_line indentation indent body is_comment is_empty_line bad_start unexpected plain_len trimmed plain_front plain_rest value_within whole_of resolved single escape double block_text quoted behind_colon flow_key fresh_key after_element flow_element flow_elements flow_value flow_entry flow_members flow_scalar flow_node nothing_in key_at continuation more_plain plain_text scalar_lines block_scalar element_in item_key key_in entry_in scalar_or_flow_in node_in
 flows = refl
 
--- Where quotes, the heads of block scalars and lone scalars stop (YAML 1.2, 7.3 and 8.1.1).
+-- Where quotes, the headers of block scalars and scalars that stand alone stop (YAML 1.2, 7.3 and 8.1.1).
 quotes_and_heads : told
     (codes "'a"
     ∷ codes "'a'b"
@@ -398,7 +397,7 @@ quotes_and_heads : told
     ∷ (is_text (codes ":a"))
     ∷ (is_text (codes "a#b"))
     ∷ (is_text (codes "a")) ∷ [])
-unfolding line_texts lines_of documents_of parted is_parting is_marker skip_blanks carries_nothing ends_line indentation indent body is_void is_bare barred stray plain_len trimmed plain_front plain_rest value_within whole_of resolved single escape double block_text quoted behind_colon flow_key fresh_key after_element flow_element flow_elements flow_value flow_entry flow_members flow_scalar flow_node nothing_in key_at further more_plain plain_text scalar_lines block_scalar element_in value_in head_in lone_in node_in
+unfolding line_texts lines_of documents_of parted is_parting is_marker skip_blanks carries_nothing ends_line indentation indent body is_comment is_empty_line bad_start unexpected plain_len trimmed plain_front plain_rest value_within whole_of resolved single escape double block_text quoted behind_colon flow_key fresh_key after_element flow_element flow_elements flow_value flow_entry flow_members flow_scalar flow_node nothing_in key_at continuation more_plain plain_text scalar_lines block_scalar element_in item_key key_in entry_in scalar_or_flow_in node_in
 quotes_and_heads = refl
 
 -- Where blocks stop: another indentation, another kind of item, a tab, a line behind a value (YAML 1.2, 8.2).
@@ -445,5 +444,5 @@ blocks : told
     ∷ (at_a (text_at 4 3 (codes "c")))
     ∷ (at_a (list (at 2 1) (element (text_at 2 3 (codes "b")) no_elements)))
     ∷ (tree (list (at 1 1) (element (list (at 1 3) (element (list (at 1 5) (element (text_at 1 7 (codes "a")) no_elements)) no_elements)) no_elements)) ∷ []) ∷ [])
-unfolding line_texts lines_of documents_of parted is_parting is_marker skip_blanks carries_nothing ends_line indentation indent body is_void is_bare barred stray plain_len trimmed plain_front plain_rest value_within whole_of resolved single escape double block_text quoted behind_colon flow_key fresh_key after_element flow_element flow_elements flow_value flow_entry flow_members flow_scalar flow_node nothing_in key_at further more_plain plain_text scalar_lines block_scalar element_in value_in head_in lone_in node_in
+unfolding line_texts lines_of documents_of parted is_parting is_marker skip_blanks carries_nothing ends_line indentation indent body is_comment is_empty_line bad_start unexpected plain_len trimmed plain_front plain_rest value_within whole_of resolved single escape double block_text quoted behind_colon flow_key fresh_key after_element flow_element flow_elements flow_value flow_entry flow_members flow_scalar flow_node nothing_in key_at continuation more_plain plain_text scalar_lines block_scalar element_in item_key key_in entry_in scalar_or_flow_in node_in
 blocks = refl

@@ -6,8 +6,8 @@ use Rattle.std.proofs.Math.Seq.{take-suc}
 use Rattle.std.proofs.lemmas.List.{drop_more, at_drop_all, length-take-le}
 use Rattle.std.proofs.lemmas.Bool.Decides.{nat_tests}
 use Rattle.yaml_lines.specs.File.{is_blank, is_empty}
-use Rattle.yaml_lines.specs.Scalar.{drop_empty, literal, joint, begins_blank, fold_from, folded, Ending, ending, block_text}
-use Rattle.yaml_blocks.specs.Endings.{texts_view, add_text, kept_text}
+use Rattle.yaml_lines.specs.Scalar.{drop_empty, literal, joint, begins_blank, fold_from, folded, Chomping, chomped, block_text}
+use Rattle.yaml_blocks.specs.Chompings.{texts_view, add_text, kept_text}
 
 pub map_push : {A B : Type 0} (f : A → B) (xs : List A) (x : A) → list_map f (xs ++ x ∷ []) ≡ list_map f xs ++ f x ∷ []
 map_push f [] x = refl
@@ -141,11 +141,11 @@ length_view [] = refl
 length_view (x ∷ xs) = ap suc (length_view xs)
 
 -- the text of a block scalar, by how many of its lines are kept
-pub block_text_by : (is_folded : Bool) (e : Ending) (xs : List (Bor (List ℕ))) (n : ℕ) → texts_view (take n xs) ≡ drop_empty (texts_view xs) → n ≤ length xs
-    → kept_text is_folded (texts_view (take n xs)) ++ ending e (nat_lt 0 n) (length xs - n) ≡ block_text is_folded e (texts_view xs)
+pub block_text_by : (is_folded : Bool) (e : Chomping) (xs : List (Bor (List ℕ))) (n : ℕ) → texts_view (take n xs) ≡ drop_empty (texts_view xs) → n ≤ length xs
+    → kept_text is_folded (texts_view (take n xs)) ++ chomped e (nat_lt 0 n) (length xs - n) ≡ block_text is_folded e (texts_view xs)
 unfolding block_text
 block_text_by is_folded e xs n kept within =
     let len : n ≡ length (drop_empty (texts_view xs)) = sym (sym (ap length kept) ∙ (length_view (take n xs) ∙ length-take-le n xs within)) in
-    ap (λ (ts : List (List ℕ)). kept_text is_folded ts ++ ending e (nat_lt 0 n) (length xs - n)) kept
-    ∙ (ap (λ (k : ℕ). kept_text is_folded (drop_empty (texts_view xs)) ++ ending e (nat_lt 0 k) (length xs - k)) len
-    ∙ ap (λ (k : ℕ). kept_text is_folded (drop_empty (texts_view xs)) ++ ending e (nat_lt 0 (length (drop_empty (texts_view xs)))) (k - length (drop_empty (texts_view xs)))) (sym (length_view xs)))
+    ap (λ (ts : List (List ℕ)). kept_text is_folded ts ++ chomped e (nat_lt 0 n) (length xs - n)) kept
+    ∙ (ap (λ (k : ℕ). kept_text is_folded (drop_empty (texts_view xs)) ++ chomped e (nat_lt 0 k) (length xs - k)) len
+    ∙ ap (λ (k : ℕ). kept_text is_folded (drop_empty (texts_view xs)) ++ chomped e (nat_lt 0 (length (drop_empty (texts_view xs)))) (k - length (drop_empty (texts_view xs)))) (sym (length_view xs)))

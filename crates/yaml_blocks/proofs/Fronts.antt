@@ -7,7 +7,7 @@ use Rattle.std.proofs.lemmas.Bool.Decides.{nat_tests}
 use Rattle.yaml_lines.specs.declared.line.Line as code
 use Rattle.yaml_lines.specs.File.{Line}
 use Rattle.yaml_lines.specs.View.{line_view}
-use Rattle.yaml_lines.specs.Line.{indent, is_bare}
+use Rattle.yaml_lines.specs.Line.{indent, is_empty_line}
 use Rattle.yaml_blocks.specs.Blocks.{front_while, rest_while, first_indent, is_content, content, lines_at, scalar_lines}
 use Rattle.yaml_blocks.specs.Contents.{none_of_line, ScalarLines}
 use Rattle.yaml_blocks.specs.Views.{lines_view}
@@ -70,11 +70,11 @@ texts_turn f old now grown xs i x h x_is e g =
 
 -- ---- a block scalar's lines
 
-pub scalar_none : (m : ℕ) (xs : List code.Line) (n : ℕ) (texts : List (List ℕ)) → lines_view (take n xs) ≡ front_while is_bare (lines_view xs) → lines_view (drop n xs) ≡ rest_while is_bare (lines_view xs) → n ≤ length xs
+pub scalar_none : (m : ℕ) (xs : List code.Line) (n : ℕ) (texts : List (List ℕ)) → lines_view (take n xs) ≡ front_while is_empty_line (lines_view xs) → lines_view (drop n xs) ≡ rest_while is_empty_line (lines_view xs) → n ≤ length xs
     → texts ≡ list_map none_of_line (lines_view (take n xs)) → lines_view (drop n xs) ≡ [] → ScalarLines m xs texts n
 unfolding scalar_lines
 scalar_none m xs n texts front rest within e none =
-    let over : rest_while is_bare (lines_view xs) ≡ [] = sym rest ∙ none in
+    let over : rest_while is_empty_line (lines_view xs) ≡ [] = sym rest ∙ none in
     record { texts_are = rw over (e ∙ ap (list_map none_of_line) front); behind = rw over none; within = within }
 
 lines_less : (m : ℕ) (front : List Line) (x : Line) (rest : List Line) → nat_lt (indent x) m ≡ true → lines_at m (first_indent (x ∷ rest)) front (x ∷ rest) ≡ (list_map none_of_line front, x ∷ rest)
@@ -85,11 +85,11 @@ lines_some : (m : ℕ) (front : List Line) (x : Line) (rest : List Line) → nat
     ≡ (list_map none_of_line front ++ list_map (content (indent x)) (front_while (is_content (indent x)) (x ∷ rest)), rest_while (is_content (indent x)) (x ∷ rest))
 lines_some m front x rest e = rw e refl
 
-scalar_eq : (m : ℕ) (all front rest : List Line) (x : Line) (more : List Line) → front ≡ front_while is_bare all → rest ≡ rest_while is_bare all → rest ≡ x ∷ more
+scalar_eq : (m : ℕ) (all front rest : List Line) (x : Line) (more : List Line) → front ≡ front_while is_empty_line all → rest ≡ rest_while is_empty_line all → rest ≡ x ∷ more
     → scalar_lines m all ≡ lines_at m (first_indent (x ∷ more)) front (x ∷ more)
 unfolding scalar_lines
 scalar_eq m all front rest x more front_is rest_is shape =
-    ap (λ (r : List Line). lines_at m (first_indent r) (front_while is_bare all) r) (sym rest_is ∙ shape)
+    ap (λ (r : List Line). lines_at m (first_indent r) (front_while is_empty_line all) r) (sym rest_is ∙ shape)
     ∙ ap (λ (f : List Line). lines_at m (first_indent (x ∷ more)) f (x ∷ more)) (sym front_is)
 
 pub view_empty : (ys : List code.Line) → (length ys == 0) ≡ true → lines_view ys ≡ []
@@ -101,7 +101,7 @@ view_first [] x e x_is = cc
 view_first (y ∷ ys) x e x_is = ap (λ (z : code.Line). line_view z ∷ lines_view ys) (sym x_is)
 
 pub scalar_less : (m : ℕ) (xs : List code.Line) (n : ℕ) (texts : List (List ℕ)) (x : code.Line) (more : List Line)
-    → lines_view (take n xs) ≡ front_while is_bare (lines_view xs) → lines_view (drop n xs) ≡ rest_while is_bare (lines_view xs) → n ≤ length xs
+    → lines_view (take n xs) ≡ front_while is_empty_line (lines_view xs) → lines_view (drop n xs) ≡ rest_while is_empty_line (lines_view xs) → n ≤ length xs
     → texts ≡ list_map none_of_line (lines_view (take n xs)) → lines_view (drop n xs) ≡ line_view x ∷ more → nat_lt (indent (line_view x)) m ≡ true → ScalarLines m xs texts n
 scalar_less m xs n texts x more front rest within e shape less =
     let whole = scalar_eq m (lines_view xs) (lines_view (take n xs)) (lines_view (drop n xs)) (line_view x) more front rest shape ∙ lines_less m (lines_view (take n xs)) (line_view x) more less in
@@ -112,7 +112,7 @@ scalar_less m xs n texts x more front rest within e shape less =
     }
 
 pub scalar_some : (m : ℕ) (xs ys : List code.Line) (n k inner : ℕ) (first texts : List (List ℕ)) (x : code.Line) (more : List Line)
-    → lines_view (take n xs) ≡ front_while is_bare (lines_view xs) → lines_view (drop n xs) ≡ rest_while is_bare (lines_view xs) → n ≤ length xs
+    → lines_view (take n xs) ≡ front_while is_empty_line (lines_view xs) → lines_view (drop n xs) ≡ rest_while is_empty_line (lines_view xs) → n ≤ length xs
     → first ≡ list_map none_of_line (lines_view (take n xs)) → ys ≡ drop n xs → lines_view (drop n xs) ≡ line_view x ∷ more → inner ≡ indent (line_view x) → nat_lt (indent (line_view x)) m ≡ false
     → lines_view (take k ys) ≡ front_while (is_content inner) (lines_view ys) → lines_view (drop k ys) ≡ rest_while (is_content inner) (lines_view ys) → k ≤ length ys
     → texts ≡ first ++ list_map (content inner) (lines_view (take k ys)) → ScalarLines m xs texts (n + k)

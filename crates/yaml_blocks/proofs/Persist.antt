@@ -3,13 +3,13 @@ use Rattle.std.proofs.Common.{◌≡◌, ℕ, zero, suc, Bool, true, false, not,
 use Rattle.std.specs.Prelude.{map as list_map}
 use Rattle.yaml_tree.specs.Tree.{At, list, map, Elements, Members}
 use Rattle.yaml_lines.specs.File.{Line, is_empty, begins, carries_nothing, ends_line}
-use Rattle.yaml_lines.specs.Line.{spot, Stop, Read, ◌>>=◌, indent, body, barred, is_void, is_bare, is_dash, is_left_out, starts_plain, plain_rest}
+use Rattle.yaml_lines.specs.Line.{spot, Stop, Read, ◌>>=◌, indent, body, bad_start, is_comment, is_empty_line, is_dash, is_left_out, starts_plain, plain_rest}
 use Rattle.yaml_lines.specs.Flow.{quoted, is_quote, is_bracket, flow_node}
-use Rattle.yaml_blocks.specs.Blocks.{rest_while, front_while, skip_void, nothing_from, nothing_in, Parts, put_line, inside, divide, alone, Further, empty_line, comment_line, text_line, last_line, further, add_line, more_plain, plain_text, head_of, first_indent, is_content, lines_at, scalar_lines, block_scalar}
-use Rattle.yaml_blocks.specs.Reading.{Item, item_of, items_of, offset, is_level, element_in, elements_in, value_in, head_in, entries_in, lone_in, node_in, block_from, block_with, block_in, too_deep}
+use Rattle.yaml_blocks.specs.Blocks.{rest_while, front_while, skip_comments, nothing_from, nothing_in, Parts, put_line, inside, divide, alone, Continuation, empty_line, comment_line, text_line, last_line, continuation, add_line, more_plain, plain_text, header_of, first_indent, is_content, lines_at, scalar_lines, block_scalar}
+use Rattle.yaml_blocks.specs.Reading.{Item, item_of, items_of, offset, is_level, key_in, behind_in, element_in, elements_in, entry_in, entries_in, scalar_or_flow_in, node_in, block_from, block_with, block_in, too_deep}
 use Rattle.yaml_blocks.proofs.Tools.{choose, bind_err}
 use Rattle.yaml_blocks.proofs.Cases.{lists, maps, node_cases}
-use Rattle.yaml_blocks.proofs.Complete.{node_lone, node_list, node_map}
+use Rattle.yaml_blocks.proofs.Complete.{node_scalar_or_flow, node_list, node_map}
 
 -- ---- lines behind lines
 
@@ -23,10 +23,10 @@ rest_more p (l ∷ ls) b x xs e =
 
 nothing_more : (a b : List Line) (s : Stop) → nothing_in a ≡ Err s → nothing_in (a ++ b) ≡ Err s
 unfolding nothing_in
-nothing_more a b s e = by (skip_void a) refl e where
-  by : (xs : List Line) → skip_void a ≡ xs → nothing_from xs ≡ Err s → nothing_from (skip_void (a ++ b)) ≡ Err s
+nothing_more a b s e = by (skip_comments a) refl e where
+  by : (xs : List Line) → skip_comments a ≡ xs → nothing_from xs ≡ Err s → nothing_from (skip_comments (a ++ b)) ≡ Err s
   by [] is e = cc
-  by (x ∷ xs) is e = rw (rest_more is_void a b x xs is) e
+  by (x ∷ xs) is e = rw (rest_more is_comment a b x xs is) e
 
 alone_more : {A : Type 0} (l : Line) (rest : List ℕ) (a b : List Line) (x : A) (s : Stop) → alone l rest a x ≡ Err s → alone l rest (a ++ b) x ≡ Err s
 alone_more l rest a b x s e =
@@ -40,7 +40,7 @@ alone_more l rest a b x s e =
 
 -- ---- scalars over lines
 
-add_line_more : (n : ℕ) (f : Further) (e e2 b b2 : Read (List ℕ)) (o o2 : Read (Unit {0})) (s : Stop)
+add_line_more : (n : ℕ) (f : Continuation) (e e2 b b2 : Read (List ℕ)) (o o2 : Read (Unit {0})) (s : Stop)
     → (e ≡ Err s → e2 ≡ Err s) → (b ≡ Err s → b2 ≡ Err s) → (o ≡ Err s → o2 ≡ Err s) → add_line n f e b o ≡ Err s → add_line n f e2 b2 o2 ≡ Err s
 add_line_more n empty_line e e2 b b2 o o2 s empty behind ended h = empty h
 add_line_more n comment_line e e2 b b2 o o2 s empty behind ended h = elim (bind_err o _ s h) [ inl g ↦ rw (ended g) refl | inr g ↦ cc ]
@@ -51,7 +51,7 @@ more_plain_more : (m n : ℕ) (a b : List Line) (s : Stop) → more_plain m n a 
 unfolding more_plain
 more_plain_more m n [] b s e = cc
 more_plain_more m n (l ∷ ls) b s e =
-    elim (bind_err (further m l) _ s e) [
+    elim (bind_err (continuation m l) _ s e) [
       | inl h ↦ rw h refl
       | inr h ↦
           rw h.1
@@ -80,20 +80,20 @@ behind_more p a b s e = by (rest_while p a) refl e where
 
 lines_more : (m : ℕ) (a b : List Line) (s : Stop) → nothing_in (scalar_lines m a).1 ≡ Err s → nothing_in (scalar_lines m (a ++ b)).1 ≡ Err s
 unfolding scalar_lines nothing_in
-lines_more m a b s e = by (rest_while is_bare a) refl e where
+lines_more m a b s e = by (rest_while is_empty_line a) refl e where
   at : (i : ℕ) (f g : List Line) (x : Line) (xs : List Line) (t : Bool) → nat_lt i m ≡ t → nothing_in (lines_at m (Some i) f (x ∷ xs)).1 ≡ Err s → nothing_in (lines_at m (Some i) g (x ∷ (xs ++ b))).1 ≡ Err s
   at i f g x xs true h e = rw h (nothing_more (x ∷ xs) b s (rw h at e))
   at i f g x xs false h e = rw h (behind_more (is_content i) (x ∷ xs) b s (rw h at e))
 
-  by : (xs : List Line) → rest_while is_bare a ≡ xs → nothing_in (lines_at m (first_indent xs) (front_while is_bare a) xs).1 ≡ Err s
-      → nothing_in (lines_at m (first_indent (rest_while is_bare (a ++ b))) (front_while is_bare (a ++ b)) (rest_while is_bare (a ++ b))).1 ≡ Err s
+  by : (xs : List Line) → rest_while is_empty_line a ≡ xs → nothing_in (lines_at m (first_indent xs) (front_while is_empty_line a) xs).1 ≡ Err s
+      → nothing_in (lines_at m (first_indent (rest_while is_empty_line (a ++ b))) (front_while is_empty_line (a ++ b)) (rest_while is_empty_line (a ++ b))).1 ≡ Err s
   by [] is e = cc
-  by (x ∷ xs) is e = rw (rest_more is_bare a b x xs is) (at (indent x) (front_while is_bare a) (front_while is_bare (a ++ b)) x xs (nat_lt (indent x) m) refl e)
+  by (x ∷ xs) is e = rw (rest_more is_empty_line a b x xs is) (at (indent x) (front_while is_empty_line a) (front_while is_empty_line (a ++ b)) x xs (nat_lt (indent x) m) refl e)
 
 block_scalar_more : (m : ℕ) (l : Line) (cs : List ℕ) (a b : List Line) (s : Stop) → block_scalar m l cs a ≡ Err s → block_scalar m l cs (a ++ b) ≡ Err s
 unfolding block_scalar
 block_scalar_more m l cs a b s e =
-    elim (bind_err (head_of l (drop 1 cs)) _ s e) [
+    elim (bind_err (header_of l (drop 1 cs)) _ s e) [
       | inl h ↦ rw h refl
       | inr h ↦ elim (bind_err (nothing_in (scalar_lines m a).1) _ s h.2) [
         | inl g ↦ rw (h.1, lines_more m a b s g) refl
@@ -101,9 +101,9 @@ block_scalar_more m l cs a b s e =
       ]
     ]
 
-lone_more : (d m : ℕ) (l : Line) (cs : List ℕ) (a b : List Line) (s : Stop) → lone_in d m l cs a ≡ Err s → lone_in d m l cs (a ++ b) ≡ Err s
-unfolding lone_in
-lone_more d m l cs a b s e =
+scalar_or_flow_more : (d m : ℕ) (l : Line) (cs : List ℕ) (a b : List Line) (s : Stop) → scalar_or_flow_in d m l cs a ≡ Err s → scalar_or_flow_in d m l cs (a ++ b) ≡ Err s
+unfolding scalar_or_flow_in
+scalar_or_flow_more d m l cs a b s e =
     elim (choose (is_left_out cs || (begins 37 cs && offset l cs == 0)) _ _ _ e) [
       | inl h ↦ rw h.0 h.1
       | inr left ↦
@@ -175,12 +175,12 @@ abbrev NodesPersist : ℕ → Type 0
 NodesPersist d = (may : Bool) (m : ℕ) (l : Line) (cs : List ℕ) (a b : List Line) (s : Stop) → node_in d may m l cs a ≡ Err s → node_in d may m l cs (a ++ b) ≡ Err s
 
 block_more : (d : ℕ) → NodesPersist d → (m : ℕ) (home : At) (a b : List Line) (s : Stop) → block_with (node_in d) m home a ≡ Err s → block_with (node_in d) m home (a ++ b) ≡ Err s
-block_more d persist m home a b s e = by (skip_void a) refl e where
-  by : (xs : List Line) → skip_void a ≡ xs → block_from (node_in d) m home xs ≡ Err s → block_from (node_in d) m home (skip_void (a ++ b)) ≡ Err s
+block_more d persist m home a b s e = by (skip_comments a) refl e where
+  by : (xs : List Line) → skip_comments a ≡ xs → block_from (node_in d) m home xs ≡ Err s → block_from (node_in d) m home (skip_comments (a ++ b)) ≡ Err s
   by [] is e = cc
   by (x ∷ xs) is e =
-      rw (rest_more is_void a b x xs is)
-      (elim (choose (is_some (barred x)) _ _ _ e) [
+      rw (rest_more is_comment a b x xs is)
+      (elim (choose (is_some (bad_start x)) _ _ _ e) [
         | inl h ↦ rw h.0 h.1
         | inr h ↦ rw h.0 (persist true m x (body x) xs b s h.1)
       ])
@@ -189,72 +189,68 @@ element_more : (d : ℕ) → NodesPersist d → (i : ℕ) (x : Item) (lead : Lis
     → element_in (block_with (node_in d)) (node_in d) i (record x { inner = x.inner ++ lead }) ≡ Err s
 unfolding element_in
 element_more d persist i x lead s e =
-    elim (choose (carries_nothing (drop 1 x.text)) _ _ _ e) [
-      | inl h ↦ rw h.0 (block_more d persist _ _ x.inner lead s h.1)
-      | inr h ↦ rw h.0 (persist _ _ _ _ x.inner lead s h.1)
+    elim (choose (is_some (bad_start x.line)) _ _ _ e) [
+      | inl h ↦ rw h.0 h.1
+      | inr bar ↦
+          elim (choose (not (is_level i x && is_dash x.text)) _ _ _ bar.1) [
+            | inl h ↦ rw (bar.0, h.0) h.1
+            | inr dash ↦
+                elim (choose (carries_nothing (drop 1 x.text)) _ _ _ dash.1) [
+                  | inl h ↦ rw (bar.0, dash.0, h.0) (block_more d persist _ _ x.inner lead s h.1)
+                  | inr h ↦ rw (bar.0, dash.0, h.0) (persist _ _ _ _ x.inner lead s h.1)
+                ]
+          ]
     ]
 
-value_more : (d : ℕ) → NodesPersist d → (i : ℕ) (x : Item) (rest : List ℕ) (lead : List Line) (s : Stop) → value_in (block_with (node_in d)) (node_in d) i x rest ≡ Err s
-    → value_in (block_with (node_in d)) (node_in d) i (record x { inner = x.inner ++ lead }) rest ≡ Err s
-unfolding value_in
-value_more d persist i x rest lead s e =
+behind_more_lines : (d : ℕ) → NodesPersist d → (may : Bool) (i : ℕ) (home : At) (l : Line) (rest : List ℕ) (a lead : List Line) (s : Stop)
+    → behind_in (block_with (node_in d)) (node_in d) may i home l rest a ≡ Err s → behind_in (block_with (node_in d)) (node_in d) may i home l rest (a ++ lead) ≡ Err s
+behind_more_lines d persist may i home l rest a lead s e =
     elim (choose (carries_nothing rest) _ _ _ e) [
-      | inl h ↦ rw h.0 (block_more d persist _ _ x.inner lead s h.1)
-      | inr h ↦ rw h.0 (persist _ _ _ _ x.inner lead s h.1)
+      | inl h ↦ rw h.0 (block_more d persist _ _ a lead s h.1)
+      | inr h ↦ rw h.0 (persist _ _ _ _ a lead s h.1)
+    ]
+
+entry_more : (d : ℕ) → NodesPersist d → (i : ℕ) (seen : List (List ℕ)) (x : Item) (lead : List Line) (s : Stop) → entry_in (block_with (node_in d)) (node_in d) i seen x ≡ Err s
+    → entry_in (block_with (node_in d)) (node_in d) i seen (record x { inner = x.inner ++ lead }) ≡ Err s
+unfolding entry_in
+entry_more d persist i seen x lead s e =
+    elim (bind_err (key_in i seen x.line x.text) _ s e) [
+      | inl h ↦ rw h refl
+      | inr h ↦ elim (bind_err (behind_in (block_with (node_in d)) (node_in d) false i (spot x.line x.text) x.line h.0.1 x.inner) _ s h.2) [
+        | inl g ↦ rw (h.1, behind_more_lines d persist false i (spot x.line x.text) x.line h.0.1 x.inner lead s g) refl
+        | inr g ↦ cc
+      ]
     ]
 
 elements_more : (d : ℕ) → NodesPersist d → (i : ℕ) (x : Item) (xs : List Item) (lead : List Line) (others : List Item) (s : Stop)
     → elements_in (block_with (node_in d)) (node_in d) i (x ∷ xs) ≡ Err s → elements_in (block_with (node_in d)) (node_in d) i (grown x xs lead others) ≡ Err s
 elements_more d persist i x [] lead others s e =
-    elim (choose (is_some (barred x.line)) _ _ _ e) [
-      | inl h ↦ rw h.0 h.1
-      | inr bar ↦
-          elim (choose (not (is_level i x && is_dash x.text)) _ _ _ bar.1) [
-            | inl h ↦ rw (bar.0, h.0) h.1
-            | inr dash ↦
-                elim (bind_err (element_in (block_with (node_in d)) (node_in d) i x) _ s dash.1) [
-                  | inl g ↦ rw (bar.0, dash.0, element_more d persist i x lead s g) refl
-                  | inr g ↦ cc
-                ]
-          ]
+    elim (bind_err (element_in (block_with (node_in d)) (node_in d) i x) _ s e) [
+      | inl g ↦ rw (element_more d persist i x lead s g) refl
+      | inr g ↦ cc
     ]
 elements_more d persist i x (y ∷ ys) lead others s e =
-    elim (choose (is_some (barred x.line)) _ _ _ e) [
-      | inl h ↦ rw h.0 h.1
-      | inr bar ↦
-          elim (choose (not (is_level i x && is_dash x.text)) _ _ _ bar.1) [
-            | inl h ↦ rw (bar.0, h.0) h.1
-            | inr dash ↦
-                elim (bind_err (element_in (block_with (node_in d)) (node_in d) i x) _ s dash.1) [
-                  | inl g ↦ rw (bar.0, dash.0, g) refl
-                  | inr g ↦ elim (bind_err (elements_in (block_with (node_in d)) (node_in d) i (y ∷ ys)) _ s g.2) [
-                    | inl f ↦ rw (bar.0, dash.0, g.1, elements_more d persist i y ys lead others s f) refl
-                    | inr f ↦ cc
-                  ]
-                ]
-          ]
+    elim (bind_err (element_in (block_with (node_in d)) (node_in d) i x) _ s e) [
+      | inl g ↦ rw g refl
+      | inr g ↦ elim (bind_err (elements_in (block_with (node_in d)) (node_in d) i (y ∷ ys)) _ s g.2) [
+        | inl f ↦ rw (g.1, elements_more d persist i y ys lead others s f) refl
+        | inr f ↦ cc
+      ]
     ]
 
 entries_more : (d : ℕ) → NodesPersist d → (i : ℕ) (seen : List (List ℕ)) (x : Item) (xs : List Item) (lead : List Line) (others : List Item) (s : Stop)
     → entries_in (block_with (node_in d)) (node_in d) i seen (x ∷ xs) ≡ Err s → entries_in (block_with (node_in d)) (node_in d) i seen (grown x xs lead others) ≡ Err s
-unfolding head_in
 entries_more d persist i seen x [] lead others s e =
-    elim (bind_err (head_in (block_with (node_in d)) (node_in d) i seen x) _ s e) [
-      | inl h ↦ rw h refl
-      | inr h ↦ elim (bind_err (value_in (block_with (node_in d)) (node_in d) i x h.0.1) _ s h.2) [
-        | inl g ↦ rw (h.1, value_more d persist i x h.0.1 lead s g) refl
-        | inr g ↦ cc
-      ]
+    elim (bind_err (entry_in (block_with (node_in d)) (node_in d) i seen x) _ s e) [
+      | inl g ↦ rw (entry_more d persist i seen x lead s g) refl
+      | inr g ↦ cc
     ]
 entries_more d persist i seen x (y ∷ ys) lead others s e =
-    elim (bind_err (head_in (block_with (node_in d)) (node_in d) i seen x) _ s e) [
-      | inl h ↦ rw h refl
-      | inr h ↦ elim (bind_err (value_in (block_with (node_in d)) (node_in d) i x h.0.1) _ s h.2) [
-        | inl g ↦ rw (h.1, g) refl
-        | inr g ↦ elim (bind_err (entries_in (block_with (node_in d)) (node_in d) i (seen ++ h.0.0 ∷ []) (y ∷ ys)) _ s g.2) [
-          | inl f ↦ rw (h.1, g.1, entries_more d persist i (seen ++ h.0.0 ∷ []) y ys lead others s f) refl
-          | inr f ↦ cc
-        ]
+    elim (bind_err (entry_in (block_with (node_in d)) (node_in d) i seen x) _ s e) [
+      | inl g ↦ rw g refl
+      | inr g ↦ elim (bind_err (entries_in (block_with (node_in d)) (node_in d) i (seen ++ g.0.key ∷ []) (y ∷ ys)) _ s g.2) [
+        | inl f ↦ rw (g.1, entries_more d persist i (seen ++ g.0.key ∷ []) y ys lead others s f) refl
+        | inr f ↦ cc
       ]
     ]
 
@@ -264,14 +260,14 @@ pub nodes_persist : (d : ℕ) → NodesPersist d
 unfolding node_in
 nodes_persist zero may m l cs a b s e =
     elim (node_cases too_deep too_deep zero may m l cs a (Err s) e) [
-      | inl h ↦ node_lone too_deep too_deep zero may m l cs (a ++ b) h.0 ∙ lone_more zero m l cs a b s h.1
+      | inl h ↦ node_scalar_or_flow too_deep too_deep zero may m l cs (a ++ b) h.0 ∙ scalar_or_flow_more zero m l cs a b s h.1
       | inr (inl h) ↦ node_list too_deep too_deep zero may m l cs (a ++ b) (Err s) h.0 h.1 h.2
       | inr (inr (inl h)) ↦ node_map too_deep too_deep zero may m l cs (a ++ b) (Err s) h.2 h.3 h.0 h.1 h.4 h.5
       | inr (inr (inr h)) ↦ rw (h.0, h.1, h.3) h.4
     ]
 nodes_persist (suc d) may m l cs a b s e =
     elim (node_cases (lists d) (maps d) (suc d) may m l cs a (Err s) e) [
-      | inl h ↦ node_lone (lists d) (maps d) (suc d) may m l cs (a ++ b) h.0 ∙ lone_more (suc d) m l cs a b s h.1
+      | inl h ↦ node_scalar_or_flow (lists d) (maps d) (suc d) may m l cs (a ++ b) h.0 ∙ scalar_or_flow_more (suc d) m l cs a b s h.1
       | inr (inl h) ↦
           elim (bind_err (elements_in (block_with (node_in d)) (node_in d) (offset l cs) (items_of false l cs a)) _ s h.2) [
             | inl g ↦

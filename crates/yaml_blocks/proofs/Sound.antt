@@ -1,14 +1,14 @@
 -- What the blocks' reading gives is laid out in the lines.
-use Rattle.std.proofs.Common.{◌≡◌, ℕ, zero, suc, Bool, true, not, ◌&&◌, ◌||◌, ◌==◌, inl, inr, List, [], ◌∷◌, ◌++◌, drop, None, is_some, Ok, Err, refl, sym, subst}
-use Rattle.yaml_tree.specs.Tree.{At, Scalar, text, Tree, scalar, list, map, Elements, element, Members, no_members, member}
+use Rattle.std.proofs.Common.{◌≡◌, ℕ, zero, suc, Bool, true, false, not, ◌&&◌, ◌||◌, ◌==◌, inl, inr, List, [], ◌∷◌, ◌++◌, drop, None, is_some, Ok, Err, refl, sym, subst}
+use Rattle.yaml_tree.specs.Tree.{At, Scalar, text, Tree, scalar, list, map, Elements, element, Members, no_members, member, Member}
 use Rattle.yaml_lines.specs.File.{Line, begins, carries_nothing}
-use Rattle.yaml_lines.specs.Line.{spot, refused, unclosed, Read, body, barred, is_dash, is_left_out, starts_plain}
+use Rattle.yaml_lines.specs.Line.{spot, refused, unclosed, Read, body, bad_start, is_dash, is_left_out, starts_plain}
 use Rattle.yaml_lines.specs.Scalar.{resolved}
 use Rattle.yaml_lines.specs.Flow.{is_quote, is_bracket, flow_node, inside_open, front_map, map_from, Front, is_seen}
 use Rattle.yaml_lines.specs.Key.{Keyed, keyed, unkeyed, key_stop, key_at}
-use Rattle.yaml_blocks.specs.Blocks.{skip_void, alone}
-use Rattle.yaml_blocks.specs.Reading.{Item, offset, is_level, element_in, elements_in, value_in, new_key, head_in, entries_in, lone_in, node_in, block_from, block_with, block_in, too_deep}
-use Rattle.yaml_blocks.specs.Lays.{IsFlow, IsNoCollection, IsKeyed, LaysBlock, LaysElement, LaysValue, LaysNode, LaysElements, LaysMembers, Lays}
+use Rattle.yaml_blocks.specs.Blocks.{skip_comments, alone}
+use Rattle.yaml_blocks.specs.Reading.{Item, offset, is_level, key_of, item_key, key_in, behind_in, element_in, elements_in, entry_in, entries_in, scalar_or_flow_in, node_in, block_from, block_with, block_in, too_deep}
+use Rattle.yaml_blocks.specs.Lays.{IsFlow, IsNoCollection, IsDashed, IsKeyed, LaysBlock, LaysElement, LaysValue, LaysNode, LaysElements, LaysMembers, Lays}
 use Rattle.yaml_blocks.proofs.Tools.{choose, allowed, bind_ok, ok_same, either, neither, both, none_of, not_false}
 use Rattle.yaml_blocks.proofs.Cases.{lists, maps, node_cases, alone_ok}
 
@@ -52,9 +52,9 @@ flow_lays (map a ms) (suc d) may m l cs ls none h = inl (none, h)
 
 -- ---- what begins no block collection
 
-lone_sound : (d : ℕ) (may : Bool) (m : ℕ) (l : Line) (cs : List ℕ) (ls : List Line) (t : Tree) → IsNoCollection may l cs → lone_in d m l cs ls ≡ Ok t → LaysNode t d may m l cs ls
-unfolding lone_in
-lone_sound d may m l cs ls t none e =
+scalar_or_flow_sound : (d : ℕ) (may : Bool) (m : ℕ) (l : Line) (cs : List ℕ) (ls : List Line) (t : Tree) → IsNoCollection may l cs → scalar_or_flow_in d m l cs ls ≡ Ok t → LaysNode t d may m l cs ls
+unfolding scalar_or_flow_in
+scalar_or_flow_sound d may m l cs ls t none e =
     let P : Tree → Type 0 = λ t. LaysNode t d may m l cs ls in
     elim (choose (is_left_out cs || (begins 37 cs && offset l cs == 0)) _ _ _ e) [
       | inl left ↦ cc
@@ -94,67 +94,83 @@ NodesSound d = (may : Bool) (m : ℕ) (l : Line) (cs : List ℕ) (ls : List Line
 
 pub block_sound : (d : ℕ) → NodesSound d → (m : ℕ) (home : At) (ls : List Line) (t : Tree) → block_with (node_in d) m home ls ≡ Ok t
     → LaysBlock (λ may m l cs ls. LaysNode t d may m l cs ls) t m home ls
-block_sound d sound m home ls t e = by (skip_void ls) refl e where
-  by : (xs : List Line) → skip_void ls ≡ xs → block_from (node_in d) m home xs ≡ Ok t → LaysBlock (λ may m l cs ls. LaysNode t d may m l cs ls) t m home ls
+block_sound d sound m home ls t e = by (skip_comments ls) refl e where
+  by : (xs : List Line) → skip_comments ls ≡ xs → block_from (node_in d) m home xs ≡ Ok t → LaysBlock (λ may m l cs ls. LaysNode t d may m l cs ls) t m home ls
   by [] is e = inl (is, sym (ok_same _ _ e))
   by (first ∷ more) is e =
-      let (open_line, at) = allowed (is_some (barred first)) _ _ _ e in
+      let (open_line, at) = allowed (is_some (bad_start first)) _ _ _ e in
       inr (first, more, is, none_of _ open_line, sound true m first (body first) more t at)
 
 pub element_sound : (d : ℕ) → NodesSound d → (i : ℕ) (x : Item) (t : Tree) → element_in (block_with (node_in d)) (node_in d) i x ≡ Ok t
-    → LaysElement (λ may m l cs ls. LaysNode t d may m l cs ls) t i x
+    → IsDashed i x × LaysElement (λ may m l cs ls. LaysNode t d may m l cs ls) t i x
 unfolding element_in
 element_sound d sound i x t e =
-    elim (choose (carries_nothing (drop 1 x.text)) _ _ _ e) [
-      | inl h ↦ inl (h.0, block_sound d sound _ _ _ t h.1)
-      | inr h ↦ inr (h.0, sound _ _ _ _ _ t h.1)
-    ]
-
-pub value_sound : (d : ℕ) → NodesSound d → (i : ℕ) (x : Item) (rest : List ℕ) (t : Tree) → value_in (block_with (node_in d)) (node_in d) i x rest ≡ Ok t
-    → LaysValue (λ may m l cs ls. LaysNode t d may m l cs ls) t i x rest
-unfolding value_in
-value_sound d sound i x rest t e =
-    elim (choose (carries_nothing rest) _ _ _ e) [
-      | inl h ↦ inl (h.0, block_sound d sound _ _ _ t h.1)
-      | inr h ↦ inr (h.0, sound _ _ _ _ _ t h.1)
+    let (open_line, e1) = allowed (is_some (bad_start x.line)) _ _ _ e in
+    let (dash, e2) = allowed (not (is_level i x && is_dash x.text)) _ _ _ e1 in
+    let there = both _ _ (not_false _ dash) in
+    let dashed : IsDashed i x = record { open_line = none_of _ open_line; level = there.0; dash = there.1 } in
+    elim (choose (carries_nothing (drop 1 x.text)) _ _ _ e2) [
+      | inl h ↦ (dashed, inl (h.0, block_sound d sound _ _ _ t h.1))
+      | inr h ↦ (dashed, inr (h.0, sound _ _ _ _ _ t h.1))
     ]
 
 elements_sound : (d : ℕ) → NodesSound d → (i : ℕ) (xs : List Item) (es : Elements) → elements_in (block_with (node_in d)) (node_in d) i xs ≡ Ok es → LaysElements es d i xs
 elements_sound d sound i [] es e = subst (λ (es : Elements). LaysElements es d i []) (ok_same _ _ e) refl
 elements_sound d sound i (x ∷ xs) es e =
-    let (open_line, e1) = allowed (is_some (barred x.line)) _ _ _ e in
-    let (dash, e2) = allowed (not (is_level i x && is_dash x.text)) _ _ _ e1 in
-    let (t, at, e3) = bind_ok _ _ _ e2 in
-    let (ts, more, same) = bind_ok _ _ _ e3 in
-    let there = both _ _ (not_false _ dash) in
-    let laid : LaysElements (element t ts) d i (x ∷ xs) =
-    (x, xs, refl, record { open_line = none_of _ open_line; level = there.0; dash = there.1 }, element_sound d sound i x t at, elements_sound d sound i xs ts more) in
+    let (t, at, e1) = bind_ok (element_in (block_with (node_in d)) (node_in d) i x) _ es e in
+    let (ts, more, same) = bind_ok (elements_in (block_with (node_in d)) (node_in d) i xs) _ es e1 in
+    let first = element_sound d sound i x t at in
+    let laid : LaysElements (element t ts) d i (x ∷ xs) = (x, xs, refl, first.0, first.1, elements_sound d sound i xs ts more) in
     subst (λ (es : Elements). LaysElements es d i (x ∷ xs)) (ok_same _ _ same) laid
 
-pub head_ok : (block : ℕ → At → List Line → Read Tree) (node : Bool → ℕ → Line → List ℕ → List Line → Read Tree) (i : ℕ) (seen : List (List ℕ)) (x : Item) (k : List ℕ × List ℕ) → head_in block node i seen x ≡ Ok k → IsKeyed i seen k.0 k.1 (spot x.line x.text) x
-unfolding head_in
-head_ok block node i seen x k e =
-    let (open_line, e1) = allowed (is_some (barred x.line)) _ _ _ e in
+-- a key that is read stands at the indentation of its map
+pub item_key_ok : (i : ℕ) (x : Item) (k : List ℕ × List ℕ) → item_key i x.line x.text ≡ Ok k → (bad_start x.line ≡ None) × (is_level i x ≡ true) × (key_at x.line x.text ≡ keyed k.0 k.1)
+unfolding item_key
+item_key_ok i x k e =
+    let (open_line, e1) = allowed (is_some (bad_start x.line)) _ _ _ e in
     let (level, e2) = allowed (not (is_level i x)) _ _ _ e1 in
-    by (key_at x.line x.text) refl (none_of _ open_line) (not_false _ level) e2 where
-      by : (found : Keyed) → key_at x.line x.text ≡ found → barred x.line ≡ None → is_level i x ≡ true → new_key block node seen x found ≡ Ok k → IsKeyed i seen k.0 k.1 (spot x.line x.text) x
-      by (keyed name rest) at open_line level e =
-          let (fresh, same) = allowed (is_seen name seen) _ _ _ e in
-          let one = ok_same _ _ same in
-          subst (λ (k : List ℕ × List ℕ). IsKeyed i seen k.0 k.1 (spot x.line x.text) x) one
-          (record { open_line = open_line; level = level; key = at; fresh = fresh; place = refl })
-      by unkeyed at open_line level e = cc
-      by (key_stop s) at open_line level e = cc
+    (none_of _ open_line, not_false _ level, by (key_at x.line x.text) refl e2) where
+      by : (found : Keyed) → key_at x.line x.text ≡ found → key_of x.line found ≡ Ok k → key_at x.line x.text ≡ keyed k.0 k.1
+      by (keyed name rest) at e = subst (λ (q : List ℕ × List ℕ). key_at x.line x.text ≡ keyed q.0 q.1) (ok_same (name, rest) k e) at
+      by unkeyed at e = cc
+      by (key_stop s) at e = cc
+
+pub key_sound : (i : ℕ) (seen : List (List ℕ)) (x : Item) (k : List ℕ × List ℕ) → key_in i seen x.line x.text ≡ Ok k → IsKeyed i seen k.0 k.1 (spot x.line x.text) x
+unfolding key_in
+key_sound i seen x k e =
+    let (q, at, e1) = bind_ok (item_key i x.line x.text) _ k e in
+    let (fresh, same) = allowed (is_seen q.0 seen) _ _ _ e1 in
+    let there = item_key_ok i x q at in
+    subst (λ (k : List ℕ × List ℕ). IsKeyed i seen k.0 k.1 (spot x.line x.text) x) (ok_same _ _ same)
+    (record { open_line = there.0; level = there.1; key = there.2; fresh = fresh; place = refl })
+
+-- what an entry that is read has
+abbrev pub IsEntry : ℕ → ℕ → List (List ℕ) → Item → Member → Type 0
+IsEntry d i seen x m = (rest : List ℕ) × IsKeyed i seen m.key rest m.place x × LaysValue (λ may n l cs ls. LaysNode m.value d may n l cs ls) m.value i x rest
+
+pub entry_sound : (d : ℕ) → NodesSound d → (i : ℕ) (seen : List (List ℕ)) (x : Item) (m : Member) → entry_in (block_with (node_in d)) (node_in d) i seen x ≡ Ok m → IsEntry d i seen x m
+unfolding entry_in
+entry_sound d sound i seen x m e =
+    let (k, key, e1) = bind_ok (key_in i seen x.line x.text) _ m e in
+    let (t, at, same) = bind_ok (behind_in (block_with (node_in d)) (node_in d) false i (spot x.line x.text) x.line k.1 x.inner) _ m e1 in
+    let made : Member = record { key = k.0; place = spot x.line x.text; value = t } in
+    let laid : LaysValue (λ may m l cs ls. LaysNode t d may m l cs ls) t i x k.1 =
+    elim (choose (carries_nothing k.1) _ _ _ at) [
+      | inl h ↦ inl (h.0, block_sound d sound _ _ _ t h.1)
+      | inr h ↦ inr (h.0, sound _ _ _ _ _ t h.1)
+    ] in
+    let whole : IsEntry d i seen x made = (k.1, key_sound i seen x k key, laid) in
+    subst (IsEntry d i seen x) (ok_same made m same) whole
 
 entries_sound : (d : ℕ) → NodesSound d → (i : ℕ) (seen : List (List ℕ)) (xs : List Item) (ms : Members)
     → entries_in (block_with (node_in d)) (node_in d) i seen xs ≡ Ok ms → LaysMembers ms d i seen xs
 entries_sound d sound i seen [] ms e = subst (λ (ms : Members). LaysMembers ms d i seen []) (ok_same _ _ e) refl
 entries_sound d sound i seen (x ∷ xs) ms e =
-    let (k, key, e1) = bind_ok _ _ _ e in
-    let (t, at, e2) = bind_ok _ _ _ e1 in
-    let (others, more, same) = bind_ok _ _ _ e2 in
-    let laid : LaysMembers (member k.0 (spot x.line x.text) t others) d i seen (x ∷ xs) =
-    (x, xs, refl, k.1, head_ok _ _ i seen x k key, value_sound d sound i x k.1 t at, entries_sound d sound i (seen ++ k.0 ∷ []) xs others more) in
+    let (m, at, e1) = bind_ok (entry_in (block_with (node_in d)) (node_in d) i seen x) _ ms e in
+    let (others, more, same) = bind_ok (entries_in (block_with (node_in d)) (node_in d) i (seen ++ m.key ∷ []) xs) _ ms e1 in
+    let first = entry_sound d sound i seen x m at in
+    let laid : LaysMembers (member m.key m.place m.value others) d i seen (x ∷ xs) =
+    (x, xs, refl, first.0, first.1, first.2, entries_sound d sound i (seen ++ m.key ∷ []) xs others more) in
     subst (λ (ms : Members). LaysMembers ms d i seen (x ∷ xs)) (ok_same _ _ same) laid
 
 -- ---- nodes
@@ -163,14 +179,14 @@ pub nodes_sound : (d : ℕ) → NodesSound d
 unfolding node_in
 nodes_sound zero may m l cs ls t e =
     elim (node_cases too_deep too_deep zero may m l cs ls (Ok t) e) [
-      | inl h ↦ lone_sound zero may m l cs ls t h.0 h.1
+      | inl h ↦ scalar_or_flow_sound zero may m l cs ls t h.0 h.1
       | inr (inl h) ↦ cc
       | inr (inr (inl h)) ↦ cc
       | inr (inr (inr h)) ↦ cc
     ]
 nodes_sound (suc d) may m l cs ls t e =
     elim (node_cases (lists d) (maps d) (suc d) may m l cs ls (Ok t) e) [
-      | inl h ↦ lone_sound (suc d) may m l cs ls t h.0 h.1
+      | inl h ↦ scalar_or_flow_sound (suc d) may m l cs ls t h.0 h.1
       | inr (inl h) ↦
           let (es, at, same) = bind_ok _ _ _ h.2 in
           let laid : LaysNode (list (spot l cs) es) (suc d) may m l cs ls = inr (h.0, h.1, refl, elements_sound d (nodes_sound d) _ _ es at) in

@@ -1,8 +1,8 @@
 -- Blocks of lines: how they divide, keys, and the scalars that go on over lines.
 use Rattle.std.specs.Prelude.{ℕ, suc, Bool, true, false, not, ◌&&◌, ◌||◌, ◌==◌, nat_lt, nat_le, if◌then◌else◌, List, [], ◌∷◌, ◌++◌, drop, map as list_map, Option, Some, None, is_some, Ok, Err}
 use Rattle.yaml_lines.specs.File.{Line, is_empty, begins, ends_line}
-use Rattle.yaml_lines.specs.Line.{spot, refused, syntax, Read, ◌>>=◌, indent, body, is_void, is_bare, barred, stray, plain_front, plain_rest, is_dash}
-use Rattle.yaml_lines.specs.Scalar.{Ending, clip, strip, keep, block_text, is_digit, plain_joint}
+use Rattle.yaml_lines.specs.Line.{spot, refused, syntax, Read, ◌>>=◌, indent, body, is_comment, is_empty_line, bad_start, unexpected, plain_front, plain_rest, is_dash}
+use Rattle.yaml_lines.specs.Scalar.{Chomping, clip, strip, keep, block_text, is_digit, plain_joint}
 
 -- the lines at the front that pass a test, and the lines behind them
 abbrev pub front_while : (Line → Bool) → List Line → List Line
@@ -14,16 +14,16 @@ rest_while p [] = []
 rest_while p (l ∷ ls) = if p l then rest_while p ls else l ∷ ls
 
 -- the lines from the first that carries something on
-abbrev pub skip_void : List Line → List Line
-skip_void ls = rest_while is_void ls
+abbrev pub skip_comments : List Line → List Line
+skip_comments ls = rest_while is_comment ls
 
 -- nothing more may stand in the block
 abbrev pub nothing_from : List Line → Read (Unit {0})
 nothing_from [] = Ok tt
-nothing_from (l ∷ ls) = Err (stray l)
+nothing_from (l ∷ ls) = Err (unexpected l)
 
 unfoldable pub nothing_in : List Line → Read (Unit {0})
-nothing_in ls = nothing_from (skip_void ls)
+nothing_in ls = nothing_from (skip_comments ls)
 
 -- ---- a block is divided at the lines of its own indentation
 
@@ -42,7 +42,7 @@ put_line false l p = record { lead = []; parts = record { head = l; inner = p.le
 
 -- Lines belong to what stands above them at the indentation where they carry nothing or stand deeper; in a map also where a dash stands there.
 abbrev pub inside : Bool → ℕ → Line → Bool
-inside in_map j l = is_void l || nat_lt j (indent l) || (in_map && (indent l == j && is_dash (body l)))
+inside in_map j l = is_comment l || nat_lt j (indent l) || (in_map && (indent l == j && is_dash (body l)))
 
 abbrev pub divide : Bool → ℕ → List Line → Parts
 divide in_map j [] = record { lead = []; parts = [] }
@@ -55,25 +55,25 @@ abbrev pub alone : {A : Type 0} → Line → List ℕ → List Line → A → Re
 alone l rest ls x = if ends_line rest then nothing_in ls >>= (λ u. Ok x) else Err (syntax l)
 
 -- a line behind a plain scalar: empty, a comment, text, or text that a comment ends
-pub data Further : Type 0 where
-  empty_line : Further
-  comment_line : Further
-  text_line : List ℕ → Further
-  last_line : List ℕ → Further
+pub data Continuation : Type 0 where
+  empty_line : Continuation
+  comment_line : Continuation
+  text_line : List ℕ → Continuation
+  last_line : List ℕ → Continuation
 
 -- What a line is that is to be indented at least m. A colon before a blank or the end may not stand there.
-unfoldable pub further : ℕ → Line → Read Further
-further m l =
-    if is_bare l then Ok empty_line
-    else if is_void l then Ok comment_line
-    else if is_some (barred l) then Err (stray l)
+unfoldable pub continuation : ℕ → Line → Read Continuation
+continuation m l =
+    if is_empty_line l then Ok empty_line
+    else if is_comment l then Ok comment_line
+    else if is_some (bad_start l) then Err (unexpected l)
     else if nat_lt (indent l) m || not (ends_line (plain_rest false (body l))) then Err (syntax l)
     else if is_empty (plain_rest false (body l)) then Ok (text_line (plain_front false (body l)))
     else Ok (last_line (plain_front false (body l)))
 
 -- What a line adds behind n empty ones, where the lines behind it add so much, behind it or behind one more
 -- empty line, or where nothing may stand behind it.
-abbrev pub add_line : ℕ → Further → Read (List ℕ) → Read (List ℕ) → Read (Unit {0}) → Read (List ℕ)
+abbrev pub add_line : ℕ → Continuation → Read (List ℕ) → Read (List ℕ) → Read (Unit {0}) → Read (List ℕ)
 add_line n empty_line behind_empty behind ended = behind_empty
 add_line n comment_line behind_empty behind ended = ended >>= (λ u. Ok [])
 add_line n (text_line t) behind_empty behind ended = behind >>= (λ more. Ok (plain_joint n ++ t ++ more))
@@ -82,7 +82,7 @@ add_line n (last_line t) behind_empty behind ended = ended >>= (λ u. Ok (plain_
 -- What the lines of a block add to a plain scalar, behind n empty lines. They are indented at least m.
 unfoldable pub more_plain : ℕ → ℕ → List Line → Read (List ℕ)
 more_plain m n [] = Ok []
-more_plain m n (l ∷ ls) = further m l >>= (λ f. add_line n f (more_plain m (suc n) ls) (more_plain m 0 ls) (nothing_in ls))
+more_plain m n (l ∷ ls) = continuation m l >>= (λ f. add_line n f (more_plain m (suc n) ls) (more_plain m 0 ls) (nothing_in ls))
 
 -- the text of a plain scalar that begins here
 unfoldable pub plain_text : ℕ → Line → List ℕ → List Line → Read (List ℕ)
@@ -97,17 +97,17 @@ digit_first [] = false
 digit_first (c ∷ cs) = is_digit c
 
 -- what the head of a block scalar asks for
-abbrev pub head_end : Line → Ending → List ℕ → Read Ending
-head_end l e cs =
+abbrev pub header_end : Line → Chomping → List ℕ → Read Chomping
+header_end l e cs =
     if digit_first cs then Err (refused 3 (spot l cs))
     else if ends_line cs then Ok e
     else Err (syntax l)
 
-abbrev pub head_of : Line → List ℕ → Read Ending
-head_of l cs =
-    if begins 45 cs then head_end l strip (drop 1 cs)
-    else if begins 43 cs then head_end l keep (drop 1 cs)
-    else head_end l clip cs
+abbrev pub header_of : Line → List ℕ → Read Chomping
+header_of l cs =
+    if begins 45 cs then header_end l strip (drop 1 cs)
+    else if begins 43 cs then header_end l keep (drop 1 cs)
+    else header_end l clip cs
 
 -- the indentation of the first of these lines
 abbrev pub first_indent : List Line → Option ℕ
@@ -116,7 +116,7 @@ first_indent (l ∷ ls) = Some (indent l)
 
 -- the lines that are blank or indented so far
 abbrev pub is_content : ℕ → Line → Bool
-is_content i l = is_bare l || nat_le i (indent l)
+is_content i l = is_empty_line l || nat_le i (indent l)
 
 -- a line of the scalar without its indentation
 abbrev pub content : ℕ → Line → List ℕ
@@ -131,10 +131,10 @@ lines_at m (Some i) front rest =
     else (list_map (λ l. []) front ++ list_map (content i) (front_while (is_content i) rest), rest_while (is_content i) rest)
 
 unfoldable pub scalar_lines : ℕ → List Line → List (List ℕ) × List Line
-scalar_lines m ls = lines_at m (first_indent (rest_while is_bare ls)) (front_while is_bare ls) (rest_while is_bare ls)
+scalar_lines m ls = lines_at m (first_indent (rest_while is_empty_line ls)) (front_while is_empty_line ls) (rest_while is_empty_line ls)
 
 unfoldable pub block_scalar : ℕ → Line → List ℕ → List Line → Read (List ℕ)
 block_scalar m l cs ls =
-    head_of l (drop 1 cs) >>= (λ e.
+    header_of l (drop 1 cs) >>= (λ e.
     nothing_in (scalar_lines m ls).1 >>= (λ u.
     Ok (block_text (begins 62 cs) e (scalar_lines m ls).0)))

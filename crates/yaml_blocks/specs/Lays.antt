@@ -2,17 +2,17 @@
 use Rattle.std.specs.Prelude.{◌≡◌, ℕ, zero, suc, Bool, true, false, ◌||◌, ◌⊎◌, List, [], ◌∷◌, ◌++◌, drop, None, Ok}
 use Rattle.yaml_tree.specs.Tree.{At, Scalar, null, text, Tree, scalar, list, map, Elements, no_elements, element, Members, no_members, member}
 use Rattle.yaml_lines.specs.File.{Line, begins, skip_blanks, carries_nothing, ends_line}
-use Rattle.yaml_lines.specs.Line.{spot, body, barred, is_dash, is_left_out, starts_plain}
+use Rattle.yaml_lines.specs.Line.{spot, body, bad_start, is_dash, is_left_out, starts_plain}
 use Rattle.yaml_lines.specs.Scalar.{resolved}
 use Rattle.yaml_lines.specs.Flow.{quoted, is_quote, is_bracket, flow_node, is_seen}
 use Rattle.yaml_lines.specs.Key.{keyed, unkeyed, key_at}
-use Rattle.yaml_blocks.specs.Blocks.{skip_void, plain_text, block_scalar}
+use Rattle.yaml_blocks.specs.Blocks.{skip_comments, plain_text, block_scalar}
 use Rattle.yaml_blocks.specs.Reading.{Item, items_of, offset, is_level, after_spaces}
 
 -- nothing stands behind on the line, nor in the block
 pub record IsAlone (rest : List ℕ) (ls : List Line) : Type 0 where
   pub line : ends_line rest ≡ true
-  pub block : skip_void ls ≡ []
+  pub block : skip_comments ls ≡ []
 
 -- a quoted scalar
 abbrev pub IsQuoted : List ℕ → Line → List ℕ → List Line → Type 0
@@ -22,11 +22,11 @@ IsQuoted t l cs ls = (is_quote cs ≡ true) × (rest : List ℕ) × (quoted l cs
 abbrev pub IsFlow : Tree → ℕ → Line → List ℕ → List Line → Type 0
 IsFlow t d l cs ls = (is_bracket cs ≡ true) × (rest : List ℕ) × (flow_node d l cs ≡ Ok (t, rest)) × IsAlone rest ls
 
--- a block scalar whose further lines are indented at least m
+-- a block scalar whose lines are indented at least m
 abbrev pub IsBlockScalar : List ℕ → ℕ → Line → List ℕ → List Line → Type 0
 IsBlockScalar t m l cs ls = (begins 124 cs || begins 62 cs ≡ true) × (block_scalar m l cs ls ≡ Ok t)
 
--- a plain scalar, which may go on over further lines
+-- a plain scalar, which may go on over continuation lines
 abbrev pub IsPlain : Scalar → ℕ → Line → List ℕ → List Line → Type 0
 IsPlain s m l cs ls = (starts_plain cs ≡ true) × (is_left_out cs ≡ false) × (t : List ℕ) × (plain_text m l cs ls ≡ Ok t) × (s ≡ resolved t)
 
@@ -41,12 +41,12 @@ IsNoCollection may l cs = (may ≡ false) ⊎ ((is_dash cs ≡ false) × (key_at
 
 -- an item of a sequence, or an item of a map with its key and what follows the colon
 pub record IsDashed (i : ℕ) (x : Item) : Type 0 where
-  pub open_line : barred x.line ≡ None
+  pub open_line : bad_start x.line ≡ None
   pub level : is_level i x ≡ true
   pub dash : is_dash x.text ≡ true
 
 pub record IsKeyed (i : ℕ) (seen : List (List ℕ)) (k rest : List ℕ) (a : At) (x : Item) : Type 0 where
-  pub open_line : barred x.line ≡ None
+  pub open_line : bad_start x.line ≡ None
   pub level : is_level i x ≡ true
   pub key : key_at x.line x.text ≡ keyed k rest
   pub fresh : is_seen k seen ≡ false
@@ -55,8 +55,8 @@ pub record IsKeyed (i : ℕ) (seen : List (List ℕ)) (k rest : List ℕ) (a : A
 -- A block: nothing, which is null at home, or what the node on its first line with content is.
 abbrev pub LaysBlock : (Bool → ℕ → Line → List ℕ → List Line → Type 0) → Tree → ℕ → At → List Line → Type 0
 LaysBlock N t m home ls =
-    ((skip_void ls ≡ []) × (t ≡ scalar home null))
-    ⊎ ((first : Line) × (more : List Line) × (skip_void ls ≡ first ∷ more) × (barred first ≡ None) × N true m first (body first) more)
+    ((skip_comments ls ≡ []) × (t ≡ scalar home null))
+    ⊎ ((first : Line) × (more : List Line) × (skip_comments ls ≡ first ∷ more) × (bad_start first ≡ None) × N true m first (body first) more)
 
 -- behind a dash
 abbrev pub LaysElement : (Bool → ℕ → Line → List ℕ → List Line → Type 0) → Tree → ℕ → Item → Type 0
@@ -71,7 +71,7 @@ LaysValue N t i x rest =
     ⊎ ((carries_nothing rest ≡ false) × N false (suc i) x.line (skip_blanks rest) x.inner)
 
 -- The tree is the node that begins in a line behind what is left of it, and goes on in the lines of its
--- block. Collections nest at most d deep; a block collection may begin here or not; a scalar's further lines are
+-- block. Collections nest at most d deep; a block collection may begin here or not; a scalar's continuation lines are
 -- indented at least m.
 abbrev mutual
   pub LaysNode : Tree → ℕ → Bool → ℕ → Line → List ℕ → List Line → Type 0

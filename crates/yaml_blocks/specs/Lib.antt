@@ -1,10 +1,12 @@
 pub mod Blocks
 pub mod Reading
 pub mod Lays
+pub mod LineStops
+pub mod ScalarStops
 pub mod Form
 pub mod Laws
 pub mod Documents
 pub mod Views
-pub mod Furthers
-pub mod Endings
+pub mod Continuations
+pub mod Chompings
 pub mod Contents

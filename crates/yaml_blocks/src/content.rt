@@ -2,16 +2,16 @@
 
 ghost use Rattle.std.specs.Prelude.{◌≡◌, ◌++◌, ◌≤◌, ◌<◌, length, take, drop, true, map, IfOk, OnOk};
 ghost use Rattle.yaml_lines.specs.File as file;
-ghost use Rattle.yaml_lines.specs.Line.{is_bare};
+ghost use Rattle.yaml_lines.specs.Line.{is_empty_line};
 ghost use Rattle.yaml_lines.specs.View.{line_view, Gives};
 ghost use Rattle.yaml_blocks.specs.Blocks as spec;
-ghost use Rattle.yaml_blocks.specs.Endings.{texts_view};
-ghost use Rattle.yaml_blocks.specs.Furthers.{text_given};
+ghost use Rattle.yaml_blocks.specs.Chompings.{texts_view};
+ghost use Rattle.yaml_blocks.specs.Continuations.{text_given};
 ghost use Rattle.yaml_blocks.specs.Contents.{none_of_line, ScalarLines};
 ghost use Rattle.yaml_blocks.specs.Views.{lines_view};
 
-use crate::lines::{indent, is_bare, lines_behind, nothing_in};
-use crate::scalar::{block_text, head_of};
+use crate::lines::{indent, is_empty_line, lines_behind, nothing_in};
+use crate::scalar::{block_text, header_of};
 use sig_base::Text;
 use std::alloc::{AllocError, Global};
 use yaml_lines::scan::{begins, behind};
@@ -19,13 +19,13 @@ use yaml_lines::{Halt, Line};
 
 /// How many lines with blanks alone come first.
 #[tactic(auto, using(crate::proofs::Fronts::front_more, crate::proofs::Fronts::front_stop, crate::proofs::Fronts::front_end))]
-fn count_bare(lines: &[Line<'_>]) -> usize
-    ensures front { lines_view (take result lines.now) ≡ spec.front_while is_bare (lines_view lines.now) }
-    ensures rest { lines_view (drop result lines.now) ≡ spec.rest_while is_bare (lines_view lines.now) }
+fn count_empty(lines: &[Line<'_>]) -> usize
+    ensures front { lines_view (take result lines.now) ≡ spec.front_while is_empty_line (lines_view lines.now) }
+    ensures rest { lines_view (drop result lines.now) ≡ spec.rest_while is_empty_line (lines_view lines.now) }
     ensures within { result ≤ length lines.now }
 {
     for at in 0..lines.len() {
-        if !is_bare(&lines[at]) {
+        if !is_empty_line(&lines[at]) {
             return at;
         }
     }
@@ -35,7 +35,7 @@ fn count_bare(lines: &[Line<'_>]) -> usize
 fn is_content(least: usize, line: &Line<'_>) -> bool
     ensures { result ≡ spec.is_content least (line_view line.now) }
 {
-    is_bare(line) || least <= indent(line)
+    is_empty_line(line) || least <= indent(line)
 }
 
 /// How many lines of the content come first.
@@ -100,7 +100,7 @@ fn scalar_lines<'t>(
 ) -> Result<(Vec<&'t [char]>, usize), AllocError>
     ensures { IfOk result (λ p. ScalarLines least lines.now (texts_view p.0.items) p.1) }
 {
-    let front = count_bare(lines);
+    let front = count_empty(lines);
     let mut texts = Vec::new(alloc);
     push_empty(&mut texts, lines.split_at(front).0)?;
     let rest = lines_behind(lines, front);
@@ -129,9 +129,9 @@ pub fn block_scalar(
     requires within { length rest.now ≤ length line.now.text.now }
     ensures { Gives text_given result (spec.block_scalar least (line_view line.now) rest.now (lines_view lines.now)) }
 {
-    let ending = head_of(line, behind(rest, 1))?;
+    let chomping = header_of(line, behind(rest, 1))?;
     let (texts, count) = scalar_lines(alloc, least, lines)?;
     nothing_in(lines_behind(lines, count))?;
-    let content = block_text(alloc, begins('>', rest), ending, &texts)?;
+    let content = block_text(alloc, begins('>', rest), chomping, &texts)?;
     Ok(content)
 }

@@ -33,17 +33,17 @@ pub fn body<'t>(line: &Line<'t>) -> &'t [char]
 }
 
 /// Whether the line carries nothing.
-#[tactic(auto, unfolding(yaml_lines::specs::Line::is_void))]
-pub fn is_void(line: &Line<'_>) -> bool
-    ensures { result ≡ spec.is_void (line_view line.now) }
+#[tactic(auto, unfolding(yaml_lines::specs::Line::is_comment))]
+pub fn is_comment(line: &Line<'_>) -> bool
+    ensures { result ≡ spec.is_comment (line_view line.now) }
 {
     carries_nothing(line.text)
 }
 
 /// Whether the line has blanks alone.
-#[tactic(auto, unfolding(yaml_lines::specs::Line::is_bare))]
-pub fn is_bare(line: &Line<'_>) -> bool
-    ensures { result ≡ spec.is_bare (line_view line.now) }
+#[tactic(auto, unfolding(yaml_lines::specs::Line::is_empty_line))]
+pub fn is_empty_line(line: &Line<'_>) -> bool
+    ensures { result ≡ spec.is_empty_line (line_view line.now) }
 {
     skip_blanks(line.text).is_empty()
 }
@@ -90,17 +90,17 @@ pub fn is_marker(line: &Line<'_>) -> bool
 }
 
 /// Whether the line is refused for its start whatever else it has.
-#[tactic(auto, unfolding(yaml_lines::specs::Line::barred))]
-pub fn is_barred(line: &Line<'_>) -> bool
-    ensures { result ≡ is_some (spec.barred (line_view line.now)) }
+#[tactic(auto, unfolding(yaml_lines::specs::Line::bad_start))]
+pub fn has_bad_start(line: &Line<'_>) -> bool
+    ensures { result ≡ is_some (spec.bad_start (line_view line.now)) }
 {
     is_marker(line) || begins('\t', body(line))
 }
 
 /// Why nothing may stand on the line.
-#[tactic(auto, unfolding(yaml_lines::specs::Line::stray, yaml_lines::specs::Line::barred))]
-pub fn stray(line: &Line<'_>) -> Halt
-    ensures { halt_view result ≡ Some (spec.stray (line_view line.now)) }
+#[tactic(auto, unfolding(yaml_lines::specs::Line::unexpected, yaml_lines::specs::Line::bad_start))]
+pub fn unexpected(line: &Line<'_>) -> Halt
+    ensures { halt_view result ≡ Some (spec.unexpected (line_view line.now)) }
 {
     if is_marker(line) {
         return refused(Code::UNSUPPORTED, line, line.text);
@@ -116,13 +116,13 @@ pub fn stray(line: &Line<'_>) -> Halt
 }
 
 /// Nothing more may stand on these lines.
-#[tactic(auto, using(crate::proofs::Turns::nothing_void, crate::proofs::Turns::nothing_stray, crate::proofs::Turns::nothing_end, yaml_lines::proofs::Failing::fails_as))]
+#[tactic(auto, using(crate::proofs::Turns::nothing_comment, crate::proofs::Turns::nothing_unexpected, crate::proofs::Turns::nothing_end, yaml_lines::proofs::Failing::fails_as))]
 pub fn nothing_in(lines: &[Line<'_>]) -> Result<(), Halt>
     ensures { Gives done result (blocks.nothing_in (lines_view lines.now)) }
 {
     for line in lines {
-        if !is_void(line) {
-            return Err(stray(line));
+        if !is_comment(line) {
+            return Err(unexpected(line));
         }
     }
     Ok(())

@@ -5,7 +5,7 @@ ghost use Rattle.yaml_lines.specs.Scalar as scalar;
 ghost use Rattle.yaml_lines.specs.View.{line_view, Gives};
 ghost use Rattle.yaml_blocks.specs.Blocks as spec;
 ghost use Rattle.yaml_blocks.specs.Views.{lines_view, done};
-ghost use Rattle.yaml_blocks.specs.Endings.{ending_view, texts_view, add_text, kept_text};
+ghost use Rattle.yaml_blocks.specs.Chompings.{chomping_view, texts_view, add_text, kept_text};
 
 use crate::texts::push_feeds;
 use sig_base::{Code, Text};
@@ -16,34 +16,34 @@ use yaml_lines::{Halt, Line};
 
 /// What stays at the end of a block scalar.
 #[derive(Clone, Copy, Debug)]
-pub enum Ending {
+pub enum Chomping {
     Clip,
     Strip,
     Keep,
 }
 
 /// What the head of a block scalar asks for, behind its sign.
-pub fn head_of(line: &Line<'_>, rest: &[char]) -> Result<Ending, Halt>
+pub fn header_of(line: &Line<'_>, rest: &[char]) -> Result<Chomping, Halt>
     requires { length rest.now ≤ length line.now.text.now }
-    ensures { Gives ending_view result (spec.head_of (line_view line.now) rest.now) }
+    ensures { Gives chomping_view result (spec.header_of (line_view line.now) rest.now) }
 {
     if begins('-', rest) {
-        head_end(line, Ending::Strip, behind(rest, 1))
+        header_end(line, Chomping::Strip, behind(rest, 1))
     } else if begins('+', rest) {
-        head_end(line, Ending::Keep, behind(rest, 1))
+        header_end(line, Chomping::Keep, behind(rest, 1))
     } else {
-        head_end(line, Ending::Clip, rest)
+        header_end(line, Chomping::Clip, rest)
     }
 }
 
-fn head_end(line: &Line<'_>, ending: Ending, rest: &[char]) -> Result<Ending, Halt>
+fn header_end(line: &Line<'_>, chomping: Chomping, rest: &[char]) -> Result<Chomping, Halt>
     requires { length rest.now ≤ length line.now.text.now }
-    ensures { Gives ending_view result (spec.head_end (line_view line.now) (ending_view ending) rest.now) }
+    ensures { Gives chomping_view result (spec.header_end (line_view line.now) (chomping_view chomping) rest.now) }
 {
     if digit_first(rest) {
         Err(refused(Code::UNSUPPORTED, line, rest))
     } else if ends_line(rest) {
-        Ok(ending)
+        Ok(chomping)
     } else {
         Err(no_reading(line))
     }
@@ -137,7 +137,7 @@ fn fold_line(
     Ok((blank, 0))
 }
 
-/// Folds further lines behind one that begins with a blank or not.
+/// Folds the other lines behind one that begins with a blank or not.
 #[tactic(auto, using(crate::proofs::Folds::folds_turn, crate::proofs::Folds::folds_end))]
 fn push_folded_from(content: &mut Text, begins: bool, texts: &[&[char]]) -> Result<(), AllocError>
     ensures { OnOk result (content.new ≡ content.old ++ scalar.fold_from begins 0 (texts_view texts.now)) }
@@ -176,15 +176,15 @@ fn push_folded(content: &mut Text, texts: &[&[char]]) -> Result<(), AllocError>
 pub fn block_text(
     alloc: Global,
     is_folded: bool,
-    ending: Ending,
+    chomping: Chomping,
     texts: &[&[char]],
 ) -> Result<Text, AllocError>
-    ensures { IfOk result (λ t. t ≡ scalar.block_text is_folded (ending_view ending) (texts_view texts.now)) }
+    ensures { IfOk result (λ t. t ≡ scalar.block_text is_folded (chomping_view chomping) (texts_view texts.now)) }
 {
     let count = kept_len(texts);
     let mut content = Text::new(alloc);
     push_kept(&mut content, is_folded, texts.split_at(count).0)?;
-    push_ending(&mut content, ending, count > 0, texts.len() - count)?;
+    push_chomped(&mut content, chomping, count > 0, texts.len() - count)?;
     Ok(content)
 }
 
@@ -199,18 +199,18 @@ fn push_kept(content: &mut Text, is_folded: bool, kept: &[&[char]]) -> Result<()
     }
 }
 
-fn push_ending(
+fn push_chomped(
     content: &mut Text,
-    ending: Ending,
+    chomping: Chomping,
     has_text: bool,
     empty: usize,
 ) -> Result<(), AllocError>
     requires { empty < 2 ^ 63 }
-    ensures { OnOk result (content.new ≡ content.old ++ scalar.ending (ending_view ending) has_text empty) }
+    ensures { OnOk result (content.new ≡ content.old ++ scalar.chomped (chomping_view chomping) has_text empty) }
 {
-    match ending {
-        Ending::Strip => Ok(()),
-        Ending::Clip => push_feeds(content, usize::from(has_text)),
-        Ending::Keep => push_feeds(content, usize::from(has_text) + empty),
+    match chomping {
+        Chomping::Strip => Ok(()),
+        Chomping::Clip => push_feeds(content, usize::from(has_text)),
+        Chomping::Keep => push_feeds(content, usize::from(has_text) + empty),
     }
 }

@@ -1,8 +1,17 @@
 use crate::content::block_scalar;
-use crate::plain::plain_text;
+use crate::plain::{PlainText, plain_text};
+use sig_base::Text;
 use std::alloc::Global;
 use std::test::Fail;
-use yaml_lines::Line;
+use yaml_lines::{Halt, Line};
+
+/// The text of a plain scalar, with memory of its own.
+fn owned(alloc: Global, read: Result<PlainText<'_>, Halt>) -> Result<Text, Halt> {
+    match read? {
+        PlainText::OneLine(front) => Ok(Text::from_chars(alloc, front)?),
+        PlainText::Joined(content) => Ok(content),
+    }
+}
 
 /// What is read of a scalar that begins at a column of the first line of a text, with the other
 /// lines behind it.
@@ -26,7 +35,7 @@ fn shown(alloc: Global, column: usize, least: usize, text: &str) -> Result<Strin
     let read = if rest.first() == Some(&'|') || rest.first() == Some(&'>') {
         block_scalar(alloc, least, first, rest, more)
     } else {
-        plain_text(alloc, least, first, rest, more)
+        owned(alloc, plain_text(alloc, least, first, rest, more))
     };
     match read {
         Ok(content) => Ok(format!(in alloc; "{content:?}")?),

@@ -3,9 +3,9 @@ use Rattle.std.proofs.Common.{ℕ, suc, ◌-◌, Bool, true, false, cond, not, �
 use Rattle.std.specs.Prelude.{nat_lt, map as list_map}
 use Rattle.std.specs.List.{AllByRecursion}
 use Rattle.yaml_lines.specs.File.{Line, is_blank, is_empty, begins, ends_line}
-use Rattle.yaml_lines.specs.Line.{Read, ◌>>=◌, indentation, indent, body, is_void, is_bare, barred, plain_front, plain_rest}
-use Rattle.yaml_lines.specs.Scalar.{Ending, clip, strip, keep, drop_empty, literal, joint, fold_from, folded, ending, block_text, plain_joint}
-use Rattle.yaml_blocks.specs.Blocks.{front_while, rest_while, nothing_in, Part, Parts, put_line, inside, divide, alone, Further, empty_line, comment_line, text_line, last_line, further, add_line, more_plain, plain_text, head_of, first_indent, is_content, content, lines_at, scalar_lines, block_scalar}
+use Rattle.yaml_lines.specs.Line.{Read, ◌>>=◌, indentation, indent, body, is_comment, is_empty_line, bad_start, plain_front, plain_rest}
+use Rattle.yaml_lines.specs.Scalar.{Chomping, clip, strip, keep, drop_empty, literal, joint, fold_from, folded, chomped, block_text, plain_joint}
+use Rattle.yaml_blocks.specs.Blocks.{front_while, rest_while, nothing_in, Part, Parts, put_line, inside, divide, alone, Continuation, empty_line, comment_line, text_line, last_line, continuation, add_line, more_plain, plain_text, header_of, first_indent, is_content, content, lines_at, scalar_lines, block_scalar}
 use Rattle.yaml_blocks.specs.Reading.{Item, item_of, items_of, offset}
 use Rattle.yaml_bounds.proofs.Scalars.{AreScalars, if_both, all_append, Gives, gives_then, drop_scalars, append_scalars, front_scalars, feeds_scalars, joint_scalars}
 
@@ -37,23 +37,23 @@ ended_text (Err s) t h = tt
 alone_text : (l : Line) (rest : List ℕ) (ls : List Line) (t : List ℕ) → AreScalars t → Gives AreScalars (alone l rest ls t)
 alone_text l rest ls t h = if_both (Gives AreScalars) (ends_line rest) _ _ (ended_text (nothing_in ls) t h) tt
 
-abbrev FurtherHas : Further → Type 0
-FurtherHas empty_line = Unit {0}
-FurtherHas comment_line = Unit {0}
-FurtherHas (text_line t) = AreScalars t
-FurtherHas (last_line t) = AreScalars t
+abbrev ContinuationHas : Continuation → Type 0
+ContinuationHas empty_line = Unit {0}
+ContinuationHas comment_line = Unit {0}
+ContinuationHas (text_line t) = AreScalars t
+ContinuationHas (last_line t) = AreScalars t
 
-further_text : (m : ℕ) (l : Line) → LineHas l → Gives FurtherHas (further m l)
-unfolding further
-further_text m l h =
+continuation_text : (m : ℕ) (l : Line) → LineHas l → Gives ContinuationHas (continuation m l)
+unfolding continuation
+continuation_text m l h =
     let text = front_scalars false (body l) (body_scalars l h) in
-    if_both (Gives FurtherHas) (is_bare l) _ _ tt
-    (if_both (Gives FurtherHas) (is_void l) _ _ tt
-    (if_both (Gives FurtherHas) (is_some (barred l)) _ _ tt
-    (if_both (Gives FurtherHas) (nat_lt (indent l) m || not (ends_line (plain_rest false (body l)))) _ _ tt
-    (if_both (Gives FurtherHas) (is_empty (plain_rest false (body l))) _ _ text text))))
+    if_both (Gives ContinuationHas) (is_empty_line l) _ _ tt
+    (if_both (Gives ContinuationHas) (is_comment l) _ _ tt
+    (if_both (Gives ContinuationHas) (is_some (bad_start l)) _ _ tt
+    (if_both (Gives ContinuationHas) (nat_lt (indent l) m || not (ends_line (plain_rest false (body l)))) _ _ tt
+    (if_both (Gives ContinuationHas) (is_empty (plain_rest false (body l))) _ _ text text))))
 
-add_text : (n : ℕ) (f : Further) (behind_empty behind : Read (List ℕ)) (ended : Read (Unit {0})) → FurtherHas f → Gives AreScalars behind_empty → Gives AreScalars behind
+add_text : (n : ℕ) (f : Continuation) (behind_empty behind : Read (List ℕ)) (ended : Read (Unit {0})) → ContinuationHas f → Gives AreScalars behind_empty → Gives AreScalars behind
     → Gives AreScalars (add_line n f behind_empty behind ended)
 add_text n empty_line behind_empty behind ended h empty more = empty
 add_text n comment_line behind_empty behind ended h empty more = ended_text ended [] tt
@@ -67,7 +67,7 @@ more_text : (m n : ℕ) (ls : List Line) → LinesHave ls → Gives AreScalars (
 unfolding more_plain
 more_text m n [] h = tt
 more_text m n (l ∷ ls) h =
-    gives_then FurtherHas AreScalars (further m l) _ (further_text m l h.0) (λ f is.
+    gives_then ContinuationHas AreScalars (continuation m l) _ (continuation_text m l h.0) (λ f is.
     add_text n f (more_plain m (suc n) ls) (more_plain m 0 ls) (nothing_in ls) is (more_text m (suc n) ls h.1) (more_text m 0 ls h.1))
 
 pub plain_text-text : (m : ℕ) (l : Line) (cs : List ℕ) (ls : List Line) → AreScalars cs → LinesHave ls → Gives AreScalars (plain_text m l cs ls)
@@ -104,21 +104,21 @@ folded_text [] h = tt
 folded_text ([] ∷ ts) h = (refl, folded_text ts h.1)
 folded_text ((c ∷ cs) ∷ ts) h = append_scalars (c ∷ cs) (fold_from (is_blank c) 0 ts) h.0 (fold_text (is_blank c) 0 ts h.1)
 
-ending_text : (e : Ending) (has_text : Bool) (n : ℕ) → AreScalars (ending e has_text n)
-ending_text strip has_text n = tt
-ending_text clip true n = (refl, tt)
-ending_text clip false n = tt
-ending_text keep true n = feeds_scalars (suc n)
-ending_text keep false n = feeds_scalars n
+chomped_text : (e : Chomping) (has_text : Bool) (n : ℕ) → AreScalars (chomped e has_text n)
+chomped_text strip has_text n = tt
+chomped_text clip true n = (refl, tt)
+chomped_text clip false n = tt
+chomped_text keep true n = feeds_scalars (suc n)
+chomped_text keep false n = feeds_scalars n
 
-block_text-text : (is_folded : Bool) (e : Ending) (ts : List (List ℕ)) → TextsHave ts → AreScalars (block_text is_folded e ts)
+block_text-text : (is_folded : Bool) (e : Chomping) (ts : List (List ℕ)) → TextsHave ts → AreScalars (block_text is_folded e ts)
 unfolding block_text
 block_text-text is_folded e ts h =
     let kept = drop_empty ts in
     let all = drop_empty-texts ts h in
-    append_scalars (cond is_folded (folded kept) (literal kept)) (ending e (nat_lt 0 (length kept)) (length ts - length kept))
+    append_scalars (cond is_folded (folded kept) (literal kept)) (chomped e (nat_lt 0 (length kept)) (length ts - length kept))
     (if_both AreScalars is_folded (folded kept) (literal kept) (folded_text kept all) (literal_text kept all))
-    (ending_text e (nat_lt 0 (length kept)) (length ts - length kept))
+    (chomped_text e (nat_lt 0 (length kept)) (length ts - length kept))
 
 empty_texts : (ls : List Line) → TextsHave (list_map (λ l. []) ls)
 empty_texts [] = tt
@@ -138,12 +138,12 @@ lines_at-texts m (Some i) front rest h =
 scalar_lines-texts : (m : ℕ) (ls : List Line) → LinesHave ls → TextsHave (scalar_lines m ls).0
 unfolding scalar_lines
 scalar_lines-texts m ls h =
-    lines_at-texts m (first_indent (rest_while is_bare ls)) (front_while is_bare ls) (rest_while is_bare ls) (rest_lines is_bare ls h)
+    lines_at-texts m (first_indent (rest_while is_empty_line ls)) (front_while is_empty_line ls) (rest_while is_empty_line ls) (rest_lines is_empty_line ls h)
 
 pub block_scalar-text : (m : ℕ) (l : Line) (cs : List ℕ) (ls : List Line) → LinesHave ls → Gives AreScalars (block_scalar m l cs ls)
 unfolding block_scalar
-block_scalar-text m l cs ls h = by (head_of l (drop 1 cs)) where
-  by : (r : Read Ending) → Gives AreScalars (r >>= (λ e. nothing_in (scalar_lines m ls).1 >>= (λ u. Ok (block_text (begins 62 cs) e (scalar_lines m ls).0))))
+block_scalar-text m l cs ls h = by (header_of l (drop 1 cs)) where
+  by : (r : Read Chomping) → Gives AreScalars (r >>= (λ e. nothing_in (scalar_lines m ls).1 >>= (λ u. Ok (block_text (begins 62 cs) e (scalar_lines m ls).0))))
   by (Ok e) = ended_text (nothing_in (scalar_lines m ls).1) (block_text (begins 62 cs) e (scalar_lines m ls).0) (block_text-text (begins 62 cs) e (scalar_lines m ls).0 (scalar_lines-texts m ls h))
   by (Err s) = tt
 

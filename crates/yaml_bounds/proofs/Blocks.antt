@@ -4,7 +4,7 @@ use Rattle.std.specs.Prelude.{map as list_map}
 use Rattle.yaml_lines.specs.File.{Line}
 use Rattle.yaml_blocks.specs.Blocks.{rest_while, Part, Parts, put_line, inside, divide}
 use Rattle.yaml_blocks.specs.Reading.{Item, item_of, items_of, offset}
-use Rattle.yaml_bounds.proofs.Rests.{body_within}
+use Rattle.yaml_blocks.proofs.Rests.{body_within}
 
 -- how many characters they have
 abbrev pub weight : List Line → ℕ

@@ -2,7 +2,7 @@
 use Rattle.std.proofs.Common.{◌≡◌, ℕ, ◌≤◌, List, [], ◌∷◌, length, codes, refl, arith}
 use Rattle.yaml_tree.specs.Tree.{At, null, text, Tree, scalar, list, map, no_elements, element, no_members, member, tree, refusal}
 use Rattle.yaml_lines.specs.File.{line_texts, lines_of, is_parting, is_marker, parted, documents_of, skip_blanks, carries_nothing, ends_line}
-use Rattle.yaml_lines.specs.Line.{indentation, indent, body, is_void, barred}
+use Rattle.yaml_lines.specs.Line.{indentation, indent, body, is_comment, bad_start}
 use Rattle.yaml_blocks.specs.Reading.{element_in, node_in}
 use Rattle.yaml_blocks.specs.Documents.{home, AreAnswers}
 use Rattle.yaml_blocks.proofs.Sound.{reads_trees}
@@ -47,7 +47,7 @@ alone : Tree
 alone = list (at 1) (element (scalar (at 1) null) no_elements)
 
 dash-answers : AreAnswers 1 (documents_of dash) (tree alone ∷ [])
-unfolding dash alone line_texts lines_of is_parting is_marker parted documents_of skip_blanks carries_nothing ends_line indentation indent body is_void barred element_in node_in
+unfolding dash alone line_texts lines_of is_parting is_marker parted documents_of skip_blanks carries_nothing ends_line indentation indent body is_comment bad_start element_in node_in
 dash-answers = (tree alone, [], refl, (refl, reads_trees 1 home (record { number = 1; text = dash } ∷ []) alone refl), refl)
 
 dash-few : length (documents_of dash) ≤ 1

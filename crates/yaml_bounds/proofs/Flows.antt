@@ -9,7 +9,7 @@ use Rattle.yaml_lines.proofs.Flows.{length-tail}
 use Rattle.yaml_lines.proofs.Nexts.{next_is, plain_rest_shorter}
 use Rattle.yaml_blocks.proofs.Tools.{choose, allowed, bind_ok, ok_same}
 use Rattle.yaml_bounds.specs.Nodes.{nodes, element_nodes, value_nodes}
-use Rattle.yaml_bounds.proofs.Rests.{skip_within, tail_within, quoted_within, fresh_key_within, after_within}
+use Rattle.yaml_blocks.proofs.Rests.{skip_within, tail_within, quoted_within, fresh_key_within, after_within}
 
 -- What was read has at most two nodes for each character that it took.
 abbrev pub Paid : {A : Type 0} → (A → ℕ) → List ℕ → A × List ℕ → Type 0

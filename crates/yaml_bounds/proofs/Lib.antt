@@ -1,5 +1,4 @@
 pub mod Examples
-pub mod Rests
 pub mod Flows
 pub mod Blocks
 pub mod Nodes

@@ -4,7 +4,7 @@ use Rattle.std.specs.List.{AllByRecursion}
 use Rattle.yaml_tree.specs.Tree.{At, Scalar, Tree, scalar, list, map, Elements, no_elements, element, Members, no_members, member}
 use Rattle.yaml_tree.specs.Texts.{IsScalarText, HasScalarTexts, HaveScalarTexts, MembersHave}
 use Rattle.yaml_lines.specs.File.{Line, skip_blanks}
-use Rattle.yaml_lines.specs.Line.{body, is_void}
+use Rattle.yaml_lines.specs.Line.{body, is_comment}
 use Rattle.yaml_lines.specs.Flow.{quoted, flow_node}
 use Rattle.yaml_lines.specs.Key.{keyed}
 use Rattle.yaml_blocks.specs.Blocks.{plain_text, block_scalar}
@@ -34,7 +34,7 @@ pub block_text : (t : Tree) (d : ℕ) → NodeHas t d → (m : ℕ) (home : At) 
     → HasScalarTexts t
 block_text t d texts m home ls h (inl (none, is)) = subst HasScalarTexts (sym is) tt
 block_text t d texts m home ls h (inr (first, more, is, open_line, laid)) =
-    let lines : LinesHave (first ∷ more) = subst LinesHave is (rest_lines is_void ls h) in
+    let lines : LinesHave (first ∷ more) = subst LinesHave is (rest_lines is_comment ls h) in
     texts true m first (body first) more (body_scalars first lines.0) lines.1 laid
 
 element_text : (t : Tree) (d : ℕ) → NodeHas t d → (i : ℕ) (x : Item) → ItemHas x → LaysElement (λ may m l cs ls. LaysNode t d may m l cs ls) t i x → HasScalarTexts t

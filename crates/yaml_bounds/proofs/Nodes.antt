@@ -3,13 +3,13 @@ use Rattle.std.proofs.Common.{◌≡◌, ℕ, zero, suc, ◌+◌, ◌*◌, ◌�
 use Rattle.std.proofs.lemmas.Bool.Decides.{nat_tests}
 use Rattle.yaml_tree.specs.Tree.{At, Scalar, Tree, scalar, list, map, Elements, no_elements, element, Members, no_members, member}
 use Rattle.yaml_lines.specs.File.{Line, begins, blank_or_end, skip_blanks}
-use Rattle.yaml_lines.specs.Line.{body, is_void, starts_plain}
+use Rattle.yaml_lines.specs.Line.{body, is_comment, starts_plain}
 use Rattle.yaml_lines.specs.Flow.{is_quote, is_bracket}
 use Rattle.yaml_blocks.specs.Reading.{Item, items_of, offset}
 use Rattle.yaml_blocks.specs.Lays.{IsFlow, IsScalar, LaysBlock, LaysElement, LaysValue, LaysNode, LaysElements, LaysMembers}
 use Rattle.yaml_blocks.proofs.Tools.{either}
 use Rattle.yaml_bounds.specs.Nodes.{nodes, element_nodes, value_nodes}
-use Rattle.yaml_bounds.proofs.Rests.{skip_within, body_within, dash_tail, key_within}
+use Rattle.yaml_blocks.proofs.Rests.{skip_within, body_within, dash_tail, key_within}
 use Rattle.yaml_bounds.proofs.Flows.{node_paid as flow_paid}
 use Rattle.yaml_bounds.proofs.Blocks.{weight, rest_within, item_weight, items_weight, items_of_within}
 
@@ -45,7 +45,7 @@ pub block_paid : (t : Tree) (d : ℕ) → PaidNode t d → (m : ℕ) (home : At)
     → nodes t ≤ max 1 (2 * weight ls)
 block_paid t d paid m home ls (inl (none, is)) = omega (arith, ap nodes is)
 block_paid t d paid m home ls (inr (first, more, is, open_line, laid)) =
-    omega (arith, paid true m first (body first) more laid, body_within first, ap weight is, rest_within is_void ls)
+    omega (arith, paid true m first (body first) more laid, body_within first, ap weight is, rest_within is_comment ls)
 
 element_paid : (t : Tree) (d : ℕ) → PaidNode t d → (i : ℕ) (x : Item) → 1 ≤ length x.text → length (drop 1 x.text) + 1 ≤ length x.text
     → LaysElement (λ may m l cs ls. LaysNode t d may m l cs ls) t i x → nodes t + 1 ≤ 2 * item_weight x

@@ -2,7 +2,7 @@
 use Rattle.std.specs.Prelude.{ℕ, ◌+◌, List, [], ◌∷◌}
 use Rattle.yaml_tree.specs.Tree.{Tree, scalar, list, map, Elements, no_elements, element, Members, no_members, member, Answer, tree, refusal}
 
--- A scalar is one node. A collection is one, and its elements or values are further ones.
+-- A scalar is one node. A collection is one, and its elements or values are further nodes.
 abbrev mutual
   pub nodes : Tree → ℕ
   nodes (scalar a s) = 1

@@ -3,9 +3,9 @@ use Rattle.std.proofs.Common.{◌≡◌, ℕ, suc, ◌+◌, ◌<◌, ◌≤◌, 
 use Rattle.std.specs.List.{prefix_len, list_all}
 use Rattle.yaml_lines.specs.declared.line.Line as code
 use Rattle.yaml_lines.specs.File.{Line, carries_nothing}
-use Rattle.yaml_lines.specs.Line.{is_void}
+use Rattle.yaml_lines.specs.Line.{is_comment}
 use Rattle.yaml_lines.specs.View.{line_view}
-use Rattle.yaml_blocks.specs.Blocks.{skip_void}
+use Rattle.yaml_blocks.specs.Blocks.{skip_comments}
 use Rattle.yaml_blocks.specs.Documents.{has_content}
 use Rattle.yaml_blocks.specs.Views.{lines_view}
 use Rattle.yaml_blocks.proofs.Tools.{both}
@@ -47,32 +47,32 @@ not_all p (l ∷ ls) b h =
 
 -- ---- content
 
-pub void_all : (ls : List Line) → list_all is_void ls ≡ true → has_content ls ≡ false
-unfolding is_void
-void_all [] e = refl
-void_all (l ∷ ls) e = let h = both (carries_nothing l.text) (list_all is_void ls) e in rw h.0 (void_all ls h.1)
+pub comments_all : (ls : List Line) → list_all is_comment ls ≡ true → has_content ls ≡ false
+unfolding is_comment
+comments_all [] e = refl
+comments_all (l ∷ ls) e = let h = both (carries_nothing l.text) (list_all is_comment ls) e in rw h.0 (comments_all ls h.1)
 
-pub void_not_all : (ls : List Line) → list_all is_void ls ≡ false → has_content ls ≡ true
-unfolding is_void
-void_not_all [] e = cc
-void_not_all (l ∷ ls) e =
+pub comments_not_all : (ls : List Line) → list_all is_comment ls ≡ false → has_content ls ≡ true
+unfolding is_comment
+comments_not_all [] e = cc
+comments_not_all (l ∷ ls) e =
     elim (is_bool (carries_nothing l.text)) [
-      | inl is ↦ rw is (void_not_all ls (rw is at e))
+      | inl is ↦ rw is (comments_not_all ls (rw is at e))
       | inr is ↦ rw is refl
     ]
 
-pub content_ends : (ls : List Line) → has_content ls ≡ true → prefix_len is_void ls < length ls
-unfolding is_void
+pub content_ends : (ls : List Line) → has_content ls ≡ true → prefix_len is_comment ls < length ls
+unfolding is_comment
 content_ends [] e = cc
 content_ends (l ∷ ls) e =
     elim (is_bool (carries_nothing l.text)) [
-      | inl is ↦ let h : prefix_len is_void ls < length ls = content_ends ls (rw is at e) in rw is (omega arith)
+      | inl is ↦ let h : prefix_len is_comment ls < length ls = content_ends ls (rw is at e) in rw is (omega arith)
       | inr is ↦ rw is (omega arith)
     ]
 
 -- lines without content are passed over
-pub skip_all : (ls : List Line) → has_content ls ≡ false → skip_void ls ≡ []
-unfolding is_void
+pub skip_all : (ls : List Line) → has_content ls ≡ false → skip_comments ls ≡ []
+unfolding is_comment
 skip_all [] e = refl
 skip_all (l ∷ ls) e =
     elim (is_bool (carries_nothing l.text)) [
@@ -80,8 +80,8 @@ skip_all (l ∷ ls) e =
       | inr is ↦ let g : true ≡ false = rw is at e in cc
     ]
 
-pub content_begins : (ls : List Line) → has_content ls ≡ true → (first : Line) × (more : List Line) × (skip_void ls ≡ first ∷ more)
-unfolding is_void
+pub content_begins : (ls : List Line) → has_content ls ≡ true → (first : Line) × (more : List Line) × (skip_comments ls ≡ first ∷ more)
+unfolding is_comment
 content_begins [] e = cc
 content_begins (l ∷ ls) e =
     elim (is_bool (carries_nothing l.text)) [

@@ -9,7 +9,7 @@ use Rattle.yaml_tree.specs.declared.tree.Document.TheVariants.{Tree as ATree, Re
 use Rattle.yaml_lines.specs.declared.line.Line as code
 use Rattle.yaml_lines.specs.declared.halt.Halt.{Halt}
 use Rattle.yaml_lines.specs.File.{Line, is_marker}
-use Rattle.yaml_lines.specs.Line.{at, Stop, refused, unclosed, is_void}
+use Rattle.yaml_lines.specs.Line.{at, Stop, refused, unclosed, is_comment}
 use Rattle.yaml_lines.specs.View.{line_view, halt_view, Fails}
 use Rattle.yaml_blocks.specs.Reading.{block_in}
 use Rattle.yaml_blocks.specs.Documents.{home, is_regular, has_content, stop_code, code_at, IsAnswer}
@@ -103,8 +103,8 @@ plain_is p (Refused r) h = h.0
 abbrev regular_len : List code.Line → ℕ
 regular_len xs = prefix_len (λ l. is_regular (line_view l)) xs
 
-abbrev void_len : List code.Line → ℕ
-void_len xs = prefix_len (λ l. is_void (line_view l)) xs
+abbrev comments_len : List code.Line → ℕ
+comments_len xs = prefix_len (λ l. is_comment (line_view l)) xs
 
 -- so many lines and the others
 parts_of : (xs : List code.Line) (count : ℕ) → lines_view xs ≡ lines_view (take count xs) ++ lines_view (drop count xs)
@@ -179,19 +179,19 @@ parted_at (l ∷ ls) (suc n) h =
     let (front, line, more, is, count) = parted_at ls n (omega arith) in
     (l ∷ front, line, more, ap (λ (xs : List Line). l ∷ xs) is, ap suc count)
 
-pub dead_within : (count voids most : ℕ) (xs : List code.Line) → count ≡ regular_len xs → count ≤ length xs → count ≢ length xs → voids ≡ void_len xs → has_content (lines_view xs) ≡ true → most ≡ max count voids → most < length xs
-dead_within count voids most xs counted within some void content most_is =
-    let h : prefix_len is_void (lines_view xs) < length (lines_view xs) = content_ends (lines_view xs) content in
-    omega (arith, h, length-map xs line_view, prefix_view is_void xs)
+pub dead_within : (count comments most : ℕ) (xs : List code.Line) → count ≡ regular_len xs → count ≤ length xs → count ≢ length xs → comments ≡ comments_len xs → has_content (lines_view xs) ≡ true → most ≡ max count comments → most < length xs
+dead_within count comments most xs counted within some comment content most_is =
+    let h : prefix_len is_comment (lines_view xs) < length (lines_view xs) = content_ends (lines_view xs) content in
+    omega (arith, h, length-map xs line_view, prefix_view is_comment xs)
 
-pub behind_given : (depth count voids most : ℕ) (xs regular : List code.Line) (t : Tree) (d : Document) → count ≡ regular_len xs → voids ≡ void_len xs → most ≡ max count voids → most < length xs
+pub behind_given : (depth count comments most : ℕ) (xs regular : List code.Line) (t : Tree) (d : Document) → count ≡ regular_len xs → comments ≡ comments_len xs → most ≡ max count comments → most < length xs
     → regular ≡ take count xs → block_in depth 0 home (lines_view regular) ≡ Ok t → IsRefusedBehind depth most (lines_view xs) d → Given depth xs d
-behind_given depth count voids most xs regular t d counted void most_is within taken read h =
+behind_given depth count comments most xs regular t d counted comment most_is within taken read h =
     let (front, line, more, is, n) = parted_at (lines_view xs) most (omega (arith, length-map xs line_view)) in
     let regular_is : count ≡ prefix_len is_regular (front ++ line ∷ more) = counted ∙ (prefix_view is_regular xs ∙ ap (prefix_len is_regular) is) in
-    let void_is : voids ≡ prefix_len is_void (front ++ line ∷ more) = void ∙ (prefix_view is_void xs ∙ ap (prefix_len is_void) is) in
-    let length_is : length front ≡ max (prefix_len is_regular (front ++ line ∷ more)) (prefix_len is_void (front ++ line ∷ more)) =
-    n ∙ (most_is ∙ (ap (λ (k : ℕ). max k voids) regular_is ∙ ap (λ (k : ℕ). max (prefix_len is_regular (front ++ line ∷ more)) k) void_is)) in
+    let comment_is : comments ≡ prefix_len is_comment (front ++ line ∷ more) = comment ∙ (prefix_view is_comment xs ∙ ap (prefix_len is_comment) is) in
+    let length_is : length front ≡ max (prefix_len is_regular (front ++ line ∷ more)) (prefix_len is_comment (front ++ line ∷ more)) =
+    n ∙ (most_is ∙ (ap (λ (k : ℕ). max k comments) regular_is ∙ ap (λ (k : ℕ). max (prefix_len is_regular (front ++ line ∷ more)) k) comment_is)) in
     let front_is : take (prefix_len is_regular (front ++ line ∷ more)) (front ++ line ∷ more) ≡ lines_view regular =
     ap (λ (k : ℕ). take k (front ++ line ∷ more)) (sym regular_is) ∙ (ap (take count) (sym is) ∙ (take-map line_view count xs ∙ ap lines_view (sym taken))) in
     refused_given depth xs _ d (h front line more is n)

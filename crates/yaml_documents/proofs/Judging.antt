@@ -7,7 +7,7 @@ use Rattle.std.proofs.lemmas.Str.{IsUtf8-from_is_utf8, is_utf8-from_IsUtf8, utf8
 use Rattle.yaml_tree.specs.Tree.{At, Answer}
 use Rattle.yaml_lines.specs.File.{Line, documents_of}
 use Rattle.yaml_lines.specs.Line.{at}
-use Rattle.yaml_blocks.specs.Blocks.{skip_void}
+use Rattle.yaml_blocks.specs.Blocks.{skip_comments}
 use Rattle.yaml_blocks.specs.Documents.{home, AreAnswers}
 use Rattle.yaml_blocks.proofs.Answered.{each_answered, one_answer}
 use Rattle.yaml_files.specs.Call.{IsText, IsBadAt, IsPastAt, IsCallRefusal, IsTaken, place_behind}
@@ -129,7 +129,7 @@ same_document (x ∷ xs) (y ∷ ys) d e ds es count is = let others : xs ++ d �
 one_past : (n : ℕ) (ds : List (List Line)) (a b : At) → IsPastAt n ds a → IsPastAt n ds b → a ≡ b
 one_past n ds a b h g =
     let same : h.document ≡ g.document = same_document h.front g.front h.document g.document h.others g.others (h.count ∙ sym g.count) (sym h.parts ∙ g.parts) in
-    let lines : h.first ∷ h.more ≡ g.first ∷ g.more = sym h.begins ∙ (ap skip_void same ∙ g.begins) in
+    let lines : h.first ∷ h.more ≡ g.first ∷ g.more = sym h.begins ∙ (ap skip_comments same ∙ g.begins) in
     let first : h.first ≡ g.first = cc in
     h.place ∙ (ap (λ (l : Line). at l 0) first ∙ sym g.place)
 

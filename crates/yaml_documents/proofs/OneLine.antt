@@ -4,7 +4,7 @@ use Rattle.std.specs.Str.{bytes_eq}
 use Rattle.std.proofs.lemmas.List.Sums.{prefix_len-le-length}
 use Rattle.yaml_tree.specs.Tree.{At, Tree}
 use Rattle.yaml_lines.specs.File.{Line, is_space, begins, blank_or_end, skip_blanks, ends_line, is_marker}
-use Rattle.yaml_lines.specs.Line.{at, spot, Stop, refused, unclosed, Read, ◌>>=◌, indentation, indent, body, barred, stray, starts_plain, plain_front, plain_rest, is_left_out}
+use Rattle.yaml_lines.specs.Line.{at, spot, Stop, refused, unclosed, Read, ◌>>=◌, indentation, indent, body, bad_start, unexpected, starts_plain, plain_front, plain_rest, is_left_out}
 use Rattle.yaml_lines.specs.Scalar.{Quoted, closed, open_ended, bad_escape, single, double}
 use Rattle.yaml_lines.specs.Flow.{Front, opened, inside_open, quoted_as, is_quote, quoted, merge, is_seen, behind_colon, flow_key, fresh_key, after_element, is_bracket, flow_element, flow_elements, flow_value, flow_entry, flow_members, flow_scalar, flow_node}
 use Rattle.yaml_lines.specs.Key.{Keyed, keyed, unkeyed, key_stop, colon_then, quoted_key, key_at}
@@ -38,10 +38,10 @@ indent_on : (l : Line) → IsOn l (at l (indent l))
 unfolding indent indentation
 indent_on l = at_on l (indent l) (prefix_len-le-length is_space l.text)
 
-pub stray_on : (l : Line) → StandsOn l (stray l)
-unfolding stray barred
-stray_on l = by (is_marker l) refl (begins 9 (body l)) refl where
-  by : (m : Bool) → is_marker l ≡ m → (t : Bool) → begins 9 (body l) ≡ t → StandsOn l (stray l)
+pub unexpected_on : (l : Line) → StandsOn l (unexpected l)
+unfolding unexpected bad_start
+unexpected_on l = by (is_marker l) refl (begins 9 (body l)) refl where
+  by : (m : Bool) → is_marker l ≡ m → (t : Bool) → begins 9 (body l) ≡ t → StandsOn l (unexpected l)
   by true e t f = rw e (start_on l)
   by false e true f = rw (e, f) (indent_on l)
   by false e false f = rw (e, f) (start_on l)

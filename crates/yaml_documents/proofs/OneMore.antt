@@ -3,18 +3,18 @@ use Rattle.std.proofs.Common.{◌≡◌, ℕ, zero, suc, Bool, true, false, not,
 use Rattle.std.specs.Prelude.{map as list_map}
 use Rattle.yaml_tree.specs.Tree.{At, Tree}
 use Rattle.yaml_lines.specs.File.{Line, is_empty, begins, carries_nothing, ends_line}
-use Rattle.yaml_lines.specs.Line.{Stop, Read, ◌>>=◌, indent, body, barred, stray, is_void, is_bare, is_dash, is_left_out, starts_plain, plain_rest}
-use Rattle.yaml_lines.specs.Scalar.{Ending, clip, strip, keep}
+use Rattle.yaml_lines.specs.Line.{spot, Stop, Read, ◌>>=◌, indent, body, bad_start, unexpected, is_comment, is_empty_line, is_dash, is_left_out, starts_plain, plain_rest}
+use Rattle.yaml_lines.specs.Scalar.{Chomping, clip, strip, keep}
 use Rattle.yaml_lines.specs.Flow.{quoted, is_quote, is_bracket, flow_node, is_seen}
 use Rattle.yaml_lines.specs.Key.{Keyed, keyed, unkeyed, key_stop, key_at}
-use Rattle.yaml_blocks.specs.Blocks.{rest_while, front_while, skip_void, nothing_from, nothing_in, Parts, put_line, inside, divide, alone, Further, empty_line, comment_line, text_line, last_line, further, add_line, more_plain, plain_text, digit_first, head_end, head_of, first_indent, is_content, lines_at, scalar_lines, block_scalar}
-use Rattle.yaml_blocks.specs.Reading.{Item, item_of, items_of, offset, is_level, element_in, elements_in, value_in, new_key, head_in, entries_in, sequence_in, map_in, lone_in, keyed_then, node_with, node_in, block_from, block_with, block_in, too_deep}
+use Rattle.yaml_blocks.specs.Blocks.{rest_while, front_while, skip_comments, nothing_from, nothing_in, Parts, put_line, inside, divide, alone, Continuation, empty_line, comment_line, text_line, last_line, continuation, add_line, more_plain, plain_text, digit_first, header_end, header_of, first_indent, is_content, lines_at, scalar_lines, block_scalar}
+use Rattle.yaml_blocks.specs.Reading.{Item, item_of, items_of, offset, is_level, after_spaces, key_of, item_key, key_in, behind_in, element_in, elements_in, entry_in, entries_in, sequence_in, map_in, scalar_or_flow_in, keyed_then, node_with, node_in, block_from, block_with, block_in, too_deep}
 use Rattle.yaml_blocks.specs.Laws.{HasTree}
 use Rattle.yaml_blocks.proofs.Tools.{choose}
 use Rattle.yaml_blocks.proofs.Complete.{reads_all}
 use Rattle.yaml_blocks.proofs.Persist.{rest_more}
 use Rattle.yaml_documents.specs.Places.{StandsOn, StopsOnTheLine}
-use Rattle.yaml_documents.proofs.OneLine.{OnLine, on_if, on_bind, spot_on, start_on, stray_on, quoted_on, KeyOn, key_on, flow_on}
+use Rattle.yaml_documents.proofs.OneLine.{OnLine, on_if, on_bind, spot_on, start_on, unexpected_on, quoted_on, KeyOn, key_on, flow_on}
 
 -- where the first reading goes through, the second stops on this line or goes through
 abbrev pub Then : {A B : Type 0} → Line → Read A → Read B → Type 0
@@ -62,24 +62,24 @@ rest_end p (l ∷ ls) k e =
 
 from_most : (k : Line) (xs : List Line) → AtMost k xs → OnLine k (nothing_from xs)
 from_most k [] h = tt
-from_most k (l ∷ []) h = subst (λ (x : Line). StandsOn k (stray x)) (sym h) (stray_on k)
+from_most k (l ∷ []) h = subst (λ (x : Line). StandsOn k (unexpected x)) (sym h) (unexpected_on k)
 from_most k (l ∷ m ∷ ls) h = absurd h
 
 -- what is left of at most one line is at most that line
-void_most : (k : Line) (xs : List Line) → AtMost k xs → AtMost k (skip_void xs)
-void_most k [] h = tt
-void_most k (l ∷ []) h = subst (λ (x : Line). AtMost k (skip_void (x ∷ []))) (sym h) (rest_one is_void k)
-void_most k (l ∷ m ∷ ls) h = absurd h
+comments_most : (k : Line) (xs : List Line) → AtMost k xs → AtMost k (skip_comments xs)
+comments_most k [] h = tt
+comments_most k (l ∷ []) h = subst (λ (x : Line). AtMost k (skip_comments (x ∷ []))) (sym h) (rest_one is_comment k)
+comments_most k (l ∷ m ∷ ls) h = absurd h
 
 nothing_most : (k : Line) (xs : List Line) → AtMost k xs → OnLine k (nothing_in xs)
 unfolding nothing_in
-nothing_most k xs h = from_most k (skip_void xs) (void_most k xs h)
+nothing_most k xs h = from_most k (skip_comments xs) (comments_most k xs h)
 
 nothing_then : (k : Line) (a : List Line) → Then k (nothing_in a) (nothing_in (a ++ k ∷ []))
 unfolding nothing_in
-nothing_then k a = by (skip_void a) refl where
-  by : (xs : List Line) → skip_void a ≡ xs → Then k (nothing_from xs) (nothing_from (skip_void (a ++ k ∷ [])))
-  by [] is = rw (rest_end is_void a k is) (from_most k (skip_void (k ∷ [])) (rest_one is_void k))
+nothing_then k a = by (skip_comments a) refl where
+  by : (xs : List Line) → skip_comments a ≡ xs → Then k (nothing_from xs) (nothing_from (skip_comments (a ++ k ∷ [])))
+  by [] is = rw (rest_end is_comment a k is) (from_most k (skip_comments (k ∷ [])) (rest_one is_comment k))
   by (x ∷ xs) is = tt
 
 rest_then : (k : Line) (p : Line → Bool) (a : List Line) → Then k (nothing_in (rest_while p a)) (nothing_in (rest_while p (a ++ k ∷ [])))
@@ -97,22 +97,22 @@ alone_on l rest x = on_if l (ends_line rest) _ _ (on_bind l (nothing_in []) _ (n
 
 -- ---- scalars over lines
 
-further_on : (m : ℕ) (l : Line) → OnLine l (further m l)
-unfolding further
-further_on m l =
-    on_if l (is_bare l) _ _ tt
-    (on_if l (is_void l) _ _ tt
-    (on_if l (is_some (barred l)) _ _ (stray_on l)
+continuation_on : (m : ℕ) (l : Line) → OnLine l (continuation m l)
+unfolding continuation
+continuation_on m l =
+    on_if l (is_empty_line l) _ _ tt
+    (on_if l (is_comment l) _ _ tt
+    (on_if l (is_some (bad_start l)) _ _ (unexpected_on l)
     (on_if l (nat_lt (indent l) m || not (ends_line (plain_rest false (body l)))) _ _ (start_on l)
     (on_if l (is_empty (plain_rest false (body l))) _ _ tt tt))))
 
-add_on : (l : Line) (n : ℕ) (f : Further) → OnLine l (add_line n f (Ok []) (Ok []) (nothing_in []))
+add_on : (l : Line) (n : ℕ) (f : Continuation) → OnLine l (add_line n f (Ok []) (Ok []) (nothing_in []))
 add_on l n empty_line = tt
 add_on l n comment_line = on_bind l (nothing_in []) _ (nothing_most l [] tt) (λ u. tt)
 add_on l n (text_line t) = tt
 add_on l n (last_line t) = on_bind l (nothing_in []) _ (nothing_most l [] tt) (λ u. tt)
 
-add_then : (k : Line) (n : ℕ) (f : Further) (e e2 b b2 : Read (List ℕ)) (o o2 : Read (Unit {0})) → Then k e e2 → Then k b b2 → Then k o o2 → Then k (add_line n f e b o) (add_line n f e2 b2 o2)
+add_then : (k : Line) (n : ℕ) (f : Continuation) (e e2 b b2 : Read (List ℕ)) (o o2 : Read (Unit {0})) → Then k e e2 → Then k b b2 → Then k o o2 → Then k (add_line n f e b o) (add_line n f e2 b2 o2)
 add_then k n empty_line e e2 b b2 o o2 empty behind ended = empty
 add_then k n comment_line e e2 b b2 o o2 empty behind ended = then_bind k o _ o2 _ ended (λ u v. tt)
 add_then k n (text_line t) e e2 b b2 o o2 empty behind ended = then_bind k b _ b2 _ behind (λ u v. tt)
@@ -120,9 +120,9 @@ add_then k n (last_line t) e e2 b b2 o o2 empty behind ended = then_bind k o _ o
 
 more_then : (k : Line) (m n : ℕ) (a : List Line) → Then k (more_plain m n a) (more_plain m n (a ++ k ∷ []))
 unfolding more_plain
-more_then k m n [] = on_bind k (further m k) _ (further_on m k) (λ f. add_on k n f)
+more_then k m n [] = on_bind k (continuation m k) _ (continuation_on m k) (λ f. add_on k n f)
 more_then k m n (l ∷ ls) =
-    then_same k (further m l) _ _
+    then_same k (continuation m l) _ _
     (λ f. add_then k n f (more_plain m (suc n) ls) (more_plain m (suc n) (ls ++ k ∷ [])) (more_plain m 0 ls) (more_plain m 0 (ls ++ k ∷ [])) (nothing_in ls) (nothing_in (ls ++ k ∷ []))
     (more_then k m (suc n) ls) (more_then k m 0 ls) (nothing_then k ls))
 
@@ -137,12 +137,12 @@ plain_on : (m : ℕ) (l : Line) (cs : List ℕ) → OnLine l (plain_text m l cs 
 unfolding plain_text more_plain
 plain_on m l cs = on_if l (is_empty (plain_rest false cs)) _ _ tt (alone_on l (plain_rest false cs) _)
 
-head_end_on : (l : Line) (e : Ending) (cs : List ℕ) → OnLine l (head_end l e cs)
-head_end_on l e cs = on_if l (digit_first cs) _ _ (spot_on l cs) (on_if l (ends_line cs) _ _ tt (start_on l))
+header_end_on : (l : Line) (e : Chomping) (cs : List ℕ) → OnLine l (header_end l e cs)
+header_end_on l e cs = on_if l (digit_first cs) _ _ (spot_on l cs) (on_if l (ends_line cs) _ _ tt (start_on l))
 
-head_on : (l : Line) (cs : List ℕ) → OnLine l (head_of l cs)
+head_on : (l : Line) (cs : List ℕ) → OnLine l (header_of l cs)
 head_on l cs =
-    on_if l (begins 45 cs) _ _ (head_end_on l strip (drop 1 cs)) (on_if l (begins 43 cs) _ _ (head_end_on l keep (drop 1 cs)) (head_end_on l clip cs))
+    on_if l (begins 45 cs) _ _ (header_end_on l strip (drop 1 cs)) (on_if l (begins 43 cs) _ _ (header_end_on l keep (drop 1 cs)) (header_end_on l clip cs))
 
 -- the lines behind a block scalar
 behind_most : (k : Line) (m : ℕ) (front xs : List Line) → AtMost k xs → AtMost k (lines_at m (first_indent xs) front xs).1
@@ -155,30 +155,30 @@ behind_most k m front (l ∷ n ∷ ls) h = absurd h
 
 lines_then : (k : Line) (m : ℕ) (a : List Line) → Then k (nothing_in (scalar_lines m a).1) (nothing_in (scalar_lines m (a ++ k ∷ [])).1)
 unfolding scalar_lines
-lines_then k m a = by (rest_while is_bare a) refl where
+lines_then k m a = by (rest_while is_empty_line a) refl where
   at : (i : ℕ) (f g : List Line) (xs : List Line) (t : Bool) → nat_lt i m ≡ t → Then k (nothing_in (lines_at m (Some i) f xs).1) (nothing_in (lines_at m (Some i) g (xs ++ k ∷ [])).1)
   at i f g xs true h = rw h (nothing_then k xs)
   at i f g xs false h = rw h (rest_then k (is_content i) xs)
 
-  by : (xs : List Line) → rest_while is_bare a ≡ xs
-      → Then k (nothing_in (lines_at m (first_indent xs) (front_while is_bare a) xs).1)
-      (nothing_in (lines_at m (first_indent (rest_while is_bare (a ++ k ∷ []))) (front_while is_bare (a ++ k ∷ [])) (rest_while is_bare (a ++ k ∷ []))).1)
-  by [] is = then_of k (nothing_in []) _ (nothing_most k _ (behind_most k m _ _ (subst (AtMost k) (sym (rest_end is_bare a k is)) (rest_one is_bare k))))
-  by (x ∷ xs) is = rw (rest_more is_bare a (k ∷ []) x xs is) (at (indent x) (front_while is_bare a) (front_while is_bare (a ++ k ∷ [])) (x ∷ xs) (nat_lt (indent x) m) refl)
+  by : (xs : List Line) → rest_while is_empty_line a ≡ xs
+      → Then k (nothing_in (lines_at m (first_indent xs) (front_while is_empty_line a) xs).1)
+      (nothing_in (lines_at m (first_indent (rest_while is_empty_line (a ++ k ∷ []))) (front_while is_empty_line (a ++ k ∷ [])) (rest_while is_empty_line (a ++ k ∷ []))).1)
+  by [] is = then_of k (nothing_in []) _ (nothing_most k _ (behind_most k m _ _ (subst (AtMost k) (sym (rest_end is_empty_line a k is)) (rest_one is_empty_line k))))
+  by (x ∷ xs) is = rw (rest_more is_empty_line a (k ∷ []) x xs is) (at (indent x) (front_while is_empty_line a) (front_while is_empty_line (a ++ k ∷ [])) (x ∷ xs) (nat_lt (indent x) m) refl)
 
 block_scalar_then : (k : Line) (m : ℕ) (l : Line) (cs : List ℕ) (a : List Line) → Then k (block_scalar m l cs a) (block_scalar m l cs (a ++ k ∷ []))
 unfolding block_scalar
 block_scalar_then k m l cs a =
-    then_same k (head_of l (drop 1 cs)) _ _
+    then_same k (header_of l (drop 1 cs)) _ _
     (λ e. then_bind k (nothing_in (scalar_lines m a).1) _ (nothing_in (scalar_lines m (a ++ k ∷ [])).1) _ (lines_then k m a) (λ u v. tt))
 
 block_scalar_on : (m : ℕ) (l : Line) (cs : List ℕ) → OnLine l (block_scalar m l cs [])
 unfolding block_scalar scalar_lines
-block_scalar_on m l cs = on_bind l (head_of l (drop 1 cs)) _ (head_on l (drop 1 cs)) (λ e. on_bind l (nothing_in []) _ (nothing_most l [] tt) (λ u. tt))
+block_scalar_on m l cs = on_bind l (header_of l (drop 1 cs)) _ (head_on l (drop 1 cs)) (λ e. on_bind l (nothing_in []) _ (nothing_most l [] tt) (λ u. tt))
 
-lone_then : (k : Line) (d m : ℕ) (l : Line) (cs : List ℕ) (a : List Line) → Then k (lone_in d m l cs a) (lone_in d m l cs (a ++ k ∷ []))
-unfolding lone_in
-lone_then k d m l cs a =
+scalar_or_flow_then : (k : Line) (d m : ℕ) (l : Line) (cs : List ℕ) (a : List Line) → Then k (scalar_or_flow_in d m l cs a) (scalar_or_flow_in d m l cs (a ++ k ∷ []))
+unfolding scalar_or_flow_in
+scalar_or_flow_then k d m l cs a =
     then_if k (is_left_out cs || (begins 37 cs && offset l cs == 0)) _ _ _ _ tt
     (then_if k (is_quote cs) _ _ _ _ (then_same k (quoted l cs) _ _ (λ q. alone_then k l q.1 a _ _))
     (then_if k (is_bracket cs) _ _ _ _ (then_same k (flow_node d l cs) _ _ (λ q. alone_then k l q.1 a _ _))
@@ -186,9 +186,9 @@ lone_then k d m l cs a =
     (then_bind k (block_scalar m l cs a) _ (block_scalar m l cs (a ++ k ∷ [])) _ (block_scalar_then k m l cs a) (λ u v. tt))
     (then_if k (starts_plain cs) _ _ _ _ (then_bind k (plain_text m l cs a) _ (plain_text m l cs (a ++ k ∷ [])) _ (plain_then k m l cs a) (λ u v. tt)) tt))))
 
-lone_on : (d m : ℕ) (l : Line) (cs : List ℕ) → OnLine l (lone_in d m l cs [])
-unfolding lone_in
-lone_on d m l cs =
+scalar_or_flow_on : (d m : ℕ) (l : Line) (cs : List ℕ) → OnLine l (scalar_or_flow_in d m l cs [])
+unfolding scalar_or_flow_in
+scalar_or_flow_on d m l cs =
     on_if l (is_left_out cs || (begins 37 cs && offset l cs == 0)) _ _ (spot_on l cs)
     (on_if l (is_quote cs) _ _ (on_bind l (quoted l cs) _ (quoted_on l cs) (λ q. alone_on l q.1 _))
     (on_if l (is_bracket cs) _ _ (on_bind l (flow_node d l cs) _ (flow_on d l cs) (λ q. alone_on l q.1 _))
@@ -241,105 +241,99 @@ NodesThen d = (k : Line) (may : Bool) (m : ℕ) (l : Line) (cs : List ℕ) (a : 
 from_on : (d : ℕ) → NodesOn d → (m : ℕ) (home : At) (k : Line) (xs : List Line) → AtMost k xs → OnLine k (block_from (node_in d) m home xs)
 from_on d on m home k [] h = tt
 from_on d on m home k (l ∷ []) h =
-    subst (λ (x : Line). OnLine k (block_from (node_in d) m home (x ∷ []))) (sym h) (on_if k (is_some (barred k)) _ _ (stray_on k) (on true m k (body k)))
+    subst (λ (x : Line). OnLine k (block_from (node_in d) m home (x ∷ []))) (sym h) (on_if k (is_some (bad_start k)) _ _ (unexpected_on k) (on true m k (body k)))
 from_on d on m home k (l ∷ n ∷ ls) h = absurd h
 
 block_then : (d : ℕ) → NodesOn d → NodesThen d → (k : Line) (m : ℕ) (home : At) (a : List Line) → Then k (block_with (node_in d) m home a) (block_with (node_in d) m home (a ++ k ∷ []))
-block_then d on more k m home a = by (skip_void a) refl where
-  by : (xs : List Line) → skip_void a ≡ xs → Then k (block_from (node_in d) m home xs) (block_from (node_in d) m home (skip_void (a ++ k ∷ [])))
-  by [] is = from_on d on m home k _ (subst (AtMost k) (sym (rest_end is_void a k is)) (rest_one is_void k))
-  by (x ∷ xs) is = rw (rest_more is_void a (k ∷ []) x xs is) (then_if k (is_some (barred x)) _ _ _ _ tt (more k true m x (body x) xs))
+block_then d on more k m home a = by (skip_comments a) refl where
+  by : (xs : List Line) → skip_comments a ≡ xs → Then k (block_from (node_in d) m home xs) (block_from (node_in d) m home (skip_comments (a ++ k ∷ [])))
+  by [] is = from_on d on m home k _ (subst (AtMost k) (sym (rest_end is_comment a k is)) (rest_one is_comment k))
+  by (x ∷ xs) is = rw (rest_more is_comment a (k ∷ []) x xs is) (then_if k (is_some (bad_start x)) _ _ _ _ tt (more k true m x (body x) xs))
+
+-- what stands behind a dash or a colon
+behind_on : (d : ℕ) → NodesOn d → (may : Bool) (i : ℕ) (home : At) (l : Line) (rest : List ℕ) → OnLine l (behind_in (block_with (node_in d)) (node_in d) may i home l rest [])
+behind_on d on may i home l rest = on_if l (carries_nothing rest) _ _ tt (on _ _ l _)
+
+behind_then : (d : ℕ) → NodesOn d → NodesThen d → (k : Line) (may : Bool) (i : ℕ) (home : At) (l : Line) (rest : List ℕ) (a : List Line)
+    → Then k (behind_in (block_with (node_in d)) (node_in d) may i home l rest a) (behind_in (block_with (node_in d)) (node_in d) may i home l rest (a ++ k ∷ []))
+behind_then d on more k may i home l rest a = then_if k (carries_nothing rest) _ _ _ _ (block_then d on more k _ _ a) (more k _ _ _ _ a)
 
 element_on : (d : ℕ) → NodesOn d → (i : ℕ) (l : Line) (cs : List ℕ) → OnLine l (element_in (block_with (node_in d)) (node_in d) i (record { line = l; text = cs; inner = [] }))
 unfolding element_in
-element_on d on i l cs = on_if l (carries_nothing (drop 1 cs)) _ _ tt (on _ _ l _)
-
-value_on : (d : ℕ) → NodesOn d → (i : ℕ) (l : Line) (cs rest : List ℕ) → OnLine l (value_in (block_with (node_in d)) (node_in d) i (record { line = l; text = cs; inner = [] }) rest)
-unfolding value_in
-value_on d on i l cs rest = on_if l (carries_nothing rest) _ _ tt (on _ _ l _)
+element_on d on i l cs =
+    on_if l (is_some (bad_start l)) _ _ (unexpected_on l)
+    (on_if l (not (is_level i (record { line = l; text = cs; inner = [] }) && is_dash cs)) _ _ (start_on l)
+    (behind_on d on (after_spaces (drop 1 cs)) i (spot l cs) l (drop 1 cs)))
 
 element_then : (d : ℕ) → NodesOn d → NodesThen d → (k : Line) (i : ℕ) (x : Item)
     → Then k (element_in (block_with (node_in d)) (node_in d) i x) (element_in (block_with (node_in d)) (node_in d) i (record x { inner = x.inner ++ k ∷ [] }))
 unfolding element_in
-element_then d on more k i x = then_if k (carries_nothing (drop 1 x.text)) _ _ _ _ (block_then d on more k _ _ x.inner) (more k _ _ _ _ x.inner)
-
-value_then : (d : ℕ) → NodesOn d → NodesThen d → (k : Line) (i : ℕ) (x : Item) (rest : List ℕ)
-    → Then k (value_in (block_with (node_in d)) (node_in d) i x rest) (value_in (block_with (node_in d)) (node_in d) i (record x { inner = x.inner ++ k ∷ [] }) rest)
-unfolding value_in
-value_then d on more k i x rest = then_if k (carries_nothing rest) _ _ _ _ (block_then d on more k _ _ x.inner) (more k _ _ _ _ x.inner)
+element_then d on more k i x =
+    then_if k (is_some (bad_start x.line)) _ _ _ _ tt
+    (then_if k (not (is_level i x && is_dash x.text)) _ _ _ _ tt
+    (behind_then d on more k (after_spaces (drop 1 x.text)) i (spot x.line x.text) x.line (drop 1 x.text) x.inner))
 
 elements_on : (d : ℕ) → NodesOn d → (i : ℕ) (l : Line) (cs : List ℕ) → OnLine l (elements_in (block_with (node_in d)) (node_in d) i (record { line = l; text = cs; inner = [] } ∷ []))
-elements_on d on i l cs =
-    on_if l (is_some (barred l)) _ _ (stray_on l)
-    (on_if l (not (is_level i (record { line = l; text = cs; inner = [] }) && is_dash cs)) _ _ (start_on l)
-    (on_bind l (element_in (block_with (node_in d)) (node_in d) i (record { line = l; text = cs; inner = [] })) _ (element_on d on i l cs) (λ t. tt)))
+elements_on d on i l cs = on_bind l (element_in (block_with (node_in d)) (node_in d) i (record { line = l; text = cs; inner = [] })) _ (element_on d on i l cs) (λ t. tt)
 
 elements_then : (d : ℕ) → NodesOn d → NodesThen d → (k : Line) (b : Bool) (i : ℕ) (x : Item) (xs : List Item)
     → Then k (elements_in (block_with (node_in d)) (node_in d) i (x ∷ xs)) (elements_in (block_with (node_in d)) (node_in d) i (push_line b k x xs))
 elements_then d on more k true i x [] =
-    then_if k (is_some (barred x.line)) _ _ _ _ tt
-    (then_if k (not (is_level i x && is_dash x.text)) _ _ _ _ tt
-    (then_bind k (element_in (block_with (node_in d)) (node_in d) i x) _ (element_in (block_with (node_in d)) (node_in d) i (record x { inner = x.inner ++ k ∷ [] })) _
-    (element_then d on more k i x) (λ t u. tt)))
+    then_bind k (element_in (block_with (node_in d)) (node_in d) i x) _ (element_in (block_with (node_in d)) (node_in d) i (record x { inner = x.inner ++ k ∷ [] })) _
+    (element_then d on more k i x) (λ t u. tt)
 elements_then d on more k false i x [] =
-    then_if k (is_some (barred x.line)) _ _ _ _ tt
-    (then_if k (not (is_level i x && is_dash x.text)) _ _ _ _ tt
-    (then_same k (element_in (block_with (node_in d)) (node_in d) i x) _ _
-    (λ t. on_bind k (elements_in (block_with (node_in d)) (node_in d) i (record { line = k; text = body k; inner = [] } ∷ [])) _ (elements_on d on i k (body k)) (λ ts. tt))))
+    then_same k (element_in (block_with (node_in d)) (node_in d) i x) _ _
+    (λ t. on_bind k (elements_in (block_with (node_in d)) (node_in d) i (record { line = k; text = body k; inner = [] } ∷ [])) _ (elements_on d on i k (body k)) (λ ts. tt))
 elements_then d on more k b i x (y ∷ ys) =
-    then_if k (is_some (barred x.line)) _ _ _ _ tt
-    (then_if k (not (is_level i x && is_dash x.text)) _ _ _ _ tt
-    (then_same k (element_in (block_with (node_in d)) (node_in d) i x) _ _
+    then_same k (element_in (block_with (node_in d)) (node_in d) i x) _ _
     (λ t. then_bind k (elements_in (block_with (node_in d)) (node_in d) i (y ∷ ys)) _ (elements_in (block_with (node_in d)) (node_in d) i (push_line b k y ys)) _
-    (elements_then d on more k b i y ys) (λ ts us. tt))))
+    (elements_then d on more k b i y ys) (λ ts us. tt))
 
-new_key_on : (d : ℕ) (seen : List (List ℕ)) (l : Line) (cs : List ℕ) (key : Keyed) → KeyOn l key
-    → OnLine l (new_key (block_with (node_in d)) (node_in d) seen (record { line = l; text = cs; inner = [] }) key)
-new_key_on d seen l cs (key_stop s) h = h
-new_key_on d seen l cs unkeyed h = start_on l
-new_key_on d seen l cs (keyed key rest) h = on_if l (is_seen key seen) _ _ (spot_on l cs) tt
+key_of_on : (l : Line) (key : Keyed) → KeyOn l key → OnLine l (key_of l key)
+key_of_on l (key_stop s) h = h
+key_of_on l unkeyed h = start_on l
+key_of_on l (keyed key rest) h = tt
 
-head_in_on : (d i : ℕ) (seen : List (List ℕ)) (l : Line) (cs : List ℕ) → OnLine l (head_in (block_with (node_in d)) (node_in d) i seen (record { line = l; text = cs; inner = [] }))
-unfolding head_in
-head_in_on d i seen l cs =
-    on_if l (is_some (barred l)) _ _ (stray_on l)
-    (on_if l (not (is_level i (record { line = l; text = cs; inner = [] }))) _ _ (start_on l) (new_key_on d seen l cs (key_at l cs) (key_on l cs)))
+key_in_on : (i : ℕ) (seen : List (List ℕ)) (l : Line) (cs : List ℕ) → OnLine l (key_in i seen l cs)
+unfolding key_in item_key
+key_in_on i seen l cs =
+    on_bind l (item_key i l cs) _
+    (on_if l (is_some (bad_start l)) _ _ (unexpected_on l) (on_if l (not (offset l cs == i)) _ _ (start_on l) (key_of_on l (key_at l cs) (key_on l cs))))
+    (λ k. on_if l (is_seen k.0 seen) _ _ (spot_on l cs) tt)
+
+entry_on : (d : ℕ) → NodesOn d → (i : ℕ) (seen : List (List ℕ)) (l : Line) (cs : List ℕ)
+    → OnLine l (entry_in (block_with (node_in d)) (node_in d) i seen (record { line = l; text = cs; inner = [] }))
+unfolding entry_in
+entry_on d on i seen l cs =
+    on_bind l (key_in i seen l cs) _ (key_in_on i seen l cs)
+    (λ key. on_bind l (behind_in (block_with (node_in d)) (node_in d) false i (spot l cs) l key.1 []) _ (behind_on d on false i (spot l cs) l key.1) (λ t. tt))
+
+entry_then : (d : ℕ) → NodesOn d → NodesThen d → (k : Line) (i : ℕ) (seen : List (List ℕ)) (x : Item)
+    → Then k (entry_in (block_with (node_in d)) (node_in d) i seen x) (entry_in (block_with (node_in d)) (node_in d) i seen (record x { inner = x.inner ++ k ∷ [] }))
+unfolding entry_in
+entry_then d on more k i seen x =
+    then_same k (key_in i seen x.line x.text) _ _
+    (λ key. then_bind k (behind_in (block_with (node_in d)) (node_in d) false i (spot x.line x.text) x.line key.1 x.inner) _
+    (behind_in (block_with (node_in d)) (node_in d) false i (spot x.line x.text) x.line key.1 (x.inner ++ k ∷ [])) _
+    (behind_then d on more k false i (spot x.line x.text) x.line key.1 x.inner) (λ t u. tt))
 
 entries_on : (d : ℕ) → NodesOn d → (i : ℕ) (seen : List (List ℕ)) (l : Line) (cs : List ℕ)
     → OnLine l (entries_in (block_with (node_in d)) (node_in d) i seen (record { line = l; text = cs; inner = [] } ∷ []))
-entries_on d on i seen l cs =
-    on_bind l (head_in (block_with (node_in d)) (node_in d) i seen (record { line = l; text = cs; inner = [] })) _ (head_in_on d i seen l cs)
-    (λ key. on_bind l (value_in (block_with (node_in d)) (node_in d) i (record { line = l; text = cs; inner = [] }) key.1) _ (value_on d on i l cs key.1) (λ t. tt))
-
-new_key_same : (d : ℕ) (seen : List (List ℕ)) (x : Item) (ls : List Line) (key : Keyed)
-    → new_key (block_with (node_in d)) (node_in d) seen (record x { inner = ls }) key ≡ new_key (block_with (node_in d)) (node_in d) seen x key
-new_key_same d seen x ls (keyed key rest) = refl
-new_key_same d seen x ls unkeyed = refl
-new_key_same d seen x ls (key_stop s) = refl
-
--- a key is read whatever stands inside its item
-head_same : (d i : ℕ) (seen : List (List ℕ)) (x : Item) (ls : List Line)
-    → head_in (block_with (node_in d)) (node_in d) i seen (record x { inner = ls }) ≡ head_in (block_with (node_in d)) (node_in d) i seen x
-unfolding head_in
-head_same d i seen x ls = rw (new_key_same d seen x ls (key_at x.line x.text)) refl
+entries_on d on i seen l cs = on_bind l (entry_in (block_with (node_in d)) (node_in d) i seen (record { line = l; text = cs; inner = [] })) _ (entry_on d on i seen l cs) (λ m. tt)
 
 entries_then : (d : ℕ) → NodesOn d → NodesThen d → (k : Line) (b : Bool) (i : ℕ) (seen : List (List ℕ)) (x : Item) (xs : List Item)
     → Then k (entries_in (block_with (node_in d)) (node_in d) i seen (x ∷ xs)) (entries_in (block_with (node_in d)) (node_in d) i seen (push_line b k x xs))
 entries_then d on more k true i seen x [] =
-    rw (head_same d i seen x (x.inner ++ k ∷ []))
-    (then_same k (head_in (block_with (node_in d)) (node_in d) i seen x) _ _
-    (λ key. then_bind k (value_in (block_with (node_in d)) (node_in d) i x key.1) _ (value_in (block_with (node_in d)) (node_in d) i (record x { inner = x.inner ++ k ∷ [] }) key.1) _
-    (value_then d on more k i x key.1) (λ t u. tt)))
+    then_bind k (entry_in (block_with (node_in d)) (node_in d) i seen x) _ (entry_in (block_with (node_in d)) (node_in d) i seen (record x { inner = x.inner ++ k ∷ [] })) _
+    (entry_then d on more k i seen x) (λ m n. tt)
 entries_then d on more k false i seen x [] =
-    then_same k (head_in (block_with (node_in d)) (node_in d) i seen x) _ _
-    (λ key. then_same k (value_in (block_with (node_in d)) (node_in d) i x key.1) _ _
-    (λ t. on_bind k (entries_in (block_with (node_in d)) (node_in d) i (seen ++ key.0 ∷ []) (record { line = k; text = body k; inner = [] } ∷ [])) _ (entries_on d on i _ k (body k)) (λ ms. tt)))
+    then_same k (entry_in (block_with (node_in d)) (node_in d) i seen x) _ _
+    (λ m. on_bind k (entries_in (block_with (node_in d)) (node_in d) i (seen ++ m.key ∷ []) (record { line = k; text = body k; inner = [] } ∷ [])) _ (entries_on d on i _ k (body k)) (λ ms. tt))
 entries_then d on more k b i seen x (y ∷ ys) =
-    then_same k (head_in (block_with (node_in d)) (node_in d) i seen x) _ _
-    (λ key. then_same k (value_in (block_with (node_in d)) (node_in d) i x key.1) _ _
-    (λ t. then_bind k (entries_in (block_with (node_in d)) (node_in d) i (seen ++ key.0 ∷ []) (y ∷ ys)) _
-    (entries_in (block_with (node_in d)) (node_in d) i (seen ++ key.0 ∷ []) (push_line b k y ys)) _
-    (entries_then d on more k b i (seen ++ key.0 ∷ []) y ys) (λ ms ns. tt)))
+    then_same k (entry_in (block_with (node_in d)) (node_in d) i seen x) _ _
+    (λ m. then_bind k (entries_in (block_with (node_in d)) (node_in d) i (seen ++ m.key ∷ []) (y ∷ ys)) _
+    (entries_in (block_with (node_in d)) (node_in d) i (seen ++ m.key ∷ []) (push_line b k y ys)) _
+    (entries_then d on more k b i (seen ++ m.key ∷ []) y ys) (λ ms ns. tt))
 
 -- ---- nodes
 
@@ -360,12 +354,12 @@ node_then : (a_list a_map : Reader) (k : Line) (d : ℕ) (may : Bool) (m : ℕ) 
     → Then k (a_list l cs a) (a_list l cs (a ++ k ∷ [])) → Then k (a_map l cs a) (a_map l cs (a ++ k ∷ []))
     → Then k (node_with a_list a_map d may m l cs a) (node_with a_list a_map d may m l cs (a ++ k ∷ []))
 node_then a_list a_map k d may m l cs a listed mapped =
-    then_if k (not may) _ _ _ _ (lone_then k d m l cs a)
-    (then_if k (is_dash cs) _ _ _ _ listed (keyed_then_then k (key_at l cs) _ _ _ _ mapped (lone_then k d m l cs a)))
+    then_if k (not may) _ _ _ _ (scalar_or_flow_then k d m l cs a)
+    (then_if k (is_dash cs) _ _ _ _ listed (keyed_then_then k (key_at l cs) _ _ _ _ mapped (scalar_or_flow_then k d m l cs a)))
 
 node_on : (a_list a_map : Reader) (d : ℕ) (may : Bool) (m : ℕ) (l : Line) (cs : List ℕ) → OnLine l (a_list l cs []) → OnLine l (a_map l cs []) → OnLine l (node_with a_list a_map d may m l cs [])
 node_on a_list a_map d may m l cs listed mapped =
-    on_if l (not may) _ _ (lone_on d m l cs) (on_if l (is_dash cs) _ _ listed (keyed_then_on l (key_at l cs) _ _ (key_on l cs) mapped (lone_on d m l cs)))
+    on_if l (not may) _ _ (scalar_or_flow_on d m l cs) (on_if l (is_dash cs) _ _ listed (keyed_then_on l (key_at l cs) _ _ (key_on l cs) mapped (scalar_or_flow_on d m l cs)))
 
 nodes_on : (d : ℕ) → NodesOn d
 unfolding node_in

@@ -5,7 +5,7 @@ use Rattle.std.proofs.lemmas.List.{length-append}
 use Rattle.std.proofs.Math.Seq.{take-append_seam}
 use Rattle.yaml_tree.specs.Tree.{Tree, tree, refusal}
 use Rattle.yaml_lines.specs.File.{Line, is_marker}
-use Rattle.yaml_lines.specs.Line.{Stop, is_void}
+use Rattle.yaml_lines.specs.Line.{Stop, is_comment}
 use Rattle.yaml_blocks.specs.Reading.{block_in}
 use Rattle.yaml_blocks.specs.Laws.{HasTree, StopsFirst}
 use Rattle.yaml_blocks.specs.Documents.{home, is_regular, has_content, Alive, IsRefusedAt, IsCode, stop_code, code_at, IsAnswer}
@@ -15,7 +15,7 @@ use Rattle.yaml_blocks.proofs.Complete.{reads_all}
 use Rattle.yaml_blocks.proofs.Stopped.{stops_by_cases}
 use Rattle.yaml_blocks.proofs.First.{tree_or_stop}
 use Rattle.yaml_blocks.proofs.Answered.{alive_before}
-use Rattle.yaml_documents.proofs.Fronts.{all_before, all_behind, all_counted, not_all, void_all, void_not_all, skip_all}
+use Rattle.yaml_documents.proofs.Fronts.{all_before, all_behind, all_counted, not_all, comments_all, comments_not_all, skip_all}
 
 is_code : (depth : ℕ) (front : List Line) (l : Line) (later : List Line) → IsCode depth front l later (code_at depth front l later)
 is_code depth front l later = by (is_marker l) refl (tree_or_stop depth home (front ++ l ∷ [])) where
@@ -28,7 +28,7 @@ is_code depth front l later = by (is_marker l) refl (tree_or_stop depth home (fr
 
 -- lines without content are read
 no_stop : (depth : ℕ) (ls : List Line) (s : Stop) → has_content ls ≡ false → block_in depth 0 home ls ≡ Err s → ⊥
-no_stop depth ls s none e = let void = skip_all ls none in let read = rw void at e in cc
+no_stop depth ls s none e = let comment = skip_all ls none in let read = rw comment at e in cc
 
 -- the first line that has no tree up to it, among regular lines and before others
 stop_refused : (depth : ℕ) (regular others : List Line) (s : Stop) (h : StopsFirst depth home regular s) → list_all is_regular regular ≡ true
@@ -67,19 +67,19 @@ behind_one front line n h = omega (arith, length-append front (line ∷ []))
 order : (m n : ℕ) → (m ≤ n) ⊎ (n < m)
 order m n = search rules
 
-alive_front : (depth : ℕ) (front rest : List Line) (t : Tree) → length front ≡ max (prefix_len is_regular (front ++ rest)) (prefix_len is_void (front ++ rest))
+alive_front : (depth : ℕ) (front rest : List Line) (t : Tree) → length front ≡ max (prefix_len is_regular (front ++ rest)) (prefix_len is_comment (front ++ rest))
     → block_in depth 0 home (take (prefix_len is_regular (front ++ rest)) (front ++ rest)) ≡ Ok t → Alive depth front
 alive_front depth front rest t count read =
-    elim (order (prefix_len is_void (front ++ rest)) (prefix_len is_regular (front ++ rest))) [
+    elim (order (prefix_len is_comment (front ++ rest)) (prefix_len is_regular (front ++ rest))) [
       | inl fewer ↦
           let here : length front ≡ prefix_len is_regular (front ++ rest) = omega arith in
           let whole : take (prefix_len is_regular (front ++ rest)) (front ++ rest) ≡ front = ap (λ (n : ℕ). take n (front ++ rest)) (sym here) ∙ take-append_seam front rest in
           inr (all_counted is_regular front rest (omega arith), (t, reads_trees depth home front t (ap (block_in depth 0 home) (sym whole) ∙ read)))
-      | inr more ↦ inl (void_all front (all_counted is_void front rest (omega arith)))
+      | inr more ↦ inl (comments_all front (all_counted is_comment front rest (omega arith)))
     ]
 
 pub dead_given : (depth : ℕ) (front : List Line) (line : Line) (more : List Line) (t : Tree)
-    → length front ≡ max (prefix_len is_regular (front ++ line ∷ more)) (prefix_len is_void (front ++ line ∷ more))
+    → length front ≡ max (prefix_len is_regular (front ++ line ∷ more)) (prefix_len is_comment (front ++ line ∷ more))
     → block_in depth 0 home (take (prefix_len is_regular (front ++ line ∷ more)) (front ++ line ∷ more)) ≡ Ok t
     → IsAnswer depth (front ++ line ∷ more) (refusal (code_at depth front line more))
 dead_given depth front line more t count read =
@@ -87,7 +87,7 @@ dead_given depth front line more t count read =
     let irregular : list_all is_regular (front ++ line ∷ []) ≡ false =
     not_all is_regular (front ++ line ∷ []) more (behind_one front line _ (ap≤ (ap (prefix_len is_regular) whole) (omega arith))) in
     let content : has_content (front ++ line ∷ []) ≡ true =
-    void_not_all (front ++ line ∷ []) (not_all is_void (front ++ line ∷ []) more (behind_one front line _ (ap≤ (ap (prefix_len is_void) whole) (omega arith)))) in (
+    comments_not_all (front ++ line ∷ []) (not_all is_comment (front ++ line ∷ []) more (behind_one front line _ (ap≤ (ap (prefix_len is_comment) whole) (omega arith)))) in (
       front,
       line,
       more,

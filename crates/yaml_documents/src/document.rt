@@ -13,7 +13,7 @@ ghost use Rattle.yaml_documents.specs.Given.{IsPlain, IsRefused, number_of, HasN
 
 use sig_base::{Code, Detail, Fault, Place, Refusal};
 use std::alloc::Global;
-use yaml_blocks::lines::{is_marker, is_void, lines_behind};
+use yaml_blocks::lines::{is_comment, is_marker, lines_behind};
 use yaml_files::codes::{is_regular, stop_code};
 use yaml_lines::{Halt, Line};
 use yaml_nodes::read_block;
@@ -34,7 +34,7 @@ pub fn read_document(alloc: Global, depth: usize, lines: &[Line<'_>]) -> Result<
             if count == lines.len() {
                 return Ok(Document::Tree(root));
             }
-            refused_behind(alloc, depth, count.max(void_count(lines)), lines)
+            refused_behind(alloc, depth, count.max(comment_count(lines)), lines)
         }
         Err(halt) => stopped(lines, &halt),
     }
@@ -49,11 +49,11 @@ fn regular_count(lines: &[Line<'_>]) -> usize
 }
 
 /// How many lines stand before the first with content.
-fn void_count(lines: &[Line<'_>]) -> usize
-    ensures count { result ≡ prefix_len (λ l. line_spec.is_void (line_view l)) lines.now }
+fn comment_count(lines: &[Line<'_>]) -> usize
+    ensures count { result ≡ prefix_len (λ l. line_spec.is_comment (line_view l)) lines.now }
     ensures within { result ≤ length lines.now }
 {
-    lines.iter().take_while(|line| is_void(line)).count()
+    lines.iter().take_while(|line| is_comment(line)).count()
 }
 
 /// The refusal of a document whose reading stops, at the line on which it does.

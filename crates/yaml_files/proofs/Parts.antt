@@ -10,9 +10,9 @@ use Rattle.std.proofs.Math.Seq.{split_at}
 use Rattle.yaml_tree.specs.Tree.{At}
 use Rattle.yaml_lines.specs.declared.line.Line as code
 use Rattle.yaml_lines.specs.File.{Line, carries_nothing, carries, is_parting, put_line, parted, with_content}
-use Rattle.yaml_lines.specs.Line.{at, is_void}
+use Rattle.yaml_lines.specs.Line.{at, is_comment}
 use Rattle.yaml_lines.specs.View.{line_view}
-use Rattle.yaml_blocks.specs.Blocks.{skip_void}
+use Rattle.yaml_blocks.specs.Blocks.{skip_comments}
 use Rattle.yaml_blocks.specs.Views.{lines_view}
 use Rattle.yaml_files.specs.Call.{IsTooMany}
 use Rattle.yaml_files.specs.Views.{documents_view, first_place, IsOneMore}
@@ -24,30 +24,30 @@ drop_at xs i x h x_is = drop_more xs i x h ∙ ap (λ (y : code.Line). y ∷ dro
 -- ---- the first line with content
 
 abbrev content_from : List code.Line → Option At
-content_from ls = first_place (skip_void (lines_view ls))
+content_from ls = first_place (skip_comments (lines_view ls))
 
-pub content_void : (xs : List code.Line) (i : ℕ) (x : code.Line) → i < length xs → x ≡ get_or xs i x → is_void (line_view x) ≡ true
+pub content_comment : (xs : List code.Line) (i : ℕ) (x : code.Line) → i < length xs → x ≡ get_or xs i x → is_comment (line_view x) ≡ true
     → content_from (drop i xs) ≡ content_from (drop (i + 1) xs)
-content_void xs i x h x_is void = ap content_from (drop_at xs i x h x_is) ∙ rw void refl
+content_comment xs i x h x_is comment = ap content_from (drop_at xs i x h x_is) ∙ rw comment refl
 
-pub content_here : (xs : List code.Line) (i : ℕ) (x : code.Line) → i < length xs → x ≡ get_or xs i x → is_void (line_view x) ≡ false
+pub content_here : (xs : List code.Line) (i : ℕ) (x : code.Line) → i < length xs → x ≡ get_or xs i x → is_comment (line_view x) ≡ false
     → content_from (drop i xs) ≡ Some (at (line_view x) 0)
-content_here xs i x h x_is void = ap content_from (drop_at xs i x h x_is) ∙ rw void refl
+content_here xs i x h x_is comment = ap content_from (drop_at xs i x h x_is) ∙ rw comment refl
 
 pub content_none : (xs : List code.Line) (i : ℕ) → length xs ≤ i → content_from (drop i xs) ≡ None
 content_none xs i h = at_drop_all content_from xs i h
 
 -- lines without a first line with content carry nothing, and the others something
-carries_step : (l : Line) (ls : List Line) (a : Option At) → (first_place (skip_void ls) ≡ a → list_any carries ls ≡ is_some a) → first_place (skip_void (l ∷ ls)) ≡ a
+carries_step : (l : Line) (ls : List Line) (a : Option At) → (first_place (skip_comments ls) ≡ a → list_any carries ls ≡ is_some a) → first_place (skip_comments (l ∷ ls)) ≡ a
     → list_any carries (l ∷ ls) ≡ is_some a
-unfolding is_void
+unfolding is_comment
 carries_step l ls a more e = by (carries_nothing l.text) e
   where
-    by : (b : Bool) → first_place (cond b (skip_void ls) (l ∷ ls)) ≡ a → (not b || list_any carries ls) ≡ is_some a
+    by : (b : Bool) → first_place (cond b (skip_comments ls) (l ∷ ls)) ≡ a → (not b || list_any carries ls) ≡ is_some a
     by true h = more h
     by false h = ap is_some h
 
-carries_first : (ls : List Line) (a : Option At) → first_place (skip_void ls) ≡ a → list_any carries ls ≡ is_some a
+carries_first : (ls : List Line) (a : Option At) → first_place (skip_comments ls) ≡ a → list_any carries ls ≡ is_some a
 carries_first [] a e = ap is_some e
 carries_first (l ∷ ls) a e = carries_step l ls a (carries_first ls a) e
 
@@ -169,7 +169,7 @@ pub too_many : (ds : List (Bor (List code.Line))) (most i : ℕ) (lines rest doc
     → rest ≡ drop i lines → document ≡ take (prefix_len (λ l. not (is_parting (line_view l))) rest) rest
     → found_so_far ds i lines ≡ all → IsOneMore most (length ds) (lines_view document) p → IsTooMany most all p
 too_many ds most i lines rest document all p rest_is document_is so_far h =
-    let f = first_of (skip_void (lines_view document)) p.1 h.1 in
+    let f = first_of (skip_comments (lines_view document)) p.1 h.1 in
     let kept : with_content (lines_view document ∷ []) ≡ lines_view document ∷ [] = rw (carries_first (lines_view document) (Some p.1) h.1) refl in (
       p.1,
       record {

@@ -5,7 +5,7 @@ use Rattle.std.specs.Str.{all_scalars, IsValidUpTo}
 use Rattle.yaml_tree.specs.Tree.{At, Answer}
 use Rattle.yaml_lines.specs.File.{Line, skip_mark, documents_of}
 use Rattle.yaml_lines.specs.Line.{at}
-use Rattle.yaml_blocks.specs.Blocks.{skip_void}
+use Rattle.yaml_blocks.specs.Blocks.{skip_comments}
 use Rattle.yaml_blocks.specs.Documents.{home, AreAnswers}
 
 -- the bytes are these characters in UTF-8 (YAML 1.2, 5.2)
@@ -44,7 +44,7 @@ pub record IsPastAt (n : ℕ) (documents : List (List Line)) (a : At) : Type 0 w
   pub count : length front ≡ n
   pub first : Line
   pub more : List Line
-  pub begins : skip_void document ≡ first ∷ more
+  pub begins : skip_comments document ≡ first ∷ more
   pub place : a ≡ at first 0
 
 abbrev pub IsTooMany : ℕ → List (List Line) → ℕ × At → Type 0

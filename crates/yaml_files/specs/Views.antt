@@ -10,7 +10,7 @@ use Rattle.yaml_tree.specs.View.{place_view}
 use Rattle.yaml_lines.specs.declared.line.Line as code
 use Rattle.yaml_lines.specs.File.{Line}
 use Rattle.yaml_lines.specs.Line.{at}
-use Rattle.yaml_blocks.specs.Blocks.{skip_void}
+use Rattle.yaml_blocks.specs.Blocks.{skip_comments}
 use Rattle.yaml_blocks.specs.Views.{lines_view}
 
 abbrev pub documents_view : List (Bor (List code.Line)) → List (List Line)
@@ -23,7 +23,7 @@ first_place (l ∷ ls) = Some (at l 0)
 
 -- there are as many documents as there may be, and the first line with content begins there of one more
 abbrev pub IsOneMore : ℕ → ℕ → List Line → ℕ × At → Type 0
-IsOneMore most count document p = (count ≡ most) × (first_place (skip_void document) ≡ Some p.1) × (p.0 ≡ 7)
+IsOneMore most count document p = (count ≡ most) × (first_place (skip_comments document) ≡ Some p.1) × (p.0 ≡ 7)
 
 -- a code and a place
 abbrev pub code_view : ℕ × Place → ℕ × At

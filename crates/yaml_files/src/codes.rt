@@ -10,7 +10,7 @@ ghost use Rattle.yaml_blocks.specs.Views.{lines_view};
 ghost use Rattle.yaml_files.specs.Views.{code_view};
 
 use sig_base::{Code, Place};
-use yaml_blocks::lines::{is_marker, is_void};
+use yaml_blocks::lines::{is_comment, is_marker};
 use yaml_lines::{Halt, Line, Opening};
 
 /// Whether no text has the character.

@@ -5,7 +5,7 @@ ghost use Rattle.std.specs.List.{prefix_len};
 ghost use Rattle.yaml_tree.specs.View.{place_view};
 ghost use Rattle.yaml_lines.specs.File as file;
 ghost use Rattle.yaml_lines.specs.View.{line_view};
-ghost use Rattle.yaml_blocks.specs.Blocks.{skip_void};
+ghost use Rattle.yaml_blocks.specs.Blocks.{skip_comments};
 ghost use Rattle.yaml_blocks.specs.Views.{lines_view};
 ghost use Rattle.yaml_files.specs.Call as call;
 ghost use Rattle.yaml_files.specs.Views.{documents_view, first_place, IsOneMore, IfRefused};
@@ -13,7 +13,7 @@ ghost use Rattle.yaml_files.specs.Views.{documents_view, first_place, IsOneMore,
 use crate::refusal::refused;
 use sig_base::{Code, Fault, Place};
 use std::alloc::Global;
-use yaml_blocks::lines::{is_parting, is_void, lines_behind};
+use yaml_blocks::lines::{is_comment, is_parting, lines_behind};
 use yaml_lines::Line;
 
 /// The documents with content, in their order, of which there are at most `most`.
@@ -77,12 +77,12 @@ fn document_len(lines: &[Line<'_>]) -> usize
 }
 
 /// Column 1 of the first line with content.
-#[tactic(auto, using(crate::proofs::Parts::content_void, crate::proofs::Parts::content_here, crate::proofs::Parts::content_none))]
+#[tactic(auto, using(crate::proofs::Parts::content_comment, crate::proofs::Parts::content_here, crate::proofs::Parts::content_none))]
 fn first_content(lines: &[Line<'_>]) -> Option<Place>
-    ensures { option_map place_view result ≡ first_place (skip_void (lines_view lines.now)) }
+    ensures { option_map place_view result ≡ first_place (skip_comments (lines_view lines.now)) }
 {
     for line in lines {
-        if !is_void(line) {
+        if !is_comment(line) {
             return Some(Place {
                 line: line.number,
                 column: 1,

@@ -97,7 +97,7 @@ single_close out xs i c h c_is quote e =
 
 -- ---- double quotes
 
--- a text from behind an escape's further characters on
+-- a text from behind an escape's continuation characters on
 abbrev skipped : ℕ → Quoted → Quoted
 skipped n (closed t rest) = closed t rest
 skipped n open_ended = open_ended

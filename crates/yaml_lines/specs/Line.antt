@@ -40,23 +40,24 @@ indent l = indentation l.text
 unfoldable pub body : Line → List ℕ
 body l = drop (indentation l.text) l.text
 
-unfoldable pub is_void : Line → Bool
-is_void l = carries_nothing l.text
+-- a comment line (YAML 1.2, 6.6): blanks, and perhaps a comment
+unfoldable pub is_comment : Line → Bool
+is_comment l = carries_nothing l.text
 
 -- blanks alone, without a comment
-unfoldable pub is_bare : Line → Bool
-is_bare l = is_empty (skip_blanks l.text)
+unfoldable pub is_empty_line : Line → Bool
+is_empty_line l = is_empty (skip_blanks l.text)
 
 -- what a line with content, outside block scalars, is refused for whatever else it has: a marker at its start, a tab in its indentation
-unfoldable pub barred : Line → Option Stop
-barred l =
+unfoldable pub bad_start : Line → Option Stop
+bad_start l =
     if is_marker l then Some (refused 3 (at l 0))
     else if begins 9 (body l) then Some (refused 8 (at l (indent l)))
     else None
 
 -- the stop of a line where nothing more may stand
-unfoldable pub stray : Line → Stop
-stray l = stop_or (barred l) (syntax l) where
+unfoldable pub unexpected : Line → Stop
+unexpected l = stop_or (bad_start l) (syntax l) where
   stop_or : Option Stop → Stop → Stop
   stop_or None s = s
   stop_or (Some t) s = t

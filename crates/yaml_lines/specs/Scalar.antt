@@ -134,10 +134,10 @@ double zero (c ∷ cs) =
 
 -- ---- block scalars
 
-pub data Ending : Type 0 where
-  clip : Ending
-  strip : Ending
-  keep : Ending
+pub data Chomping : Type 0 where
+  clip : Chomping
+  strip : Chomping
+  keep : Chomping
 
 abbrev pub feeds : ℕ → List ℕ
 feeds n = replicate n 10
@@ -176,16 +176,16 @@ folded [] = []
 folded ([] ∷ ts) = 10 ∷ folded ts
 folded ((c ∷ cs) ∷ ts) = (c ∷ cs) ++ fold_from (is_blank c) 0 ts
 
-abbrev pub ending : Ending → Bool → ℕ → List ℕ
-ending strip has_text n = []
-ending clip has_text n = if has_text then 10 ∷ [] else []
-ending keep has_text n = if has_text then feeds (suc n) else feeds n
+abbrev pub chomped : Chomping → Bool → ℕ → List ℕ
+chomped strip has_text n = []
+chomped clip has_text n = if has_text then 10 ∷ [] else []
+chomped keep has_text n = if has_text then feeds (suc n) else feeds n
 
 -- the text of a block scalar by its lines without indentation
-unfoldable pub block_text : Bool → Ending → List (List ℕ) → List ℕ
+unfoldable pub block_text : Bool → Chomping → List (List ℕ) → List ℕ
 block_text is_folded e ts =
     let kept = drop_empty ts in
-    (if is_folded then folded kept else literal kept) ++ ending e (nat_lt 0 (length kept)) (length ts - length kept)
+    (if is_folded then folded kept else literal kept) ++ chomped e (nat_lt 0 (length kept)) (length ts - length kept)
 
 -- ---- plain scalars over several lines
 

@@ -16,6 +16,7 @@ use crate::halt::{Halt, Opening};
 use crate::line::Line;
 use crate::plain::plain_parts;
 use crate::quote::{Quoted, double, single};
+use crate::room::push_fitting;
 use crate::scan::{begins, behind, ends_line, is_left_out, skip_blanks, spot, starts_plain};
 use crate::seen::Seen;
 use crate::word::resolved;
@@ -323,7 +324,7 @@ fn flow_elements<'t>(
             return Ok((elements, behind(next, 1)));
         }
         let (element, after) = flow_element(alloc, depth, line, next)?;
-        elements.push(element)?;
+        push_fitting(&mut elements, element)?;
         rest = after;
     }
 }
@@ -396,7 +397,7 @@ fn flow_entries<'t>(
             return Ok((entries, behind(next, 1)));
         }
         let (entry, after) = flow_entry(alloc, depth, line, &mut seen, next)?;
-        entries.push(entry)?;
+        push_fitting(&mut entries, entry)?;
         rest = after;
     }
 }

@@ -11,6 +11,7 @@ pub mod key;
 mod line;
 pub mod plain;
 pub mod quote;
+pub mod room;
 pub mod scan;
 mod seen;
 #[cfg(test)]

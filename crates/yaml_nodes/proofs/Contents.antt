@@ -2,7 +2,7 @@
 use Rattle.std.proofs.Common.{◌≡◌, ℕ, suc, ◌+◌, ◌≤◌, Bool, true, false, ◌&&◌, ◌||◌, ◌==◌, List, [], ◌∷◌, length, drop, cond, Some, None, is_some, refl, sym, ap, ◌∙◌, arith}
 use Rattle.std.specs.List.{prefix_len}
 use Rattle.yaml_lines.specs.File.{Line, is_blank, is_space, is_empty, begins, blank_or_end, skip_blanks, carries_nothing, ends_line, is_marker}
-use Rattle.yaml_lines.specs.Line.{Stop, indentation, body, is_void, barred}
+use Rattle.yaml_lines.specs.Line.{Stop, indentation, body, is_comment, bad_start}
 use Rattle.yaml_lines.proofs.Nexts.{next_is}
 use Rattle.yaml_nodes.specs.Items.{IsContent}
 
@@ -55,8 +55,8 @@ not_empty true b e = cc
 not_empty false b e = refl
 
 -- what follows the indentation of a line that carries something, and begins with no tab there
-pub body_solid : (l : Line) → is_void l ≡ false → is_some (barred l) ≡ false → blank_or_end (body l) ≡ false
-unfolding is_void carries_nothing barred body indentation
-body_solid l void free =
+pub body_solid : (l : Line) → is_comment l ≡ false → is_some (bad_start l) ≡ false → blank_or_end (body l) ≡ false
+unfolding is_comment carries_nothing bad_start body indentation
+body_solid l comment free =
     solid_text (body l) (space_gone l.text) (untabbed (is_marker l) (begins 9 (body l)) _ _ free)
-    (ap is_empty (sym (skip_space l.text)) ∙ not_empty (is_empty (skip_blanks l.text)) _ void)
+    (ap is_empty (sym (skip_space l.text)) ∙ not_empty (is_empty (skip_blanks l.text)) _ comment)

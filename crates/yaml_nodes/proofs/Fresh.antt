@@ -3,7 +3,7 @@ use Rattle.std.proofs.Common.{◌≡◌, ℕ, true, false, List, Ok, Err, refl}
 use Rattle.yaml_lines.specs.File.{Line}
 use Rattle.yaml_lines.specs.Line.{spot, refused}
 use Rattle.yaml_lines.specs.Flow.{is_seen}
-use Rattle.yaml_nodes.specs.Items.{item_key, key_in}
+use Rattle.yaml_blocks.specs.Reading.{item_key, key_in}
 
 pub key_fresh : (i : ℕ) (ks : List (List ℕ)) (l : Line) (cs k after : List ℕ) → item_key i l cs ≡ Ok (k, after) → is_seen k ks ≡ false → key_in i ks l cs ≡ Ok (k, after)
 unfolding key_in

@@ -7,7 +7,7 @@ use Rattle.yaml_lines.specs.Flow.{is_quote, quoted}
 use Rattle.yaml_lines.specs.Key.{keyed, unkeyed, colon_then, quoted_key, key_at}
 use Rattle.yaml_lines.proofs.Opens.{quote_not_left_out, quote_no_percent, quote_no_dash}
 use Rattle.yaml_blocks.specs.Blocks.{alone}
-use Rattle.yaml_blocks.specs.Reading.{keyed_then, node_in, lone_in}
+use Rattle.yaml_blocks.specs.Reading.{keyed_then, node_in, scalar_or_flow_in}
 use Rattle.yaml_nodes.specs.Items.{mapping_in}
 use Rattle.yaml_nodes.proofs.Turns.{node_is}
 
@@ -16,9 +16,9 @@ quoted_first : {A : Type 0} (r : Read (List ℕ × List ℕ)) (a : Read A) (f : 
 quoted_first (Ok q) a f = refl
 quoted_first (Err s) a f = refl
 
-lone_quoted : (d m : ℕ) (l : Line) (cs : List ℕ) (ls : List Line) → is_quote cs ≡ true → lone_in d m l cs ls ≡ quoted l cs >>= (λ q. alone l q.1 ls (scalar (spot l cs) (text q.0)))
-unfolding lone_in
-lone_quoted d m l cs ls e = rw (quote_not_left_out cs e, quote_no_percent cs e, e) refl
+scalar_or_flow_quoted : (d m : ℕ) (l : Line) (cs : List ℕ) (ls : List Line) → is_quote cs ≡ true → scalar_or_flow_in d m l cs ls ≡ quoted l cs >>= (λ q. alone l q.1 ls (scalar (spot l cs) (text q.0)))
+unfolding scalar_or_flow_in
+scalar_or_flow_quoted d m l cs ls e = rw (quote_not_left_out cs e, quote_no_percent cs e, e) refl
 
 key_quoted : (l : Line) (cs : List ℕ) → is_quote cs ≡ true → key_at l cs ≡ quoted_key (quoted l cs)
 unfolding key_at
@@ -28,7 +28,7 @@ node_quoted : (d m : ℕ) (l : Line) (cs : List ℕ) (ls : List Line) → is_quo
     → node_in d true m l cs ls ≡ quoted l cs >>= (λ q. keyed_then (colon_then q.0 (skip_blanks q.1)) (mapping_in d l cs ls) (alone l q.1 ls (scalar (spot l cs) (text q.0))))
 node_quoted d m l cs ls e =
     node_is d true m l cs ls
-    ∙ (rw (quote_no_dash cs e, key_quoted l cs e, lone_quoted d m l cs ls e) refl
+    ∙ (rw (quote_no_dash cs e, key_quoted l cs e, scalar_or_flow_quoted d m l cs ls e) refl
     ∙ quoted_first (quoted l cs) (mapping_in d l cs ls) (λ q. alone l q.1 ls (scalar (spot l cs) (text q.0))))
 
 pub quoted_stop : (d m : ℕ) (l : Line) (cs : List ℕ) (ls : List Line) (s : Stop) → is_quote cs ≡ true → quoted l cs ≡ Err s → node_in d true m l cs ls ≡ Err s

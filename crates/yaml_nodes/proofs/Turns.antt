@@ -1,5 +1,5 @@
 -- The items of a block, a turn at a time.
-use Rattle.std.proofs.Common.{◌≡◌, ℕ, zero, suc, ◌+◌, ◌<◌, ◌≤◌, Bool, true, false, not, ◌&&◌, cond, if◌then◌else◌, Option, Some, None, is_some, IfSome, List, [], ◌∷◌, ◌++◌, length, get_or, drop, Ok, Err, refl, sym, ap, ◌∙◌, subst, arith}
+use Rattle.std.proofs.Common.{◌≡◌, ℕ, zero, suc, ◌+◌, ◌<◌, ◌≤◌, Bool, true, false, cond, Option, Some, None, is_some, IfSome, List, [], ◌∷◌, ◌++◌, length, get_or, drop, Ok, Err, refl, sym, ap, ◌∙◌, subst, arith}
 use Rattle.std.specs.Prelude.{map as list_map}
 use Rattle.std.proofs.lemmas.List.{drop-drop, at_drop_all}
 use Rattle.std.proofs.lemmas.Bool.Decides.{nat_tests}
@@ -7,19 +7,18 @@ use Rattle.yaml_tree.specs.Tree.{At, Tree, Elements, element, Members, member, M
 use Rattle.yaml_tree.specs.View.{elements_of, members_of}
 use Rattle.yaml_lines.specs.declared.line.Line as code
 use Rattle.yaml_lines.specs.File.{Line, carries_nothing, skip_blanks}
-use Rattle.yaml_lines.specs.Line.{Stop, refused, syntax, Read, ◌>>=◌, body, spot, is_void, barred, stray, is_dash}
-use Rattle.yaml_lines.specs.Flow.{is_seen}
+use Rattle.yaml_lines.specs.Line.{Stop, Read, ◌>>=◌, body, spot, is_comment, bad_start, is_dash}
 use Rattle.yaml_lines.specs.Key.{Keyed, keyed, unkeyed, key_stop, key_at}
 use Rattle.yaml_lines.specs.declared.seen.Seen.{Seen}
 use Rattle.yaml_lines.specs.SeenKeys.{Knows}
 use Rattle.yaml_lines.specs.View.{line_view, halt_view, Fails}
 use Rattle.yaml_lines.specs.declared.halt.Halt.{Halt}
 use Rattle.yaml_lines.proofs.Flows.{put_elements, put_elements-push, put_elements-end, put_members, put_members-push, put_members-end, keys_of, keys_of-push}
-use Rattle.yaml_blocks.specs.Blocks.{front_while, rest_while, skip_void, inside, put_line, divide}
-use Rattle.yaml_blocks.specs.Reading.{Item, item_of, items_of, offset, is_level, after_spaces, element_in, new_key, head_in, value_in, block_with, node_with, node_in, lone_in}
+use Rattle.yaml_blocks.specs.Blocks.{front_while, rest_while, skip_comments, inside, put_line, divide}
+use Rattle.yaml_blocks.specs.Reading.{Item, item_of, items_of, offset, is_level, after_spaces, element_in, block_with, node_with, node_in, scalar_or_flow_in}
 use Rattle.yaml_blocks.specs.Views.{lines_view}
 use Rattle.yaml_blocks.proofs.Turns.{drop_at}
-use Rattle.yaml_nodes.specs.Items.{item, dashed_in, key_of, item_key, key_in, behind, keyed_in, elements_at, entries_at, list_in, mapping_in, IsContent}
+use Rattle.yaml_nodes.specs.Items.{item, element_at, behind, entry_at, elements_at, entries_at, list_in, mapping_in, IsContent}
 
 -- ---- which items a block has
 
@@ -114,14 +113,8 @@ outside_next in_map j ls others inner at others_is rest =
 
 -- ---- one more element
 
-two_tests : {A B : Type 0} (b c : Bool) (s t : Stop) (r : Read A) (f : A → Read B) → cond b (Err s) (cond c (Err t) (r >>= f)) ≡ (cond b (Err s) (cond c (Err t) r) >>= f)
-two_tests true c s t r f = refl
-two_tests false true s t r f = refl
-two_tests false false s t r f = refl
-
-elements_step : (d i : ℕ) (x : Item) (xs : List Item) → elements_at d i (x ∷ xs) ≡ dashed_in d i x >>= (λ t. elements_at d i xs >>= (λ ts. Ok (element t ts)))
-unfolding dashed_in element_in
-elements_step d i x xs = two_tests (is_some (barred x.line)) (not (is_level i x && is_dash x.text)) (stray x.line) (syntax x.line) (element_in (block_with (node_in d)) (node_in d) i x) (λ t. elements_at d i xs >>= (λ ts. Ok (element t ts)))
+elements_step : (d i : ℕ) (x : Item) (xs : List Item) → elements_at d i (x ∷ xs) ≡ element_at d i x >>= (λ t. elements_at d i xs >>= (λ ts. Ok (element t ts)))
+elements_step d i x xs = refl
 
 -- the elements so far, before those that are read
 abbrev pub after_elements : List Tree → Read Elements → Read Elements
@@ -131,7 +124,7 @@ after_one : (ts : List Tree) (t : Tree) (r : Read Elements) → after_elements t
 after_one ts t (Ok es) = ap (λ (us : Elements). Ok us) (put_elements-push ts t es)
 after_one ts t (Err s) = refl
 
-elements_turn : (d i : ℕ) (ts : List Tree) (x : Item) (xs all : List Item) (t : Tree) → all ≡ x ∷ xs → dashed_in d i x ≡ Ok t
+elements_turn : (d i : ℕ) (ts : List Tree) (x : Item) (xs all : List Item) (t : Tree) → all ≡ x ∷ xs → element_at d i x ≡ Ok t
     → after_elements ts (elements_at d i all) ≡ after_elements (ts ++ t ∷ []) (elements_at d i xs)
 elements_turn d i ts x xs all t is e =
     ap (λ (ys : List Item). after_elements ts (elements_at d i ys)) is
@@ -143,26 +136,26 @@ elements_start (Ok es) = refl
 elements_start (Err s) = refl
 
 -- the first element, and one more
-pub elements_first : (d i j : ℕ) (us : List Tree) (x : Item) (xs all : List Item) (t : Tree) → i ≡ j → all ≡ x ∷ xs → dashed_in d i x ≡ Ok t → us ≡ t ∷ []
+pub elements_first : (d i j : ℕ) (us : List Tree) (x : Item) (xs all : List Item) (t : Tree) → i ≡ j → all ≡ x ∷ xs → element_at d i x ≡ Ok t → us ≡ t ∷ []
     → after_elements us (elements_at d i xs) ≡ elements_at d j all
 elements_first d i j us x xs all t same is e grown =
     ap (λ (ts : List Tree). after_elements ts (elements_at d i xs)) grown
     ∙ (sym (elements_turn d i [] x xs all t is e) ∙ (elements_start (elements_at d i all) ∙ ap (λ (k : ℕ). elements_at d k all) same))
 
 pub elements_more : (d i : ℕ) (ts us : List Tree) (x : Item) (xs all : List Item) (t : Tree) (whole : Read Elements) → after_elements ts (elements_at d i all) ≡ whole → all ≡ x ∷ xs
-    → dashed_in d i x ≡ Ok t → us ≡ ts ++ t ∷ [] → after_elements us (elements_at d i xs) ≡ whole
+    → element_at d i x ≡ Ok t → us ≡ ts ++ t ∷ [] → after_elements us (elements_at d i xs) ≡ whole
 elements_more d i ts us x xs all t whole far is e grown =
     ap (λ (vs : List Tree). after_elements vs (elements_at d i xs)) grown ∙ (sym (elements_turn d i ts x xs all t is e) ∙ far)
 
 -- where the first one stops, or one more
-elements_halt : (d i : ℕ) (x : Item) (xs all : List Item) (s : Stop) → all ≡ x ∷ xs → dashed_in d i x ≡ Err s → elements_at d i all ≡ Err s
+elements_halt : (d i : ℕ) (x : Item) (xs all : List Item) (s : Stop) → all ≡ x ∷ xs → element_at d i x ≡ Err s → elements_at d i all ≡ Err s
 elements_halt d i x xs all s is e =
     ap (elements_at d i) is ∙ (elements_step d i x xs ∙ ap (λ (r : Read Tree). r >>= (λ t. elements_at d i xs >>= (λ us. Ok (element t us)))) e)
 
-pub elements_stop_first : (d i j : ℕ) (x : Item) (xs all : List Item) (s : Stop) → i ≡ j → all ≡ x ∷ xs → dashed_in d i x ≡ Err s → elements_at d j all ≡ Err s
+pub elements_stop_first : (d i j : ℕ) (x : Item) (xs all : List Item) (s : Stop) → i ≡ j → all ≡ x ∷ xs → element_at d i x ≡ Err s → elements_at d j all ≡ Err s
 elements_stop_first d i j x xs all s same is e = ap (λ (k : ℕ). elements_at d k all) (sym same) ∙ elements_halt d i x xs all s is e
 
-pub elements_stop : (d i : ℕ) (ts : List Tree) (x : Item) (xs all : List Item) (s : Stop) (whole : Read Elements) → after_elements ts (elements_at d i all) ≡ whole → all ≡ x ∷ xs → dashed_in d i x ≡ Err s
+pub elements_stop : (d i : ℕ) (ts : List Tree) (x : Item) (xs all : List Item) (s : Stop) (whole : Read Elements) → after_elements ts (elements_at d i all) ≡ whole → all ≡ x ∷ xs → element_at d i x ≡ Err s
     → whole ≡ Err s
 elements_stop d i ts x xs all s whole far is e = sym far ∙ ap (after_elements ts) (elements_halt d i x xs all s is e)
 
@@ -176,41 +169,13 @@ elements_end d i ts ls at whole far h =
 
 -- ---- one more entry
 
-two_tests_with : {A B : Type 0} (b c : Bool) (s t : Stop) (r : Read A) (q : Read B) (f : A → Read B) → q ≡ (r >>= f) → cond b (Err s) (cond c (Err t) q) ≡ (cond b (Err s) (cond c (Err t) r) >>= f)
-two_tests_with b c s t r q f e = ap (λ u. cond b (Err s) (cond c (Err t) u)) e ∙ two_tests b c s t r f
-
-key_is : (d i : ℕ) (ks : List (List ℕ)) (x : Item) → head_in (block_with (node_in d)) (node_in d) i ks x ≡ key_in i ks x.line x.text
-unfolding head_in key_in item_key
-key_is d i ks x =
-    two_tests_with (is_some (barred x.line)) (not (is_level i x)) (stray x.line) (syntax x.line) (key_of x.line (key_at x.line x.text)) _ _ (by (key_at x.line x.text)) where
-      by : (k : Keyed) → new_key (block_with (node_in d)) (node_in d) ks x k ≡ (key_of x.line k >>= (λ k. if is_seen k.0 ks then Err (refused 5 (spot x.line x.text)) else Ok k))
-      by (keyed k rest) = refl
-      by unkeyed = refl
-      by (key_stop s) = refl
-
-value_is : (d i : ℕ) (x : Item) (rest : List ℕ) → value_in (block_with (node_in d)) (node_in d) i x rest ≡ behind d false i (spot x.line x.text) x.line rest x.inner
-unfolding value_in
-value_is d i x rest = refl
-
-made : {A : Type 0} (r : Read Tree) (make : Tree → Member) (f : Member → Read A) → (r >>= (λ t. f (make t))) ≡ ((r >>= (λ t. Ok (make t))) >>= f)
-made (Ok t) make f = refl
-made (Err s) make f = refl
-
 -- the entries behind one
 behind_entry : ℕ → ℕ → List (List ℕ) → List Item → Member → Read Members
 behind_entry d i ks xs m = entries_at d i (ks ++ m.key ∷ []) xs >>= (λ ms. Ok (member m.key m.place m.value ms))
 
-entries_step : (d i : ℕ) (ks : List (List ℕ)) (x : Item) (xs : List Item) → entries_at d i ks (x ∷ xs) ≡ keyed_in d i ks x >>= behind_entry d i ks xs
-unfolding keyed_in behind_entry
-entries_step d i ks x xs =
-    ap (λ (r : Read (List ℕ × List ℕ)). r >>= (λ k. value_in (block_with (node_in d)) (node_in d) i x k.1 >>= (λ t. behind_entry d i ks xs (record { key = k.0; place = spot x.line x.text; value = t })))) (key_is d i ks x)
-    ∙ by (key_in i ks x.line x.text) where
-      by : (r : Read (List ℕ × List ℕ)) → (r >>= (λ k. value_in (block_with (node_in d)) (node_in d) i x k.1 >>= (λ t. behind_entry d i ks xs (record { key = k.0; place = spot x.line x.text; value = t }))))
-          ≡ ((r >>= (λ k. behind d false i (spot x.line x.text) x.line k.1 x.inner >>= (λ t. Ok (let m : Member = record { key = k.0; place = spot x.line x.text; value = t } in m)))) >>= behind_entry d i ks xs)
-      by (Ok k) =
-          ap (λ (r : Read Tree). r >>= (λ t. behind_entry d i ks xs (record { key = k.0; place = spot x.line x.text; value = t }))) (value_is d i x k.1)
-          ∙ made (behind d false i (spot x.line x.text) x.line k.1 x.inner) (λ t. record { key = k.0; place = spot x.line x.text; value = t }) (behind_entry d i ks xs)
-      by (Err s) = refl
+entries_step : (d i : ℕ) (ks : List (List ℕ)) (x : Item) (xs : List Item) → entries_at d i ks (x ∷ xs) ≡ entry_at d i ks x >>= behind_entry d i ks xs
+unfolding behind_entry
+entries_step d i ks x xs = refl
 
 -- the entries so far, before those that are read
 abbrev pub after_entries : List Member → Read Members → Read Members
@@ -220,7 +185,7 @@ after_entry : (us : List Member) (m : Member) (r : Read Members) → after_entri
 after_entry us m (Ok ms) = ap (λ (os : Members). Ok os) (put_members-push us m ms)
 after_entry us m (Err s) = refl
 
-entries_turn : (d i : ℕ) (us : List Member) (x : Item) (xs all : List Item) (m : Member) → all ≡ x ∷ xs → keyed_in d i (keys_of us) x ≡ Ok m
+entries_turn : (d i : ℕ) (us : List Member) (x : Item) (xs all : List Item) (m : Member) → all ≡ x ∷ xs → entry_at d i (keys_of us) x ≡ Ok m
     → after_entries us (entries_at d i (keys_of us) all) ≡ after_entries (us ++ m ∷ []) (entries_at d i (keys_of (us ++ m ∷ [])) xs)
 unfolding behind_entry
 entries_turn d i us x xs all m is e =
@@ -233,26 +198,26 @@ entries_start : (r : Read Members) → after_entries [] r ≡ r
 entries_start (Ok ms) = refl
 entries_start (Err s) = refl
 
-pub entries_first : (d i j : ℕ) (vs : List Member) (x : Item) (xs all : List Item) (m : Member) → i ≡ j → all ≡ x ∷ xs → keyed_in d i [] x ≡ Ok m → vs ≡ m ∷ []
+pub entries_first : (d i j : ℕ) (vs : List Member) (x : Item) (xs all : List Item) (m : Member) → i ≡ j → all ≡ x ∷ xs → entry_at d i [] x ≡ Ok m → vs ≡ m ∷ []
     → after_entries vs (entries_at d i (keys_of vs) xs) ≡ entries_at d j [] all
 entries_first d i j vs x xs all m same is e grown =
     ap (λ (us : List Member). after_entries us (entries_at d i (keys_of us) xs)) grown
     ∙ (sym (entries_turn d i [] x xs all m is e) ∙ (entries_start (entries_at d i [] all) ∙ ap (λ (k : ℕ). entries_at d k [] all) same))
 
 pub entries_more : (d i : ℕ) (us vs : List Member) (x : Item) (xs all : List Item) (m : Member) (whole : Read Members) → after_entries us (entries_at d i (keys_of us) all) ≡ whole → all ≡ x ∷ xs
-    → keyed_in d i (keys_of us) x ≡ Ok m → vs ≡ us ++ m ∷ [] → after_entries vs (entries_at d i (keys_of vs) xs) ≡ whole
+    → entry_at d i (keys_of us) x ≡ Ok m → vs ≡ us ++ m ∷ [] → after_entries vs (entries_at d i (keys_of vs) xs) ≡ whole
 entries_more d i us vs x xs all m whole far is e grown =
     ap (λ (os : List Member). after_entries os (entries_at d i (keys_of os) xs)) grown ∙ (sym (entries_turn d i us x xs all m is e) ∙ far)
 
-entries_halt : (d i : ℕ) (ks : List (List ℕ)) (x : Item) (xs all : List Item) (s : Stop) → all ≡ x ∷ xs → keyed_in d i ks x ≡ Err s → entries_at d i ks all ≡ Err s
+entries_halt : (d i : ℕ) (ks : List (List ℕ)) (x : Item) (xs all : List Item) (s : Stop) → all ≡ x ∷ xs → entry_at d i ks x ≡ Err s → entries_at d i ks all ≡ Err s
 entries_halt d i ks x xs all s is e =
     ap (entries_at d i ks) is ∙ (entries_step d i ks x xs ∙ ap (λ (r : Read Member). r >>= behind_entry d i ks xs) e)
 
-pub entries_stop_first : (d i j : ℕ) (x : Item) (xs all : List Item) (s : Stop) → i ≡ j → all ≡ x ∷ xs → keyed_in d i [] x ≡ Err s → entries_at d j [] all ≡ Err s
+pub entries_stop_first : (d i j : ℕ) (x : Item) (xs all : List Item) (s : Stop) → i ≡ j → all ≡ x ∷ xs → entry_at d i [] x ≡ Err s → entries_at d j [] all ≡ Err s
 entries_stop_first d i j x xs all s same is e = ap (λ (k : ℕ). entries_at d k [] all) (sym same) ∙ entries_halt d i [] x xs all s is e
 
 pub entries_stop : (d i : ℕ) (us : List Member) (x : Item) (xs all : List Item) (s : Stop) (whole : Read Members) → after_entries us (entries_at d i (keys_of us) all) ≡ whole → all ≡ x ∷ xs
-    → keyed_in d i (keys_of us) x ≡ Err s → whole ≡ Err s
+    → entry_at d i (keys_of us) x ≡ Err s → whole ≡ Err s
 entries_stop d i us x xs all s whole far is e = sym far ∙ ap (after_entries us) (entries_halt d i (keys_of us) x xs all s is e)
 
 pub entries_end : (d i : ℕ) (us : List Member) (ls : List code.Line) (at : ℕ) (whole : Read Members) → after_entries us (entries_at d i (keys_of us) (later true i (lines_view (drop at ls)))) ≡ whole → length ls ≤ at
@@ -270,7 +235,7 @@ unfolding node_in
 node_is zero may m l cs ls = refl
 node_is (suc d) may m l cs ls = refl
 
-pub node_no : (d : ℕ) (may : Bool) (m : ℕ) (l : Line) (cs : List ℕ) (ls : List Line) → may ≡ false → node_in d may m l cs ls ≡ lone_in d m l cs ls
+pub node_no : (d : ℕ) (may : Bool) (m : ℕ) (l : Line) (cs : List ℕ) (ls : List Line) → may ≡ false → node_in d may m l cs ls ≡ scalar_or_flow_in d m l cs ls
 node_no d may m l cs ls no_collection = node_is d may m l cs ls ∙ rw no_collection refl
 
 pub node_list : (d : ℕ) (may : Bool) (m : ℕ) (l : Line) (cs : List ℕ) (ls : List Line) → may ≡ true → is_dash cs ≡ true → node_in d may m l cs ls ≡ list_in d l cs ls
@@ -280,8 +245,8 @@ pub node_map : (d : ℕ) (may : Bool) (m : ℕ) (l : Line) (cs : List ℕ) (ls :
     → node_in d may m l cs ls ≡ mapping_in d l cs ls
 node_map d may m l cs ls k rest open_here dash key = node_is d may m l cs ls ∙ rw (open_here, dash, key) refl
 
-pub node_lone : (d : ℕ) (may : Bool) (m : ℕ) (l : Line) (cs : List ℕ) (ls : List Line) → may ≡ true → is_dash cs ≡ false → key_at l cs ≡ unkeyed → node_in d may m l cs ls ≡ lone_in d m l cs ls
-node_lone d may m l cs ls open_here dash key = node_is d may m l cs ls ∙ rw (open_here, dash, key) refl
+pub node_scalar_or_flow : (d : ℕ) (may : Bool) (m : ℕ) (l : Line) (cs : List ℕ) (ls : List Line) → may ≡ true → is_dash cs ≡ false → key_at l cs ≡ unkeyed → node_in d may m l cs ls ≡ scalar_or_flow_in d m l cs ls
+node_scalar_or_flow d may m l cs ls open_here dash key = node_is d may m l cs ls ∙ rw (open_here, dash, key) refl
 
 pub node_stop : (d : ℕ) (may : Bool) (m : ℕ) (l : Line) (cs : List ℕ) (ls : List Line) (s : Stop) → may ≡ true → is_dash cs ≡ false → key_at l cs ≡ key_stop s → node_in d may m l cs ls ≡ Err s
 node_stop d may m l cs ls s open_here dash key = node_is d may m l cs ls ∙ rw (open_here, dash, key) refl
@@ -295,17 +260,17 @@ key_fails h found read e step = key_fails_at (halt_view h) found read e step
 
 -- ---- what stands behind a dash or a colon
 
-pub dashed_is : (d i : ℕ) (x : Item) → is_some (barred x.line) ≡ false → offset x.line x.text ≡ i → is_dash x.text ≡ true
-    → dashed_in d i x ≡ behind d (after_spaces (drop 1 x.text)) i (spot x.line x.text) x.line (drop 1 x.text) x.inner
-unfolding dashed_in
+pub dashed_is : (d i : ℕ) (x : Item) → is_some (bad_start x.line) ≡ false → offset x.line x.text ≡ i → is_dash x.text ≡ true
+    → element_at d i x ≡ behind d (after_spaces (drop 1 x.text)) i (spot x.line x.text) x.line (drop 1 x.text) x.inner
+unfolding element_in
 dashed_is d i x free level dash =
     let same : is_level i x ≡ true = grind (arith, nat_tests) in
     rw (free, same, dash) refl
 
 pub behind_block : (d : ℕ) (may : Bool) (i : ℕ) (home : At) (l : Line) (rest : List ℕ) (ls : List Line) → carries_nothing rest ≡ true → behind d may i home l rest ls ≡ block_with (node_in d) (i + 1) home ls
-behind_block d may i home l rest ls void =
+behind_block d may i home l rest ls comment =
     let more : suc i ≡ i + 1 = omega arith in
-    rw void (ap (λ (m : ℕ). block_with (node_in d) m home ls) more)
+    rw comment (ap (λ (m : ℕ). block_with (node_in d) m home ls) more)
 
 pub behind_node : (d : ℕ) (may : Bool) (i : ℕ) (home : At) (l : Line) (rest next : List ℕ) (ls : List Line) → IsContent rest next → behind d may i home l rest ls ≡ node_in d may (i + 1) l next ls
 behind_node d may i home l rest next ls is =
@@ -314,5 +279,5 @@ behind_node d may i home l rest next ls is =
 
 -- ---- the first line of a block
 
-pub first_solid : (l : Line) (all more : List Line) → skip_void all ≡ l ∷ more → is_void l ≡ false
-first_solid l all more e = first_outside is_void l more (ap (rest_while is_void) (sym e) ∙ (rest_again is_void all ∙ e))
+pub first_solid : (l : Line) (all more : List Line) → skip_comments all ≡ l ∷ more → is_comment l ≡ false
+first_solid l all more e = first_outside is_comment l more (ap (rest_while is_comment) (sym e) ∙ (rest_again is_comment all ∙ e))

@@ -9,18 +9,18 @@ ghost use Rattle.yaml_blocks.specs.Reading as reading;
 ghost use Rattle.yaml_blocks.specs.Views.{lines_view};
 ghost use Rattle.yaml_nodes.specs.Items.{IsContent};
 
-use yaml_blocks::lines::{indent, is_void};
+use yaml_blocks::lines::{indent, is_comment};
 use yaml_lines::Line;
 use yaml_lines::scan::{behind, carries_nothing, count_blanks, is_dash, skip_blanks};
 
 /// How many lines that carry nothing come first.
 #[tactic(auto, using(yaml_blocks::proofs::Fronts::front_more, yaml_blocks::proofs::Fronts::front_stop, yaml_blocks::proofs::Fronts::front_end))]
-pub fn count_void(lines: &[Line<'_>]) -> usize
-    ensures rest { lines_view (drop result lines.now) ≡ spec.skip_void (lines_view lines.now) }
+pub fn count_comments(lines: &[Line<'_>]) -> usize
+    ensures rest { lines_view (drop result lines.now) ≡ spec.skip_comments (lines_view lines.now) }
     ensures within { result ≤ length lines.now }
 {
     for at in 0..lines.len() {
-        if !is_void(&lines[at]) {
+        if !is_comment(&lines[at]) {
             return at;
         }
     }
@@ -36,7 +36,7 @@ fn is_inside(in_map: bool, level: usize, line: &Line<'_>) -> bool
     if level < indent {
         return true;
     }
-    is_void(line) || in_map && indent == level && is_dash(behind(line.text, indent))
+    is_comment(line) || in_map && indent == level && is_dash(behind(line.text, indent))
 }
 
 /// How many of the lines behind an item stand inside it.

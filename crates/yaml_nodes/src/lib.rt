@@ -5,7 +5,7 @@
 pub use node::read_block;
 
 mod inside;
-mod lone;
 mod node;
+mod scalar_or_flow;
 #[cfg(test)]
 mod tests;

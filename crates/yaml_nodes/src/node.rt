@@ -11,13 +11,14 @@ ghost use Rattle.yaml_blocks.specs.Reading as reading;
 ghost use Rattle.yaml_blocks.specs.Views.{lines_view};
 ghost use Rattle.yaml_nodes.specs.Items as spec;
 
-use crate::inside::{after_spaces, content_of, count_void, lines_inside, offset};
-use crate::lone::{alone, lone};
+use crate::inside::{after_spaces, content_of, count_comments, lines_inside, offset};
+use crate::scalar_or_flow::{alone, scalar_or_flow};
 use sig_base::{Code, Place, Text};
 use std::alloc::Global;
-use yaml_blocks::lines::{body, is_barred, lines_behind, stray};
+use yaml_blocks::lines::{body, has_bad_start, lines_behind, unexpected};
 use yaml_lines::flow::{is_quote, no_reading, quoted, refused};
 use yaml_lines::key::{key_at, past_colon, plain_key_at};
+use yaml_lines::room::push_fitting;
 use yaml_lines::scan::{behind, is_dash, skip_blanks, spot};
 use yaml_lines::{Halt, Line, Seen};
 use yaml_tree::{Entry, Node};
@@ -35,7 +36,7 @@ pub fn read_block(
     block(alloc, depth, 0, home, lines)
 }
 
-/// The node of a block, in which a scalar's further lines are indented at least so far.
+/// The node of a block, in which a scalar's continuation lines are indented at least so far.
 #[cycle(node)]
 fn block(
     alloc: Global,
@@ -46,12 +47,12 @@ fn block(
 ) -> Result<Node, Halt>
     ensures { Gives node_view result (reading.block_in depth least (place_view home) (lines_view lines.now)) }
 {
-    let rest = lines_behind(lines, count_void(lines));
+    let rest = lines_behind(lines, count_comments(lines));
     let Some((line, more)) = rest.split_first() else {
         return Ok(Node::null(home));
     };
-    if is_barred(line) {
-        return Err(stray(line));
+    if has_bad_start(line) {
+        return Err(unexpected(line));
     }
     node(alloc, depth, true, least, line, body(line), more)
 }
@@ -72,7 +73,7 @@ fn node(
     ensures { Gives node_view result (reading.node_in depth may least (line_view line.now) rest.now (lines_view lines.now)) }
 {
     if !may {
-        return lone(alloc, depth, least, line, rest, lines);
+        return scalar_or_flow(alloc, depth, least, line, rest, lines);
     }
     if is_dash(rest) {
         return sequence(alloc, depth, line, rest, lines);
@@ -81,7 +82,7 @@ fn node(
         return quoted_node(alloc, depth, line, rest, lines);
     }
     let Some(_) = plain_key_at(line, rest)? else {
-        return lone(alloc, depth, least, line, rest, lines);
+        return scalar_or_flow(alloc, depth, least, line, rest, lines);
     };
     map(alloc, depth, line, rest, lines)
 }
@@ -160,14 +161,14 @@ fn elements(
     let mut elements = Vec::new(alloc);
     let inner = lines_inside(false, level, lines);
     let first = element(alloc, depth, level, line, rest, inner)?;
-    elements.push(first)?;
+    push_fitting(&mut elements, first)?;
     let mut at = inner.len();
     while at < lines.len() {
         let line = &lines[at];
         let others = lines_behind(lines, at + 1);
         let inner = lines_inside(false, level, others);
         let next = element(alloc, depth, level, line, body(line), inner)?;
-        elements.push(next)?;
+        push_fitting(&mut elements, next)?;
         at += 1 + inner.len();
     }
     Ok(elements)
@@ -175,7 +176,7 @@ fn elements(
 
 /// The element of an item, behind its dash.
 #[cycle(node)]
-#[tactic(auto, unfolding(crate::specs::Items::dashed_in))]
+#[tactic(auto, unfolding(yaml_blocks::specs::Reading::element_in))]
 fn element(
     alloc: Global,
     depth: usize,
@@ -185,10 +186,10 @@ fn element(
     inner: &[Line<'_>],
 ) -> Result<Node, Halt>
     requires { length rest.now ≤ length line.now.text.now }
-    ensures { Gives node_view result (spec.dashed_in depth level (spec.item line.now rest.now inner.now)) }
+    ensures { Gives node_view result (spec.element_at depth level (spec.item line.now rest.now inner.now)) }
 {
-    if is_barred(line) {
-        return Err(stray(line));
+    if has_bad_start(line) {
+        return Err(unexpected(line));
     }
     if offset(line, rest) != level || !is_dash(rest) {
         return Err(no_reading(line));
@@ -225,14 +226,14 @@ fn entries(
     let mut entries = Vec::new(alloc);
     let inner = lines_inside(true, level, lines);
     let first = entry(alloc, depth, level, &mut seen, line, rest, inner)?;
-    entries.push(first)?;
+    push_fitting(&mut entries, first)?;
     let mut at = inner.len();
     while at < lines.len() {
         let line = &lines[at];
         let others = lines_behind(lines, at + 1);
         let inner = lines_inside(true, level, others);
         let next = entry(alloc, depth, level, &mut seen, line, body(line), inner)?;
-        entries.push(next)?;
+        push_fitting(&mut entries, next)?;
         at += 1 + inner.len();
     }
     Ok(entries)
@@ -240,7 +241,7 @@ fn entries(
 
 /// The entry of an item, whose key isn't one of those seen.
 #[cycle(node)]
-#[tactic(auto, unfolding(crate::specs::Items::keyed_in))]
+#[tactic(auto, unfolding(yaml_blocks::specs::Reading::entry_in))]
 fn entry(
     alloc: Global,
     depth: usize,
@@ -251,7 +252,7 @@ fn entry(
     inner: &[Line<'_>],
 ) -> Result<Entry, Halt>
     requires { length rest.now ≤ length line.now.text.now }
-    ensures entry { (ks : List (List ℕ)) → Knows seen.old ks → Gives entry_view result (spec.keyed_in depth level ks (spec.item line.now rest.now inner.now)) }
+    ensures entry { (ks : List (List ℕ)) → Knows seen.old ks → Gives entry_view result (spec.entry_at depth level ks (spec.item line.now rest.now inner.now)) }
     ensures seen { (ks : List (List ℕ)) → Knows seen.old ks → IfOk result (λ e. Knows seen.new (ks ++ (entry_view e).key ∷ [])) }
 {
     let (key, after) = fresh_key(alloc, level, seen, line, rest)?;
@@ -282,7 +283,7 @@ fn value(
 }
 
 /// The key of an item at this indentation, and what follows its colon.
-#[tactic(auto, unfolding(crate::specs::Items::item_key))]
+#[tactic(auto, unfolding(yaml_blocks::specs::Reading::item_key))]
 fn item_key<'t>(
     alloc: Global,
     level: usize,
@@ -290,12 +291,12 @@ fn item_key<'t>(
     rest: &'t [char],
 ) -> Result<(Text, &'t [char]), Halt>
     requires { length rest.now ≤ length line.now.text.now }
-    ensures key { Gives text_front result (spec.item_key level (line_view line.now) rest.now) }
+    ensures key { Gives text_front result (reading.item_key level (line_view line.now) rest.now) }
     ensures short { IfOk result (λ p. level < 4294967295) }
     ensures shorter { IfOk result (λ p. length p.1.now < length rest.now) }
 {
-    if is_barred(line) {
-        return Err(stray(line));
+    if has_bad_start(line) {
+        return Err(unexpected(line));
     }
     if offset(line, rest) != level {
         return Err(no_reading(line));
@@ -307,7 +308,7 @@ fn item_key<'t>(
 }
 
 /// The key of an item that isn't one of those seen, to which it's added.
-#[tactic(auto, unfolding(crate::specs::Items::key_in))]
+#[tactic(auto, unfolding(yaml_blocks::specs::Reading::key_in))]
 fn fresh_key<'t>(
     alloc: Global,
     level: usize,
@@ -316,7 +317,7 @@ fn fresh_key<'t>(
     rest: &'t [char],
 ) -> Result<(Text, &'t [char]), Halt>
     requires { length rest.now ≤ length line.now.text.now }
-    ensures key { (ks : List (List ℕ)) → Knows seen.old ks → Gives text_front result (spec.key_in level ks (line_view line.now) rest.now) }
+    ensures key { (ks : List (List ℕ)) → Knows seen.old ks → Gives text_front result (reading.key_in level ks (line_view line.now) rest.now) }
     ensures seen { (ks : List (List ℕ)) → Knows seen.old ks → IfOk result (λ p. Knows seen.new (ks ++ p.0 ∷ [])) }
     ensures short { IfOk result (λ p. level < 4294967295) }
     ensures shorter { IfOk result (λ p. length p.1.now < length rest.now) }

@@ -1,7 +1,7 @@
 use Rattle.std.proofs.Common.{◌≡◌, ◌++◌, take}
 use Rattle.std.specs.Prelude.{map}
 use Rattle.yaml_blocks.specs.Blocks.{content}
-use Rattle.yaml_blocks.specs.Endings.{texts_view}
+use Rattle.yaml_blocks.specs.Chompings.{texts_view}
 use Rattle.yaml_blocks.specs.Views.{lines_view}
 use Rattle.yaml_blocks.proofs.content.push_contents.Given as goal
 

@@ -5,7 +5,7 @@ use Rattle.yaml_lines.specs.Line.{indent}
 use Rattle.yaml_lines.specs.View.{line_view}
 use Rattle.yaml_blocks.specs.Blocks.{content}
 use Rattle.yaml_blocks.specs.Contents.{none_of_line}
-use Rattle.yaml_blocks.specs.Endings.{texts_view}
+use Rattle.yaml_blocks.specs.Chompings.{texts_view}
 use Rattle.yaml_blocks.specs.Views.{lines_view}
 use Rattle.yaml_blocks.proofs.Fronts.{view_empty, view_first, scalar_none, scalar_less, scalar_some}
 use Rattle.yaml_blocks.proofs.content.scalar_lines.Goals as goal
@@ -13,8 +13,8 @@ use Rattle.yaml_blocks.proofs.content.scalar_lines.Goals as goal
 pub returns-then-is_empty : goal.returns-then-is_empty
 returns-then-is_empty c =
     let xs = c.args.lines.now in
-    let n = c.count_bare-front.result in
-    let k = c.count_bare-front.ensures in
+    let n = c.count_empty-front.result in
+    let k = c.count_empty-front.ensures in
     let e : texts_view c.push_empty.new.texts.items ≡ map none_of_line (lines_view (take n xs)) =
     c.in_ok-push_empty.ensures
     ∙ (ap (λ vs. texts_view vs ++ map none_of_line (lines_view c.split_at.result.0.now)) c.new-texts.ensures.items
@@ -25,8 +25,8 @@ returns-then-is_empty c =
 pub returns-then-inner-least : goal.returns-then-inner-least
 returns-then-inner-least c =
     let xs = c.args.lines.now in
-    let n = c.count_bare-front.result in
-    let k = c.count_bare-front.ensures in
+    let n = c.count_empty-front.result in
+    let k = c.count_empty-front.ensures in
     let x = c.index-rest-0.result in
     let e : texts_view c.push_empty.new.texts.items ≡ map none_of_line (lines_view (take n xs)) =
     c.in_ok-push_empty.ensures
@@ -41,8 +41,8 @@ pub returns : goal.returns
 returns c =
     let xs = c.args.lines.now in
     let ys = c.lines_behind-rest.result.now in
-    let n = c.count_bare-front.result in
-    let k = c.count_bare-front.ensures in
+    let n = c.count_empty-front.result in
+    let k = c.count_empty-front.ensures in
     let k2 = c.count_content-count.ensures in
     let x = c.index-rest-0.result in
     let first = texts_view c.push_empty.new.texts.items in

@@ -1,6 +1,6 @@
 use Rattle.std.proofs.Common.{◌≡◌, ◌≤◌, drop}
 use Rattle.yaml_blocks.specs.Blocks.{more_plain}
-use Rattle.yaml_blocks.specs.Furthers.{behind_text}
+use Rattle.yaml_blocks.specs.Continuations.{behind_text}
 use Rattle.yaml_blocks.specs.Views.{lines_view}
 use Rattle.yaml_blocks.proofs.plain.more_plain.Given as goal
 

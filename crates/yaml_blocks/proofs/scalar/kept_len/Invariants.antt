@@ -1,6 +1,6 @@
 use Rattle.std.proofs.Common.{◌≡◌, ◌≤◌, length, take}
 use Rattle.yaml_lines.specs.Scalar.{drop_empty}
-use Rattle.yaml_blocks.specs.Endings.{texts_view}
+use Rattle.yaml_blocks.specs.Chompings.{texts_view}
 use Rattle.yaml_blocks.proofs.scalar.kept_len.Given as goal
 
 abbrev pub invariant-loop-end : goal.invariant-loop-end

@@ -9,8 +9,8 @@ returns-then-count-lines-clause-answer c =
 
 pub refused_behind-requires : goal.refused_behind-requires
 refused_behind-requires c =
-    dead_within c.regular_count-count.result c.void_count.result c.max.result c.args.lines.now c.regular_count-count.ensures.count c.regular_count-count.ensures.within c.if-count-lines.false
-    c.void_count.ensures.count c.requires.content c.max.ensures
+    dead_within c.regular_count-count.result c.comment_count.result c.max.result c.args.lines.now c.regular_count-count.ensures.count c.regular_count-count.ensures.within c.if-count-lines.false
+    c.comment_count.ensures.count c.requires.content c.max.ensures
 
 pub stopped-requires-clause-there : goal.stopped-requires-clause-there
 stopped-requires-clause-there c =
@@ -18,19 +18,19 @@ stopped-requires-clause-there c =
 
 pub returns-else-count-lines-clause-answer : goal.returns-else-count-lines-clause-answer
 returns-else-count-lines-clause-answer c =
-    let within = dead_within c.regular_count-count.result c.void_count.result c.max.result c.args.lines.now c.regular_count-count.ensures.count c.regular_count-count.ensures.within c.if-count-lines.false
-    c.void_count.ensures.count c.requires.content c.max.ensures in
+    let within = dead_within c.regular_count-count.result c.comment_count.result c.max.result c.args.lines.now c.regular_count-count.ensures.count c.regular_count-count.ensures.within c.if-count-lines.false
+    c.comment_count.ensures.count c.requires.content c.max.ensures in
     IfOk-weaker c.refused_behind.result _ _
-    (λ d h. (behind_given c.args.depth c.regular_count-count.result c.void_count.result c.max.result c.args.lines.now _ (node_view c.in-Ok.root) d c.regular_count-count.ensures.count c.void_count.ensures.count
+    (λ d h. (behind_given c.args.depth c.regular_count-count.result c.comment_count.result c.max.result c.args.lines.now _ (node_view c.in-Ok.root) d c.regular_count-count.ensures.count c.comment_count.ensures.count
     c.max.ensures within c.split_at.ensures.front c.in-Ok.ensures h).0)
     c.refused_behind.ensures.refused
 
 pub returns-else-count-lines-clause-plain : goal.returns-else-count-lines-clause-plain
 returns-else-count-lines-clause-plain c =
-    let within = dead_within c.regular_count-count.result c.void_count.result c.max.result c.args.lines.now c.regular_count-count.ensures.count c.regular_count-count.ensures.within c.if-count-lines.false
-    c.void_count.ensures.count c.requires.content c.max.ensures in
+    let within = dead_within c.regular_count-count.result c.comment_count.result c.max.result c.args.lines.now c.regular_count-count.ensures.count c.regular_count-count.ensures.within c.if-count-lines.false
+    c.comment_count.ensures.count c.requires.content c.max.ensures in
     IfOk-weaker c.refused_behind.result _ _
-    (λ d h. (behind_given c.args.depth c.regular_count-count.result c.void_count.result c.max.result c.args.lines.now _ (node_view c.in-Ok.root) d c.regular_count-count.ensures.count c.void_count.ensures.count
+    (λ d h. (behind_given c.args.depth c.regular_count-count.result c.comment_count.result c.max.result c.args.lines.now _ (node_view c.in-Ok.root) d c.regular_count-count.ensures.count c.comment_count.ensures.count
     c.max.ensures within c.split_at.ensures.front c.in-Ok.ensures h).1)
     c.refused_behind.ensures.refused
 

@@ -46,7 +46,7 @@ flow_elements-elements-preserved t c =
     let ts = nodes_view c.elements.elements.items in
     let after = c.in_ok-element.after.now in
     let u = node_view c.in_ok-element.element in
-    let grown : ts ++ u ∷ [] ≡ nodes_view c.push.new.self.items = sym (ap nodes_view c.in_ok-push.ensures.items ∙ map_push node_view c.elements.elements.items c.in_ok-element.element) in
+    let grown : ts ++ u ∷ [] ≡ nodes_view c.push_fitting.new.items.items = sym (ap nodes_view c.in_ok-push_fitting.ensures ∙ map_push node_view c.elements.elements.items c.in_ok-element.element) in
     record {
       within = omega (arith, c.in-Some.ensures.within, c.in_ok-element.ensures.shorter, c.elements.invariant.within);
       far = λ n h.
@@ -92,7 +92,7 @@ flow_entries-entries-preserved t c =
     let after = c.in_ok-entry.after.now in
     let m = entry_view c.in_ok-entry.entry in
     let known = c.entries.invariant.known in
-    let grown : us ++ m ∷ [] ≡ entries_view c.push.new.self.items = sym (ap entries_view c.in_ok-push.ensures.items ∙ map_push entry_view c.entries.entries.items c.in_ok-entry.entry) in
+    let grown : us ++ m ∷ [] ≡ entries_view c.push_fitting.new.items.items = sym (ap entries_view c.in_ok-push_fitting.ensures ∙ map_push entry_view c.entries.entries.items c.in_ok-entry.entry) in
     record {
       within = omega (arith, c.in-Some.ensures.within, c.in_ok-entry.ensures.shorter, c.entries.invariant.within);
       far = λ n h.

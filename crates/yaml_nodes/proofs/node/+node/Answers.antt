@@ -13,17 +13,17 @@ use Rattle.yaml_lines.proofs.SeenLemmas.{knows_none}
 use Rattle.yaml_blocks.specs.Blocks.{alone}
 use Rattle.yaml_blocks.specs.Reading.{Item, items_of, offset, after_spaces, node_in, block_with}
 use Rattle.yaml_blocks.specs.Views.{lines_view}
-use Rattle.yaml_nodes.specs.Items.{item, dashed_in, keyed_in, elements_at, entries_at, elements_given, entries_given, IsContent}
+use Rattle.yaml_nodes.specs.Items.{item, element_at, entry_at, elements_at, entries_at, elements_given, entries_given, IsContent}
 use Rattle.yaml_nodes.proofs.Contents.{body_solid}
-use Rattle.yaml_nodes.proofs.Turns.{first_item, next_item, outside_rest, outside_next, elements_first, elements_more, elements_stop_first, elements_stop, elements_end, entries_first, entries_more, entries_stop_first, entries_stop, entries_end, knows_grown, node_no, node_list, node_map, node_lone, node_stop, key_fails, dashed_is, behind_block, behind_node, first_solid}
+use Rattle.yaml_nodes.proofs.Turns.{first_item, next_item, outside_rest, outside_next, elements_first, elements_more, elements_stop_first, elements_stop, elements_end, entries_first, entries_more, entries_stop_first, entries_stop, entries_end, knows_grown, node_no, node_list, node_map, node_scalar_or_flow, node_stop, key_fails, dashed_is, behind_block, behind_node, first_solid}
 use Rattle.yaml_nodes.proofs.QuotedNodes.{quoted_stop, quoted_map, quoted_text}
 use Rattle.yaml_nodes.proofs.node.+node.Goals as goal
 
 pub block-node-requires : goal.block-node-requires
 block-node-requires t c =
     let l = line_view c.in-Some.line.now in
-    let shape = sym c.count_void.ensures.rest ∙ (ap lines_view (sym c.lines_behind-rest.ensures) ∙ ap lines_view c.in-Some.ensures.cases.0) in
-    let solid = body_solid l (first_solid l (lines_view c.args.lines.now) _ shape) (sym c.is_barred.ensures ∙ c.if-is_barred.false) in
+    let shape = sym c.count_comments.ensures.rest ∙ (ap lines_view (sym c.lines_behind-rest.ensures) ∙ ap lines_view c.in-Some.ensures.cases.0) in
+    let solid = body_solid l (first_solid l (lines_view c.args.lines.now) _ shape) (sym c.has_bad_start.ensures ∙ c.if-has_bad_start.false) in
     (search rules, (c.body.ensures.within, ap blank_or_end c.body.ensures.body ∙ solid))
 
 pub element-returns-in-None : goal.element-returns-in-None
@@ -33,9 +33,9 @@ element-returns-in-None t c =
     let i = c.args.level in
     let d = c.args.depth in
     let x : Item = item c.args.line.now cs c.args.inner.now in
-    let void : carries_nothing (drop 1 cs) ≡ true = ap carries_nothing (sym c.behind-after.ensures) ∙ c.in-None.ensures in
-    let whole = dashed_is d i x (sym c.is_barred.ensures ∙ c.if-is_barred.false) (sym c.offset.ensures.offset ∙ c.if-offset-level.false) (sym c.is_dash.ensures ∙ c.if-not-is_dash.false)
-    ∙ (behind_block d (after_spaces (drop 1 cs)) i (spot l cs) l (drop 1 cs) x.inner void
+    let comment : carries_nothing (drop 1 cs) ≡ true = ap carries_nothing (sym c.behind-after.ensures) ∙ c.in-None.ensures in
+    let whole = dashed_is d i x (sym c.has_bad_start.ensures ∙ c.if-has_bad_start.false) (sym c.offset.ensures.offset ∙ c.if-offset-level.false) (sym c.is_dash.ensures ∙ c.if-not-is_dash.false)
+    ∙ (behind_block d (after_spaces (drop 1 cs)) i (spot l cs) l (drop 1 cs) x.inner comment
     ∙ ap (λ (a : At). block_with (node_in d) (i + 1) a x.inner) (sym c.spot.ensures)) in
     subst (λ (r : Read Tree). Gives node_view c.block.result r) (sym whole) c.block.ensures
 
@@ -49,7 +49,7 @@ element-returns-in-Some t c =
     let next = c.in-Some.next.now in
     let is : IsContent (drop 1 cs) next = subst (λ (ts : List ℕ). IsContent ts next) c.behind-after.ensures c.in-Some.ensures in
     let may = ap after_spaces (sym c.behind-after.ensures) ∙ sym c.after_spaces.ensures in
-    let whole = dashed_is d i x (sym c.is_barred.ensures ∙ c.if-is_barred.false) (sym c.offset.ensures.offset ∙ c.if-offset-level.false) (sym c.is_dash.ensures ∙ c.if-not-is_dash.false)
+    let whole = dashed_is d i x (sym c.has_bad_start.ensures ∙ c.if-has_bad_start.false) (sym c.offset.ensures.offset ∙ c.if-offset-level.false) (sym c.is_dash.ensures ∙ c.if-not-is_dash.false)
     ∙ (behind_node d (after_spaces (drop 1 cs)) i (spot l cs) l (drop 1 cs) next x.inner is
     ∙ ap (λ b. node_in d b (i + 1) l next x.inner) may) in
     subst (λ (r : Read Tree). Gives node_view c.node.result r) (sym whole) c.node.ensures
@@ -75,7 +75,7 @@ elements-returns-in_err-first t c =
     let whole = elements_at d (offset (line_view c.args.line.now) c.args.rest.now) all in
     let e = c.in_err-first.field-0.0 in
     gives_err elements_given c.from_residual.result whole e _ c.from_residual.ensures.1 (λ y p. p)
-    (fails_more e (dashed_in d i x) whole c.in_err-first.ensures
+    (fails_more e (element_at d i x) whole c.in_err-first.ensures
     (λ s p. elements_stop_first d i _ x _ all s c.offset-level.ensures.offset (first_item false i c.args.line.now c.args.rest.now c.args.lines.now inner c.offset-level.ensures.offset k.front k.rest) p))
 
 pub elements-loop-at-init : goal.elements-loop-at-init
@@ -83,7 +83,7 @@ elements-loop-at-init t c =
     let i = c.offset-level.result in
     let inner = c.lines_inside-inner.result.now in
     let k = c.lines_inside-inner.ensures in
-    let grown = ap nodes_view (c.in_ok-push.ensures.items ∙ ap (λ ns. ns ++ c.in_ok-first.first ∷ []) c.new-elements.ensures.items) in
+    let grown = ap nodes_view (c.in_ok-push_fitting.ensures ∙ ap (λ ns. ns ++ c.in_ok-first.first ∷ []) c.new-elements.ensures.items) in
     record {
       out = outside_rest false i (lines_view c.args.lines.now) _ k.rest;
       far =
@@ -102,7 +102,7 @@ elements-returns-in_err-next t c =
     let whole = elements_at d (offset (line_view c.args.line.now) c.args.rest.now) (items_of false (line_view c.args.line.now) c.args.rest.now (lines_view c.args.lines.now)) in
     let e = c.in_err-next.field-0.0 in
     gives_err elements_given c.from_residual-in_err-next.result whole e _ c.from_residual-in_err-next.ensures.1 (λ y p. p)
-    (fails_more e (dashed_in d i x) whole c.in_err-next.ensures
+    (fails_more e (element_at d i x) whole c.in_err-next.ensures
     (λ s p.
     elements_stop d i _ x _ _ s whole v.far
     (next_item false i c.args.lines.now c.lines_behind-others.result.now inner c.loop-at.at c.index-lines-at.result c.body.result.now c.loop-at-test.true c.index-lines-at.is v.out c.lines_behind-others.ensures c.body.ensures.body k.front k.rest) p))
@@ -115,7 +115,7 @@ elements-loop-at-preserved t c =
     let inner = c.lines_inside-inner-in-loop-at.result.now in
     let k = c.lines_inside-inner-in-loop-at.ensures in
     let x : Item = item c.index-lines-at.result c.body.result.now inner in
-    let grown = ap nodes_view c.in_ok-push-2.ensures.items ∙ map_push node_view c.loop-at.elements.items c.in_ok-next.next in
+    let grown = ap nodes_view c.in_ok-push_fitting-2.ensures ∙ map_push node_view c.loop-at.elements.items c.in_ok-next.next in
     record {
       out = outside_next false i c.args.lines.now c.lines_behind-others.result.now inner c.loop-at.at c.lines_behind-others.ensures k.rest;
       far =
@@ -138,7 +138,7 @@ entries-returns-in_err-first t c =
     let whole = entries_at d (offset (line_view c.args.line.now) c.args.rest.now) [] all in
     let e = c.in_err-first.field-0.0 in
     gives_err entries_given c.from_residual.result whole e _ c.from_residual.ensures.1 (λ y p. p)
-    (fails_more e (keyed_in d i [] x) whole (c.in_err-first.ensures.entry [] (knows_none c.new-seen.result c.new-seen.ensures))
+    (fails_more e (entry_at d i [] x) whole (c.in_err-first.ensures.entry [] (knows_none c.new-seen.result c.new-seen.ensures))
     (λ s p. entries_stop_first d i _ x _ all s c.offset-level.ensures.offset (first_item true i c.args.line.now c.args.rest.now c.args.lines.now inner c.offset-level.ensures.offset k.front k.rest) p))
 
 pub entries-loop-at-init : goal.entries-loop-at-init
@@ -147,7 +147,7 @@ entries-loop-at-init t c =
     let inner = c.lines_inside-inner.result.now in
     let k = c.lines_inside-inner.ensures in
     let none = knows_none c.new-seen.result c.new-seen.ensures in
-    let grown = ap entries_view (c.in_ok-push.ensures.items ∙ ap (λ es. es ++ c.in_ok-first.first ∷ []) c.new-entries.ensures.items) in
+    let grown = ap entries_view (c.in_ok-push_fitting.ensures ∙ ap (λ es. es ++ c.in_ok-first.first ∷ []) c.new-entries.ensures.items) in
     record {
       out = outside_rest true i (lines_view c.args.lines.now) _ k.rest;
       far =
@@ -168,7 +168,7 @@ entries-returns-in_err-next t c =
     let whole = entries_at d (offset (line_view c.args.line.now) c.args.rest.now) [] (items_of true (line_view c.args.line.now) c.args.rest.now (lines_view c.args.lines.now)) in
     let e = c.in_err-next.field-0.0 in
     gives_err entries_given c.from_residual-in_err-next.result whole e _ c.from_residual-in_err-next.ensures.1 (λ y p. p)
-    (fails_more e (keyed_in d i (keys_of us) x) whole (c.in_err-next.ensures.entry (keys_of us) v.known)
+    (fails_more e (entry_at d i (keys_of us) x) whole (c.in_err-next.ensures.entry (keys_of us) v.known)
     (λ s p.
     entries_stop d i us x _ _ s whole v.far
     (next_item true i c.args.lines.now c.lines_behind-others.result.now inner c.loop-at.at c.index-lines-at.result c.body.result.now c.loop-at-test.true c.index-lines-at.is v.out c.lines_behind-others.ensures c.body.ensures.body k.front k.rest) p))
@@ -183,7 +183,7 @@ entries-loop-at-preserved t c =
     let k = c.lines_inside-inner-in-loop-at.ensures in
     let x : Item = item c.index-lines-at.result c.body.result.now inner in
     let m = entry_view c.in_ok-next.next in
-    let grown = ap entries_view c.in_ok-push-2.ensures.items ∙ map_push entry_view c.loop-at.entries.items c.in_ok-next.next in
+    let grown = ap entries_view c.in_ok-push_fitting-2.ensures ∙ map_push entry_view c.loop-at.entries.items c.in_ok-next.next in
     record {
       out = outside_next true i c.args.lines.now c.lines_behind-others.result.now inner c.loop-at.at c.lines_behind-others.ensures k.rest;
       far =
@@ -198,8 +198,8 @@ entries-returns t c = entries_end c.args.depth c.offset-level.result _ c.args.li
 
 pub node-returns-then-not-may : goal.node-returns-then-not-may
 node-returns-then-not-may t c =
-    subst (λ (r : Read Tree). Gives node_view c.lone.result r)
-    (sym (node_no c.args.depth c.args.may c.args.least (line_view c.args.line.now) c.args.rest.now (lines_view c.args.lines.now) c.if-not-may.true)) c.lone.ensures
+    subst (λ (r : Read Tree). Gives node_view c.scalar_or_flow.result r)
+    (sym (node_no c.args.depth c.args.may c.args.least (line_view c.args.line.now) c.args.rest.now (lines_view c.args.lines.now) c.if-not-may.true)) c.scalar_or_flow.ensures
 
 pub node-returns-then-is_dash : goal.node-returns-then-is_dash
 node-returns-then-is_dash t c =
@@ -217,9 +217,9 @@ node-returns-in_err-plain_key_at t c =
 pub node-returns-in_default : goal.node-returns-in_default
 node-returns-in_default t c =
     let key = c.in_ok-plain_key_at.ensures.key ∙ ap parts_view c.in_default.is in
-    subst (λ (r : Read Tree). Gives node_view c.lone-in_default.result r)
-    (sym (node_lone c.args.depth c.args.may c.args.least (line_view c.args.line.now) c.args.rest.now (lines_view c.args.lines.now) c.if-not-may.false (sym c.is_dash.ensures ∙ c.if-is_dash.false) key))
-    c.lone-in_default.ensures
+    subst (λ (r : Read Tree). Gives node_view c.scalar_or_flow-in_default.result r)
+    (sym (node_scalar_or_flow c.args.depth c.args.may c.args.least (line_view c.args.line.now) c.args.rest.now (lines_view c.args.lines.now) c.if-not-may.false (sym c.is_dash.ensures ∙ c.if-is_dash.false) key))
+    c.scalar_or_flow-in_default.ensures
 
 pub node-returns : goal.node-returns
 node-returns t c =

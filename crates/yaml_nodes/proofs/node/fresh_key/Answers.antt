@@ -4,7 +4,7 @@ use Rattle.yaml_lines.specs.Line.{spot, refused}
 use Rattle.yaml_lines.specs.Flow.{is_seen}
 use Rattle.yaml_lines.proofs.Failing.{fails_as}
 use Rattle.yaml_lines.proofs.SeenLemmas.{knows_fresh, knows_more, unseen, known_key}
-use Rattle.yaml_nodes.specs.Items.{key_in}
+use Rattle.yaml_blocks.specs.Reading.{key_in}
 use Rattle.yaml_nodes.proofs.Fresh.{key_fresh, key_seen}
 use Rattle.yaml_nodes.proofs.node.fresh_key.Goals as goal
 

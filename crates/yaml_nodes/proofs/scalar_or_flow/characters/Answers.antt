@@ -2,7 +2,7 @@ use Rattle.std.proofs.Common.{◌≡◌, ℕ, List, IfOk, Vec, Result, Ok, Err, 
 use Rattle.std.specs.Vec.{vec_items}
 use Rattle.std.specs.Str.{chars}
 use Rattle.std.proofs.lemmas.Iterator.{YieldsList-from_chars, items_from_collect}
-use Rattle.yaml_nodes.proofs.lone.characters.Goals as goal
+use Rattle.yaml_nodes.proofs.scalar_or_flow.characters.Goals as goal
 
 collected : {Z E : Type 0} (bytes cs : List ℕ) (r : Result (Vec ℕ Z) E) → chars bytes ≡ cs → IfOk r (λ v. vec_items v ≡ chars bytes) → IfOk r (λ v. v.items ≡ cs)
 collected bytes cs (Ok v) same e = e ∙ same

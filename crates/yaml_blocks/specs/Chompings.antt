@@ -1,14 +1,14 @@
 -- What the readers of block scalars give.
 use Rattle.std.specs.Prelude.{ℕ, Bool, List, [], ◌∷◌, ◌++◌, if◌then◌else◌, map as list_map}
 use Rattle.std.specs.Borrow.{Bor}
-use Rattle.yaml_blocks.specs.declared.scalar.Ending.{Ending}
-use Rattle.yaml_blocks.specs.declared.scalar.Ending.TheVariants.{Clip, Strip, Keep}
+use Rattle.yaml_blocks.specs.declared.scalar.Chomping.{Chomping}
+use Rattle.yaml_blocks.specs.declared.scalar.Chomping.TheVariants.{Clip, Strip, Keep}
 use Rattle.yaml_lines.specs.Scalar as scalar
 
-abbrev pub ending_view : Ending → scalar.Ending
-ending_view Clip = scalar.clip
-ending_view Strip = scalar.strip
-ending_view Keep = scalar.keep
+abbrev pub chomping_view : Chomping → scalar.Chomping
+chomping_view Clip = scalar.clip
+chomping_view Strip = scalar.strip
+chomping_view Keep = scalar.keep
 
 abbrev pub texts_view : List (Bor (List ℕ)) → List (List ℕ)
 texts_view ts = list_map (λ t. t.now) ts

@@ -9,6 +9,7 @@ ghost use Rattle.yaml_lines.specs.Scalar as scalars;
 ghost use Rattle.yaml_lines.specs.View.{line_view, Gives};
 ghost use Rattle.yaml_blocks.specs.Blocks as blocks;
 ghost use Rattle.yaml_blocks.specs.Reading as reading;
+ghost use Rattle.yaml_blocks.specs.Continuations.{plain_view};
 ghost use Rattle.yaml_blocks.specs.Views.{lines_view};
 ghost use Rattle.yaml_nodes.specs.Items as spec;
 
@@ -17,7 +18,7 @@ use sig_base::{Code, Text};
 use std::alloc::{AllocError, Global};
 use yaml_blocks::content::block_scalar;
 use yaml_blocks::lines::nothing_in;
-use yaml_blocks::plain::{plain_text, whole_plain};
+use yaml_blocks::plain::{PlainText, plain_text};
 use yaml_lines::flow::{flow_node, is_bracket, is_quote, no_reading, quoted, refused};
 use yaml_lines::scan::{begins, ends_line, is_left_out, spot, starts_plain};
 use yaml_lines::word::resolved;
@@ -25,8 +26,8 @@ use yaml_lines::{Halt, Line};
 use yaml_tree::{Kind, Node};
 
 /// The scalar or the flow collection that begins here, with nothing else in its block.
-#[tactic(auto, unfolding(yaml_blocks::specs::Reading::lone_in))]
-pub fn lone(
+#[tactic(auto, unfolding(yaml_blocks::specs::Reading::scalar_or_flow_in))]
+pub fn scalar_or_flow(
     alloc: Global,
     depth: usize,
     least: usize,
@@ -36,7 +37,7 @@ pub fn lone(
 ) -> Result<Node, Halt>
     requires within { length rest.now ≤ length line.now.text.now }
     requires solid { file.blank_or_end rest.now ≡ false }
-    ensures { Gives node_view result (reading.lone_in depth least (line_view line.now) rest.now (lines_view lines.now)) }
+    ensures { Gives node_view result (reading.scalar_or_flow_in depth least (line_view line.now) rest.now (lines_view lines.now)) }
 {
     if is_left_out(rest) || begins('%', rest) && offset(line, rest) == 0 {
         return Err(refused(Code::UNSUPPORTED, line, rest));
@@ -82,16 +83,22 @@ fn plain(
     ensures { Gives node_view result (spec.plain_in least (line_view line.now) rest.now (lines_view lines.now)) }
 {
     let place = spot(line, rest);
-    if let Some(front) = whole_plain(rest, lines) {
-        let kind = resolved(alloc, front)?;
-        return Ok(Node { place, kind });
-    }
     let content = plain_text(alloc, least, line, rest, lines)?;
-    let kind = meant(alloc, &content)?;
+    let kind = plain_kind(alloc, &content)?;
     Ok(Node { place, kind })
 }
 
 /// What the text of a plain scalar is.
+fn plain_kind(alloc: Global, content: &PlainText<'_>) -> Result<Kind, AllocError>
+    ensures { IfOk result (λ k. (a : At) → kind_view k a ≡ scalar a (scalars.resolved (plain_view content.now))) }
+{
+    match content {
+        PlainText::OneLine(front) => resolved(alloc, front),
+        PlainText::Joined(text) => meant(alloc, text),
+    }
+}
+
+/// What a text is as a plain scalar.
 fn meant(alloc: Global, content: &Text) -> Result<Kind, AllocError>
     ensures { IfOk result (λ k. (a : At) → kind_view k a ≡ scalar a (scalars.resolved content.now)) }
 {
