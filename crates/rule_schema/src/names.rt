@@ -250,16 +250,23 @@ impl Gathered {
     }
 }
 
+/// How many names items use.
+fn count_uses(items: &[Item]) -> usize {
+    let mut count: usize = 0;
+    for item in items {
+        if let Fields::Names(names) = &item.fields {
+            count = count.saturating_add(names.as_slice().len());
+        }
+    }
+    count
+}
+
 /// Whether a rule may use more than a few names.
 fn has_many(detections: &[Detection]) -> bool {
     let mut count: usize = 0;
     for detection in detections {
         for alternative in detection.alternatives.as_slice() {
-            for item in alternative.as_slice() {
-                if let Fields::Names(names) = &item.fields {
-                    count = count.saturating_add(names.as_slice().len());
-                }
-            }
+            count = count.saturating_add(count_uses(alternative.as_slice()));
         }
     }
     count > FEW
