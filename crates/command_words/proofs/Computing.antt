@@ -162,10 +162,10 @@ computed row words items names = (to, from) where
   all None is e = absurd (none_some items e)
   all (Some own) is e = elim (choose (is_all row own) (Some own) None (Some items) e) [
     | inl h ↦ subst (λ (i : List Item). IsGiven row words i) (some_is own items h.1) (record {
-        reads = read_given (row.required ++ row.optional) (takes_names row.files) words own is;
-        required = and_left (list_all (λ x. is_some (value_of x own)) row.required) (are_enough row.files (names_of own)) h.0;
-        enough = and_right (list_all (λ x. is_some (value_of x own)) row.required) (are_enough row.files (names_of own)) h.0;
-      })
+      reads = read_given (row.required ++ row.optional) (takes_names row.files) words own is;
+      required = and_left (list_all (λ x. is_some (value_of x own)) row.required) (are_enough row.files (names_of own)) h.0;
+      enough = and_right (list_all (λ x. is_some (value_of x own)) row.required) (are_enough row.files (names_of own)) h.0;
+    })
     | inr h ↦ absurd (none_some items h.1)
   ]
 

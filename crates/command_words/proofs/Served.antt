@@ -36,6 +36,6 @@ has_items_of w a words items m is reads has =
     let rows : rows_of (found_of m) ≡ matches_of (app_with (row_of w)) words = (has simple).0 ∙ ap (λ (b : App). matches_of b words) is in
     record {
       values = λ x other. first_value-rows (found_of m) x ∙ (ap (first_of x) rows
-      ∙ (ap (option_and_then (λ r. slice_get r.values 0)) (by.values x other) ∙ first_found x (value_of x items)));
+          ∙ (ap (option_and_then (λ r. slice_get r.values 0)) (by.values x other) ∙ first_found x (value_of x items)));
       names = ap (λ (o : Option (List Word)). unwrap_or o []) (raw_values-rows (found_of m) file_id ∙ ap (all_of file_id) rows) ∙ by.names;
     }

@@ -36,6 +36,7 @@ no_defaults (a ∷ rest) rows all = ap (λ (r : List Found). fold with_default r
     by : (b : Bool) → cond b rows rows ≡ rows
     by true = refl
     by false = refl
+
     here : with_default rows a ≡ rows
     here = rw all.0 (by (has_row a.id rows))
 
@@ -191,11 +192,13 @@ read_where_no_fault row words served only clean none =
     let found = back row.name rules (row.required ++ row.optional) (takes_names row.files) only words clean (row.required ++ row.optional) nothing_held idle [] is_idle refl (λ y among e. among)
     (record { none = p.0; last = q.0 }) in
     let by = read_by_clap row words found.0 served found.1 in
-    let asked : list_any (wants (finished rules end)) rules ≡ false = no_check _ c.1 in
-    (found.0, record {
-      reads = found.1;
-      required = required_given (rows_from [] found.0) found.0 row.required _ served.known by.looks (subst (λ (r : List Found). list_any (wants r) rules ≡ false) by.done asked);
-    })
+    let asked : list_any (wants (finished rules end)) rules ≡ false = no_check _ c.1 in (
+      found.0,
+      record {
+        reads = found.1;
+        required = required_given (rows_from [] found.0) found.0 row.required _ served.known by.looks (subst (λ (r : List Found). list_any (wants r) rules ≡ false) by.done asked);
+      },
+    )
 
 -- words that the papers take have no fault
 defaults_clear : (rules : List Rule) (rows : List Found) → AllByRecursion (λ a. a.defaults ≡ []) rules → defaults_fault rows rules ≡ []
@@ -206,6 +209,7 @@ defaults_clear (a ∷ rest) rows all = rw here (defaults_clear rest (with_defaul
     by : (b : Bool) (k : Kinds) → cond (b || true) [] k ≡ []
     by true k = refl
     by false k = refl
+
     here : default_fault rows a ≡ []
     here = rw all.0 (by (has_row a.id rows) _)
 

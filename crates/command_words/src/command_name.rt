@@ -19,6 +19,7 @@ pub enum CommandName {
 }
 
 static NO_OPTIONS: [&str; 0] = [];
+
 static BACKEND: [&str; 1] = ["backend"];
 
 impl CommandName {

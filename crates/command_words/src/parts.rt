@@ -11,8 +11,8 @@ ghost use Rattle.command_words.specs.Table.{row_of, IsGiven};
 ghost use Rattle.command_words.specs.Matched.{IsRead};
 
 use crate::command_name::CommandName;
-use clap::{Arg, ArgAction, ArgMatches, Command, Error};
 use clap::error::ErrorKind;
+use clap::{Arg, ArgAction, ArgMatches, Command, Error};
 use std::alloc::{AllocError, Global};
 use std::convert::AsStr;
 
@@ -44,7 +44,12 @@ fn file_arg<'a>(alloc: Global) -> Arg<'a>
         .required(true)
 }
 
-fn with_option<'a>(alloc: Global, command: Command<'a>, name: &'a str, required: bool) -> Result<Command<'a>, AllocError>
+fn with_option<'a>(
+    alloc: Global,
+    command: Command<'a>,
+    name: &'a str,
+    required: bool,
+) -> Result<Command<'a>, AllocError>
     ensures { IfOk result (λ c. app_of c ≡ apps.with_options required (name.entry.now ∷ []) (app_of command.entry)) }
 {
     command.arg(option_arg(alloc, name, required))
@@ -56,7 +61,12 @@ fn with_files<'a>(alloc: Global, command: Command<'a>) -> Result<Command<'a>, Al
     command.arg(file_arg(alloc))
 }
 
-fn with_options<'a>(alloc: Global, command: Command<'a>, names: &'static [&'static str], required: bool) -> Result<Command<'a>, AllocError>
+fn with_options<'a>(
+    alloc: Global,
+    command: Command<'a>,
+    names: &'static [&'static str],
+    required: bool,
+) -> Result<Command<'a>, AllocError>
     ensures { IfOk result (λ c. app_of c ≡ apps.with_options required (map (λ s. s.now) names.now) (app_of command.entry)) }
 {
     let mut command = command;
@@ -66,7 +76,11 @@ fn with_options<'a>(alloc: Global, command: Command<'a>, names: &'static [&'stat
     Ok(command)
 }
 
-fn with_names<'a>(alloc: Global, command: Command<'a>, takes: bool) -> Result<Command<'a>, AllocError>
+fn with_names<'a>(
+    alloc: Global,
+    command: Command<'a>,
+    takes: bool,
+) -> Result<Command<'a>, AllocError>
     ensures { IfOk result (λ c. app_of c ≡ apps.with_files takes (app_of command.entry)) }
 {
     if takes {
@@ -88,7 +102,11 @@ pub(super) fn command_of<'a>(alloc: Global, which: CommandName) -> Result<Comman
 }
 
 /// What clap makes of the words behind a command's name.
-pub fn matched<'a, S: AsStr>(alloc: Global, which: CommandName, words: &'a [S]) -> Result<ArgMatches<'a>, Error>
+pub fn matched<'a, S: AsStr>(
+    alloc: Global,
+    which: CommandName,
+    words: &'a [S],
+) -> Result<ArgMatches<'a>, Error>
     ensures err { IfErr result (λ e. (items : List Item) → IsGiven (row_of which) (map S.text words.entry.now) items → kind_of e ≡ ErrorKind.OutOfMemory) }
     ensures ok { IfOk result (λ m. (items : List Item) → IsGiven (row_of which) (map S.text words.entry.now) items → HasItems m items) }
     ensures back { IfOk result (λ m. are_clean (map S.text words.entry.now) ≡ true

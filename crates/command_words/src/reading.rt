@@ -9,8 +9,8 @@ ghost use Rattle.command_words.specs.Matched.{HasItems};
 ghost use Rattle.command_words.specs.Table as table;
 ghost use Rattle.command_words.specs.Table.{row_of, IsGiven};
 
+use crate::command_name::{CommandName, Count};
 use crate::parts::matched;
-use crate::command_name::{Count, CommandName};
 use clap::ArgMatches;
 use clap::error::ErrorKind;
 use sig_base::Fault;
@@ -107,7 +107,11 @@ fn are_clean_in_turn<S: AsStr>(words: &[S]) -> bool
 }
 
 /// The options and names of the words behind a command's name, where the words are taken.
-pub fn read<'a, S: AsStr>(alloc: Global, which: CommandName, words: &'a [S]) -> Result<Option<ArgMatches<'a>>, Fault>
+pub fn read<'a, S: AsStr>(
+    alloc: Global,
+    which: CommandName,
+    words: &'a [S],
+) -> Result<Option<ArgMatches<'a>>, Fault>
     ensures taken { IfOk result (λ r. IfSome r (λ m. (items : List Item) × IsGiven (row_of which) (map S.text words.entry.now) items × HasItems m items)) }
     ensures untaken { IfOk result (λ r. IfNone r ((items : List Item) → IsGiven (row_of which) (map S.text words.entry.now) items → ⊥)) }
     ensures err { IfErr result (λ e. e ≡ Fault.Memory) }

@@ -28,16 +28,31 @@ fn told(alloc: Global, command: CommandName, words: &[&str]) -> Result<String, F
 fn words_of_convert(rt: HostRuntime) -> Result<(), Fail> {
     let alloc = rt.alloc();
     for (words, want) in [
-        (["--backend", "sqlite", "r.yml"].as_slice(), "sqlite: r.yml;"),
+        (
+            ["--backend", "sqlite", "r.yml"].as_slice(),
+            "sqlite: r.yml;",
+        ),
         (["r.yml", "--backend=sqlite"].as_slice(), "sqlite: r.yml;"),
-        (["a", "--backend", "sqlite", "b", "a"].as_slice(), "sqlite: a;b;a;"),
+        (
+            ["a", "--backend", "sqlite", "b", "a"].as_slice(),
+            "sqlite: a;b;a;",
+        ),
         (["--backend=a=b", "r"].as_slice(), "a=b: r;"),
-        (["--backend", "sqlite", "--", "-r.yml", "--backend", "--"].as_slice(), "sqlite: -r.yml;--backend;--;"),
+        (
+            ["--backend", "sqlite", "--", "-r.yml", "--backend", "--"].as_slice(),
+            "sqlite: -r.yml;--backend;--;",
+        ),
         (["a", "--backend=sqlite", "--"].as_slice(), "sqlite: a;"),
         (["--backend", "sqlite"].as_slice(), "not taken"),
         (["r.yml"].as_slice(), "not taken"),
-        (["--backend", "sqlite", "--backend", "sqlite", "r"].as_slice(), "not taken"),
-        (["--backend=sqlite", "r", "--backend=sqlite"].as_slice(), "not taken"),
+        (
+            ["--backend", "sqlite", "--backend", "sqlite", "r"].as_slice(),
+            "not taken",
+        ),
+        (
+            ["--backend=sqlite", "r", "--backend=sqlite"].as_slice(),
+            "not taken",
+        ),
         (["--backend", "sqlite", "-"].as_slice(), "not taken"),
         (["--backend", "sqlite", ""].as_slice(), "not taken"),
         (["--backend", "", "r"].as_slice(), "not taken"),

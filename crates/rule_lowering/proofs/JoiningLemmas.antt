@@ -95,7 +95,6 @@ pub some_same : {A : Type 0} (P Q : A → Type 0) → ((x : A) → P x ↔ Q x) 
 some_same P Q same [] = iff_same
 some_same P Q same (x ∷ xs) = iff_either (same x) (some_same P Q same xs)
 
-
 pub some_filtered : {A B : Type 0} (p : A → Bool) (g : A → B) (P : B → Type 0) (Q : A → Type 0) → ((x : A) → P (g x) ↔ Q x)
     → (xs : List A) → SomeOf P (map g (filter p xs)) ↔ SomeOf (λ y. (p y ≡ true) × Q y) xs
 some_filtered p g P Q same [] = iff_same

@@ -11,7 +11,7 @@ use std::test::Fail;
 fn accepts_no_other_words(rt: HostRuntime) -> Result<(), Fail> {
     let limits = Limits::standard();
     let files: [(&str, &[u8]); 1] = [("b.yml", FOUR.as_bytes())];
-    let others: [&[&str]; 12] = [
+    let others: [&[&str]; 17] = [
         &[],
         &["check"],
         &["check", ""],
@@ -24,6 +24,18 @@ fn accepts_no_other_words(rt: HostRuntime) -> Result<(), Fail> {
         &["convert", "--backend", "lucene", "b.yml"],
         &["convert", "--backend", "sqlite", "b.yml", ""],
         &["checks", "b.yml"],
+        &[
+            "convert",
+            "--backend",
+            "sqlite",
+            "--backend",
+            "sqlite",
+            "b.yml",
+        ],
+        &["convert", "--backend=", "b.yml"],
+        &["convert", "--backend=SQLITE", "b.yml"],
+        &["check", "b.yml", "--", ""],
+        &["--help"],
     ];
     for words in others {
         check(
@@ -41,9 +53,13 @@ fn accepts_no_other_words(rt: HostRuntime) -> Result<(), Fail> {
 fn accepts_both_commands(rt: HostRuntime) -> Result<(), Fail> {
     let limits = Limits::standard();
     let files: [(&str, &[u8]); 1] = [("b.yml", FOUR.as_bytes())];
-    let commands: [&[&str]; 2] = [
+    let commands: [&[&str]; 6] = [
         &["check", "b.yml"],
+        &["check", "--", "b.yml"],
         &["convert", "--backend", "sqlite", "b.yml"],
+        &["convert", "--backend=sqlite", "b.yml"],
+        &["convert", "b.yml", "--backend=sqlite"],
+        &["convert", "--backend", "sqlite", "--", "b.yml"],
     ];
     for words in commands {
         check(
