@@ -1,6 +1,6 @@
 //! Events and their values, by hand.
 
-use crate::{Event, Field, FieldKind, FieldValues, Fields, Schema, Value, decimal};
+use crate::{Event, Field, FieldKind, FieldList, FieldValues, Schema, Value, decimal};
 use sig_base::{Text, Texts};
 use std::alloc::Global;
 use std::test::Fail;
@@ -17,7 +17,7 @@ fn field(alloc: Global, name: &str, kind: FieldKind, many: bool) -> Result<Field
 }
 
 fn schema(alloc: Global) -> Result<Schema, Fail> {
-    let mut fields = Fields::new(alloc);
+    let mut fields = FieldList::new(alloc);
     fields.push(field(alloc, "Image", FieldKind::Text, false)?)?;
     fields.push(field(alloc, "Size", FieldKind::Whole, true)?)?;
     fields.push(field(alloc, "User", FieldKind::Text, true)?)?;

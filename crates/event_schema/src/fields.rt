@@ -4,4 +4,4 @@ use crate::schema::Field;
 use sig_base::Sequence;
 
 /// Fields in order, which contracts see as a list.
-pub type Fields = Sequence<Field>;
+pub type FieldList = Sequence<Field>;

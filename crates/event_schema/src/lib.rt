@@ -2,7 +2,7 @@
 #![tactic(auto)]
 
 pub use event::Event;
-pub use fields::Fields;
+pub use fields::FieldList;
 pub use names::is_legal;
 pub use schema::{Field, FieldKind, Schema, Time, TimeForm};
 pub use value::{Value, decimal, decimal_in};

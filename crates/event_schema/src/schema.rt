@@ -4,7 +4,7 @@ ghost use Rattle.std.specs.Prelude.{◌≡◌};
 ghost use Rattle.std.specs.Str.{chars};
 ghost use Rattle.event_schema.specs.Rows.{field_number};
 
-use crate::fields::Fields;
+use crate::fields::FieldList;
 use sig_base::{Text, Texts};
 
 /// What values a field takes: texts, whole numbers of 64 bits, or texts that are an IPv4 address or don't begin like one.
@@ -46,7 +46,7 @@ pub struct Time {
 #[derive(Drop, Debug)]
 pub struct Schema {
     pub table: Text,
-    pub fields: Fields,
+    pub fields: FieldList,
     pub time: Option<Time>,
 }
 

@@ -21,7 +21,7 @@ const KEY: Place = Place { line: 9, column: 5 };
 
 /// Texts of these names, each with whether keywords search it.
 fn schema(alloc: Global, names: &[(&str, bool)]) -> Result<Schema, Fail> {
-    let mut fields = event_schema::Fields::new(alloc);
+    let mut fields = event_schema::FieldList::new(alloc);
     for (name, search) in names {
         let mut at = Texts::new(alloc);
         at.push(Text::copy(alloc, name)?)?;

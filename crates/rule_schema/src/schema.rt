@@ -10,7 +10,7 @@ ghost use Rattle.rule_schema.specs.Inferred as spec;
 
 use crate::law::inferred_schemas;
 use crate::names::gather;
-use event_schema::{Field, FieldKind, Fields, Schema};
+use event_schema::{Field, FieldKind, FieldList, Schema};
 use rule_model::Rule;
 use sig_base::{Fault, Text, Texts};
 use std::alloc::Global;
@@ -32,11 +32,11 @@ fn text_field(alloc: Global, name: Text) -> Result<Field, Fault>
     })
 }
 
-fn text_fields(alloc: Global, names: Vec<Text>) -> Result<Fields, Fault>
+fn text_fields(alloc: Global, names: Vec<Text>) -> Result<FieldList, Fault>
     ensures ok { IfOk result (λ fields. fields ≡ map event.text_field names.items) }
     ensures err { IfErr result (λ e. e ≡ Fault.Memory) }
 {
-    let mut fields = Fields::new(alloc);
+    let mut fields = FieldList::new(alloc);
     for name in names {
         fields.push(text_field(alloc, name)?)?;
     }

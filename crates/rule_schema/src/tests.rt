@@ -111,7 +111,7 @@ fn names_stand_once_unless_they_clash(rt: HostRuntime) -> Result<(), Fail> {
 
 /// What refuses a rule under a schema of the fields `a` and `b`, both of which keywords search, or none.
 fn misfit(alloc: Global, search: bool, items: &[(&str, &str)]) -> Result<String, Fail> {
-    let mut fields = event_schema::Fields::new(alloc);
+    let mut fields = event_schema::FieldList::new(alloc);
     for name in ["a", "b"] {
         fields.push(Field {
             name: Text::copy(alloc, name)?,

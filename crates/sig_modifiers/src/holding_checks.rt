@@ -1,7 +1,7 @@
 //! Tests and values, reckoned by hand.
 
 use crate::Test;
-use event_schema::{Event, Field, FieldKind, FieldValues, Fields, Schema, Value};
+use event_schema::{Event, Field, FieldKind, FieldList, FieldValues, Schema, Value};
 use sig_base::{Limits, Place, Text, Texts};
 use sig_strings::Pattern;
 use std::alloc::Global;
@@ -21,7 +21,7 @@ fn field(alloc: Global, name: &str, kind: FieldKind) -> Result<Field, Fail> {
 }
 
 fn schema(alloc: Global) -> Result<Schema, Fail> {
-    let mut fields = Fields::new(alloc);
+    let mut fields = FieldList::new(alloc);
     fields.push(field(alloc, "Image", FieldKind::Text)?)?;
     fields.push(field(alloc, "Size", FieldKind::Whole)?)?;
     fields.push(field(alloc, "Ip", FieldKind::Address)?)?;

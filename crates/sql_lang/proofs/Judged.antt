@@ -8,7 +8,7 @@ use Rattle.std.proofs.lemmas.Bool.Decides.{nat_tests}
 use Rattle.event_schema.specs.declared.schema.Schema.{Schema}
 use Rattle.text_places.specs.Places.{At, Fault, fault}
 use Rattle.sql_lang.specs.Tokens.{Token, Sort, Word, OR, AND, Closing, tokens}
-use Rattle.text_places.specs.Tokens.{sorts, places, place_of}
+use Rattle.text_places.specs.Tokens.{sorts, places, token_place}
 use Rattle.sql_lang.specs.Grammar.{Collate, Unsaid, NoCase, Binary, Literal, a_text, a_number, Right, a_name, a_literal, Leaf, constant, is_null, compares, like, glob, one_of, between, Ors, last_and, and_or, Ands, last_not, not_and, Nots, not_not, a_test, enclosed, Query, spell_collate, spell_literal, spell_right, spell_not, spell_escape, spell_before, spell_test, spell_or, spell_and, spell_nots, spell_end, spell_query, StopsAt}
 use Rattle.sql_lang.specs.Expression.{Expr, or_expr, depth}
 use Rattle.sql_lang.specs.Faults.{query_faults}
@@ -147,7 +147,7 @@ one_refusal_of limit schema cs f g (stopped front rest other near s is) (no_toke
 one_refusal_of limit schema cs f g (stopped front rest other near s is) (nested other' far is') = absurd cc
 one_refusal_of limit schema cs f g (stopped front rest other near s is) (stopped front' rest' other' near' s' is') =
     let same = one_length (sorts (tokens cs)) front rest front' rest' s s' in
-    is ∙ (ap (λ (n : ℕ). fault 120 (place_of cs (tokens cs) n)) same ∙ sym is')
+    is ∙ (ap (λ (n : ℕ). fault 120 (token_place cs (tokens cs) n)) same ∙ sym is')
 one_refusal_of limit schema cs f g (stopped front rest other near s is) (deep q other' near' spelled below is') =
     absurd (no_stop_spelled q (sorts (tokens cs)) front rest spelled s)
 one_refusal_of limit schema cs f g (stopped front rest other near s is) (faulty q other' near' spelled within more is') =
@@ -194,7 +194,7 @@ module _ (limit : ℕ) (schema : Schema) (cs : List ℕ) (known : first_other (t
   query_verdict _ (stops_at_end s) = stopped (sorts (tokens cs)) [] known near s refl
   query_verdict _ (stops front rest s) =
       let count : length (sorts (tokens cs)) - length rest ≡ length front = omega (arith, ap length s.parts, length-append front rest) in
-      stopped front rest known near s (ap (λ (n : ℕ). fault 120 (place_of cs (tokens cs) n)) count)
+      stopped front rest known near s (ap (λ (n : ℕ). fault 120 (token_place cs (tokens cs) n)) count)
 
 nesting_verdict : (limit : ℕ) (schema : Schema) (cs : List ℕ) (b : Bool) → first_other (tokens cs) ≡ None → nests_too_far limit (sorts (tokens cs)) ≡ b
     → IsVerdict limit schema cs (on_nesting b limit schema cs)

@@ -3,7 +3,7 @@ use Rattle.std.specs.Prelude.{ℕ, suc, ◌≡◌, ◌≤◌, ◌<◌, ◌+◌, 
 use Rattle.std.specs.Str.{all_scalars}
 use Rattle.text_places.specs.Places.{At, origin, IsText, IsBadAt, Fault, fault}
 use Rattle.sql_lang.specs.Tokens.{Token, Sort, Word, Opening, Closing, Other, NOT, tokens}
-use Rattle.text_places.specs.Tokens.{sorts, places, place_of}
+use Rattle.text_places.specs.Tokens.{sorts, places, token_place}
 use Rattle.sql_lang.specs.Grammar.{Query, spell_query, StopsAt}
 use Rattle.event_schema.specs.declared.schema.Schema.{Schema}
 use Rattle.sql_lang.specs.Expression.{Expr, or_expr, depth}
@@ -65,7 +65,7 @@ pub data Refuses (limit : ℕ) (schema : Schema) (cs : List ℕ) (f : Fault) : T
   no_token : (place : At) → first_other (tokens cs) ≡ Some place → f ≡ fault 121 place → Refuses limit schema cs f
   nested : first_other (tokens cs) ≡ None → nests_too_far limit (sorts (tokens cs)) ≡ true → f ≡ fault 124 origin → Refuses limit schema cs f
   stopped : (front rest : List Sort) → first_other (tokens cs) ≡ None → nests_too_far limit (sorts (tokens cs)) ≡ false
-      → StopsAt (sorts (tokens cs)) front rest → f ≡ fault 120 (place_of cs (tokens cs) (length front)) → Refuses limit schema cs f
+      → StopsAt (sorts (tokens cs)) front rest → f ≡ fault 120 (token_place cs (tokens cs) (length front)) → Refuses limit schema cs f
   deep : (q : Query) → first_other (tokens cs) ≡ None → nests_too_far limit (sorts (tokens cs)) ≡ false
       → spell_query q ≡ sorts (tokens cs) → limit < depth (or_expr schema.fields q.condition)
       → f ≡ fault 124 origin → Refuses limit schema cs f

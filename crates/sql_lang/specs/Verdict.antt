@@ -2,7 +2,7 @@
 use Rattle.std.specs.Prelude.{ℕ, ◌-◌, Bool, true, false, nat_lt, List, [], ◌∷◌, length, Option, Some, None, Result, Ok, Err}
 use Rattle.event_schema.specs.declared.schema.Schema.{Schema}
 use Rattle.text_places.specs.Places.{At, origin, Fault, fault}
-use Rattle.text_places.specs.Tokens.{sorts, places, place_of}
+use Rattle.text_places.specs.Tokens.{sorts, places, token_place}
 use Rattle.sql_lang.specs.Tokens.{Sort, tokens}
 use Rattle.sql_lang.specs.Grammar.{Query}
 use Rattle.sql_lang.specs.Expression.{Expr, or_expr, depth}
@@ -20,8 +20,8 @@ on_depth false schema cs q = on_faults (or_expr schema.fields q.condition) (quer
 
 abbrev pub on_query : ℕ → Schema → List ℕ → Result (Option Query) (List Sort) → Result Expr Fault
 on_query limit schema cs (Ok (Some q)) = on_depth (nat_lt limit (depth (or_expr schema.fields q.condition))) schema cs q
-on_query limit schema cs (Ok None) = Err (fault 120 (place_of cs (tokens cs) (length (sorts (tokens cs)))))
-on_query limit schema cs (Err rest) = Err (fault 120 (place_of cs (tokens cs) (length (sorts (tokens cs)) - length rest)))
+on_query limit schema cs (Ok None) = Err (fault 120 (token_place cs (tokens cs) (length (sorts (tokens cs)))))
+on_query limit schema cs (Err rest) = Err (fault 120 (token_place cs (tokens cs) (length (sorts (tokens cs)) - length rest)))
 
 abbrev pub on_nesting : Bool → ℕ → Schema → List ℕ → Result Expr Fault
 on_nesting true limit schema cs = Err (fault 124 origin)

@@ -1,8 +1,8 @@
-//! Fields of several values, which no query can test.
+//! FieldList of several values, which no query can test.
 
 use crate::Sqlite;
 use backend_core::{Leaf, LeafTest, Tree};
-use event_schema::{Field, FieldKind, Fields, Schema};
+use event_schema::{Field, FieldKind, FieldList, Schema};
 use sig_base::{Bytes, Detail, Fault, Limits, Place, Text, Texts};
 use std::alloc::Global;
 use std::test::Fail;
@@ -11,7 +11,7 @@ const RULE: Place = Place { line: 1, column: 1 };
 
 /// The table `events` with a text `Image` and the texts of a field `User`, which may have several.
 fn schema(alloc: Global) -> Result<Schema, Fail> {
-    let mut fields = Fields::new(alloc);
+    let mut fields = FieldList::new(alloc);
     for (name, many) in [("Image", false), ("User", true)] {
         let mut at = Texts::new(alloc);
         at.push(Text::copy(alloc, name)?)?;

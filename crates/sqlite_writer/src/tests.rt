@@ -2,7 +2,7 @@
 
 use crate::Sqlite;
 use backend_core::{Leaf, LeafTest, Tree};
-use event_schema::{Field, FieldKind, Fields, Schema};
+use event_schema::{Field, FieldKind, FieldList, Schema};
 use sig_base::{Bytes, Code, Detail, Fault, Limits, Place, Refusal, Text, Texts};
 use sig_strings::Pattern;
 use std::alloc::Global;
@@ -12,7 +12,7 @@ const PLACE: Place = Place { line: 6, column: 5 };
 
 /// The table `events` with four fields of texts.
 fn schema(alloc: Global) -> Result<Schema, Fail> {
-    let mut fields = Fields::new(alloc);
+    let mut fields = FieldList::new(alloc);
     for name in ["Image", "User", "Name", "a\"é"] {
         fields.push(Field {
             name: Text::copy(alloc, name)?,

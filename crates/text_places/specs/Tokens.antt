@@ -16,7 +16,7 @@ places [] = []
 places (t ∷ ts) = t.place ∷ places ts
 
 -- the place of the first token behind so many, or of the end of these characters
-abbrev pub place_of : {Sort : Type 0} → List ℕ → List (Token Sort) → ℕ → At
-place_of cs [] k = place_after origin cs
-place_of cs (t ∷ ts) zero = t.place
-place_of cs (t ∷ ts) (suc k) = place_of cs ts k
+abbrev pub token_place : {Sort : Type 0} → List ℕ → List (Token Sort) → ℕ → At
+token_place cs [] k = place_after origin cs
+token_place cs (t ∷ ts) zero = t.place
+token_place cs (t ∷ ts) (suc k) = token_place cs ts k
