@@ -1,6 +1,7 @@
 -- Words are accepted as the request that is read from them word by word, and as no other.
 use Rattle.std.proofs.Common.{◌≡◌, ℕ, ◌<◌, ◌^◌, Bool, true, false, cond, List, [], ◌∷◌, length, nat_lt, refl, ap, sym, ◌∙◌, subst, Option, Some, None, inl, inr}
-use Rattle.std.specs.Prelude.{◌⊎◌, codes, option_and_then}
+use Rattle.std.specs.Prelude.{◌⊎◌, option_and_then, Result, Ok, Err, IfOk, IfSome, IfNone}
+use Rattle.std.specs.declared.alloc.AllocError.{AllocError}
 use Rattle.std.specs.Str.{bytes_eq}
 use Rattle.std.proofs.lemmas.Bool.{lt-ltb, ltb-true}
 use Rattle.std.proofs.lemmas.Slice.Eq.{bytes_eq-Decides}
@@ -102,3 +103,15 @@ decided words = by (read words) refl
     by : (r : Option Request) → read words ≡ r → ((request : Request) × IsAccepted words request) ⊎ IsUnaccepted words
     by (Some request) is = inl (request, read_accepted words request is)
     by None is = inr (λ request accepted. none_some request (sym is ∙ accepted_read words request accepted))
+
+-- ---- of what the reader answers
+
+pub accepted_if : (words : List (List ℕ)) (r : Result (Option Request) AllocError) → IfOk r (λ o. o ≡ read words) → IfOk r (λ o. IfSome o (λ request. IsAccepted words request))
+accepted_if words (Ok (Some request)) is = read_accepted words request (sym is)
+accepted_if words (Ok None) is = tt
+accepted_if words (Err e) is = tt
+
+pub unaccepted_if : (words : List (List ℕ)) (r : Result (Option Request) AllocError) → IfOk r (λ o. o ≡ read words) → IfOk r (λ o. IfNone o (IsUnaccepted words))
+unaccepted_if words (Ok (Some request)) is = tt
+unaccepted_if words (Ok None) is = λ request accepted. none_some request (is ∙ accepted_read words request accepted)
+unaccepted_if words (Err e) is = tt

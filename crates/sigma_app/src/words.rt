@@ -40,20 +40,28 @@ fn lent<'a>(alloc: Global, words: &'a [Text]) -> Result<Vec<&'a str>, AllocError
     Ok(all)
 }
 
-/// Copies of the names of files.
-fn copies(alloc: Global, names: Option<&[&str]>) -> Result<Texts, AllocError>
-    ensures { IfOk result (λ all. all ≡ map chars (unwrap_or (option_map (λ s. map (λ v. v.now) s.now) names.entry) [])) }
+/// Copies of names.
+fn copies(alloc: Global, names: &[&str]) -> Result<Texts, AllocError>
+    ensures { IfOk result (λ all. all ≡ map chars (map (λ s. s.now) names.now)) }
 {
     let mut all = Texts::new(alloc);
-    if let Some(names) = names {
-        for name in names {
-            match Text::copy(alloc, name) {
-                Ok(copy) => all.push(copy)?,
-                Err(_) => return Err(AllocError),
-            }
+    for name in names {
+        match Text::copy(alloc, name) {
+            Ok(copy) => all.push(copy)?,
+            Err(_) => return Err(AllocError),
         }
     }
     Ok(all)
+}
+
+/// Copies of the names, if there are some.
+fn copies_if_any(alloc: Global, names: Option<&[&str]>) -> Result<Texts, AllocError>
+    ensures { IfOk result (λ all. all ≡ map chars (unwrap_or (option_map (λ s. map (λ v. v.now) s.now) names.entry) [])) }
+{
+    match names {
+        Some(names) => copies(alloc, names),
+        None => Ok(Texts::new(alloc)),
+    }
 }
 
 /// Whether this is the backend that queries are written for.
@@ -74,7 +82,7 @@ fn request_with(
 ) -> Result<Option<Request>, AllocError>
     ensures { (items : List Item) → HasItems found.now items → IfOk result (λ r. r ≡ request_with command items) }
 {
-    let rules = copies(alloc, found.get_raw("FILE"))?;
+    let rules = copies_if_any(alloc, found.get_raw("FILE"))?;
     match command {
         CommandName::Check => Ok(Some(Request::Check { rules })),
         CommandName::Convert => {
@@ -103,11 +111,9 @@ fn read_request(
     }
 }
 
-/// The request that the words are, if they are one; an error is want of memory.
-pub(super) fn read_words(alloc: Global, words: &[Text]) -> Result<Option<Request>, AllocError>
-    ensures read { IfOk result (λ r. r ≡ accepted_words.read words.now) }
-    ensures accepted { IfOk result (λ r. IfSome r (λ request. IsAccepted words.now request)) }
-    ensures unaccepted { IfOk result (λ r. IfNone r (IsUnaccepted words.now)) }
+/// What is read of the words; an error is want of memory.
+fn read_exactly(alloc: Global, words: &[Text]) -> Result<Option<Request>, AllocError>
+    ensures { IfOk result (λ r. r ≡ accepted_words.read words.now) }
 {
     if words.len() >= TOO_MANY_WORDS {
         return Ok(None);
@@ -119,4 +125,12 @@ pub(super) fn read_words(alloc: Global, words: &[Text]) -> Result<Option<Request
         return Ok(None);
     };
     read_request(alloc, command, words.split_at(1).1)
+}
+
+/// The request that the words are, if they are one; an error is want of memory.
+pub(super) fn read_words(alloc: Global, words: &[Text]) -> Result<Option<Request>, AllocError>
+    ensures accepted { IfOk result (λ r. IfSome r (λ request. IsAccepted words.now request)) }
+    ensures unaccepted { IfOk result (λ r. IfNone r (IsUnaccepted words.now)) }
+{
+    read_exactly(alloc, words)
 }
