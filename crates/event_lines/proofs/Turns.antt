@@ -1,13 +1,14 @@
 -- The turns of a reader of lines: a piece of the line behind the other.
-use Rattle.std.proofs.Common.{◌≡◌, ℕ, zero, suc, ◌+◌, ◌-◌, ◌<◌, ◌≤◌, Bool, true, false, List, [], ◌∷◌, ◌++◌, length, take, refl, sym, ap, ◌∙◌, arith, append_assoc, append-nil, Option, Some, None, subst}
-use Rattle.std.specs.Prelude.{nat_le, if◌then◌else◌, ◌||◌, ◌==◌, Ok, Err}
+use Rattle.std.proofs.Common.{◌≡◌, ℕ, zero, suc, ◌+◌, ◌-◌, ◌<◌, ◌≤◌, Bool, true, false, List, [], ◌∷◌, ◌++◌, length, take, refl, sym, ap, ◌∙◌, arith, append_assoc, append-nil, inl, inr, Option, Some, None, subst}
+use Rattle.std.specs.Prelude.{nat_le, if◌then◌else◌, ◌||◌, ◌==◌, ◌⊎◌, Result, Ok, Err}
+use Rattle.sig_base.specs.declared.faults.LineFault.{LineFault}
 use Rattle.std.specs.Io.KnownBytes.{Keeps, IsAtEnd}
 use Rattle.std.specs.List.{list_any}
 use Rattle.std.proofs.lemmas.Bool.{or_from}
 use Rattle.std.proofs.lemmas.List.{length-append, take-append-le}
 use Rattle.std.proofs.lemmas.List.Folds.{list_any-append}
 use Rattle.event_lines.specs.Lines.{line_step, last_step, steps_from}
-use Rattle.event_lines.specs.Reading.{Reading, coming, has_feed, AnswersNext, IsNext}
+use Rattle.event_lines.specs.Reading.{Reading, coming, has_feed, AnswersNext, IsNext, PassesLine, Passes, IsPassed}
 use Rattle.event_lines.specs.Steps.{TakesPiece, Moves, end_step}
 use Rattle.event_lines.specs.declared.piece.Piece.TheVariants.{Feed, More, Over}
 use Rattle.event_lines.proofs.Coming.{next_line, too_much, last_bytes}
@@ -195,3 +196,48 @@ answers_failed old now after (Some xs) (Some ys) (Some zs) line p empty keeps is
       ap has_feed (sym p.told.2 ∙ (ap (λ (l : List ℕ). p.front ++ l) empty ∙ append-nil p.front)) ∙ p.plain,
       is,
     )
+
+-- ---- which bytes are passed
+
+passes_over : (old after : Reading) (given : List ℕ) (r : Result LineStep LineFault) → after.ended ≡ true → Passes old given after r
+passes_over old after given (Ok (Line number bytes)) is = inl is
+passes_over old after given (Ok (TooLong number)) is = inl is
+passes_over old after given (Ok (TooMuch number)) is = tt
+passes_over old after given (Ok End) is = tt
+passes_over old after given (Err fault) is = tt
+
+-- the reader is at its end
+pub over_passed : (old now after : Reading) (left rest : Option (List ℕ)) (line : List ℕ) (r : Result LineStep LineFault) → Passed old now left rest line → after.ended ≡ true
+    → IsPassed old left after rest r
+over_passed old now after None rest line r p is = tt
+over_passed old now after (Some xs) None line r p is = absurd p.told
+over_passed old now after (Some xs) (Some ys) line r p is = (p.told.0, p.told.1, passes_over old after p.told.0 r is)
+
+pub failed_passed : (old now after : Reading) (left rest more : Option (List ℕ)) (line : List ℕ) (fault : LineFault) → Passed old now left rest line → Keeps rest more
+    → IsPassed old left after more (Err fault)
+failed_passed old now after None rest more line fault p keeps = tt
+failed_passed old now after (Some xs) None more line fault p keeps = absurd p.told
+failed_passed old now after (Some xs) (Some ys) None line fault p keeps = absurd keeps
+failed_passed old now after (Some xs) (Some ys) (Some zs) line fault p keeps = (p.told.0, p.told.1 ∙ ap (λ (l : List ℕ). p.told.0 ++ l) (sym keeps), tt)
+
+passes_step : (old after : Reading) (given : List ℕ) (step : LineStep) → PassesLine old given after → Passes old given after (Ok step)
+passes_step old after given (Line number bytes) passes = passes
+passes_step old after given (TooLong number) passes = passes
+passes_step old after given (TooMuch number) passes = tt
+passes_step old after given End passes = tt
+
+-- a line feed ends the line
+pub feed_passed : (old mid new after : Reading) (left rest : Option (List ℕ)) (line line_new : List ℕ) (step : LineStep) → Passed old mid left rest line
+    → TakesPiece mid new line line_new Feed → after ≡ record new { number = new.number + 1 } → IsPassed old left after rest (Ok step)
+feed_passed old mid new after None rest line line_new step p taken is = tt
+feed_passed old mid new after (Some xs) None line line_new step p taken is = absurd p.told
+feed_passed old mid new after (Some xs) (Some ys) line line_new step p (piece, ahead, plain, kept, room) is =
+    let whole : old.ahead ++ p.told.0 ≡ (p.front ++ piece) ++ 10 ∷ new.ahead =
+    sym p.told.2 ∙ (ap (λ (l : List ℕ). p.front ++ l) ahead ∙ sym (append_assoc p.front piece (10 ∷ new.ahead))) in
+    let size : old.room ≡ length (p.front ++ piece) + 1 + new.room = omega (arith, p.room, room, length-append p.front piece) in
+    let passes : PassesLine old p.told.0 new = inr (p.front ++ piece, whole, both_plain p.front piece p.plain plain, size) in
+    let later = record new { number = new.number + 1 } in
+    (p.told.0, p.told.1, passes_step old after p.told.0 step (subst (λ (r : Reading). PassesLine old p.told.0 r) (sym is) (passes_on old p.told.0 new passes))) where
+      passes_on : (old : Reading) (given : List ℕ) (r : Reading) → PassesLine old given r → PassesLine old given (record r { number = r.number + 1 })
+      passes_on old given r (inl ended) = inl ended
+      passes_on old given r (inr line) = inr line

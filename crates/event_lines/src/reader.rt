@@ -5,7 +5,7 @@ ghost use Rattle.std.specs.List.{position};
 ghost use Rattle.std.specs.Io.KnownBytes.{Keeps, IsAtEnd};
 ghost use Rattle.sig_base.specs.Causes.{HasCause};
 ghost use Rattle.event_lines.specs.Lines.{line_step, lines_of};
-ghost use Rattle.event_lines.specs.Reading.{coming, has_feed, IsNext, IsOver, IsLine, HasLineCause};
+ghost use Rattle.event_lines.specs.Reading.{coming, has_feed, IsNext, IsPassed, IsOver, IsLine, HasLineCause};
 ghost use Rattle.event_lines.specs.Steps.{TakesPiece, Moves, end_step};
 
 use crate::buffer::Buffer;
@@ -176,6 +176,7 @@ impl LineReader {
     /// The next line. `TooMuch`, `End` and faults end the reader, which then answers `End` and reads nothing.
     pub fn next_line<S: Source>(&mut self, source: &mut S) -> Result<LineStep, LineFault>
         ensures next { IsNext self.old (S.left source.old) self.new (S.left source.new) result }
+        ensures passed { IsPassed self.old (S.left source.old) self.new (S.left source.new) result }
         ensures told { is_some (S.left source.new) ≡ is_some (S.left source.old) }
         ensures cause { HasLineCause (S.faults source.old) (S.faults source.new) result }
         ensures over { IsOver result → self.new.ended ≡ true }
