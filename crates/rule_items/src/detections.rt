@@ -29,7 +29,7 @@ fn read_items(alloc: Global, limits: &Limits, entries: &[Entry]) -> Result<Alter
         (first (list_map (item_refusal limits.now) (entries_view entries.now))) result }
     ensures whole { IfOk result (λ items. EachOf IsWholeItem items) }
 {
-    let mut items = Alternative::new(alloc);
+    let mut items = Alternative::with_capacity(alloc, entries.len())?;
     for entry in entries {
         let item = Item::read(alloc, limits, entry)?;
         items.push(item)?;
@@ -64,7 +64,7 @@ fn read_keyword(alloc: Global, limits: &Limits, node: &Node) -> Result<Alternati
     ensures whole { IfOk result (λ items. IsWholeAlternative items) }
 {
     let item = Item::read_keyword(alloc, limits, node)?;
-    let mut items = Alternative::new(alloc);
+    let mut items = Alternative::with_capacity(alloc, 1)?;
     items.push(item)?;
     Ok(items)
 }
@@ -89,7 +89,7 @@ fn read_alternatives(alloc: Global, limits: &Limits, nodes: &[Node]) -> Result<A
         (first (list_map (spec.alternative_refusal limits.now) (nodes_view nodes.now))) result }
     ensures whole { IfOk result (λ all. EachOf IsWholeAlternative all) }
 {
-    let mut all = Alternatives::new(alloc);
+    let mut all = Alternatives::with_capacity(alloc, nodes.len())?;
     for node in nodes {
         let alternative = read_alternative(alloc, limits, node)?;
         all.push(alternative)?;

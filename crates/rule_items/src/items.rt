@@ -63,7 +63,7 @@ fn read_fields(alloc: Global, keyword: bool, name: Text) -> Result<Fields, Fault
     if keyword {
         return Ok(Fields::Keyword);
     }
-    let mut names = Texts::new(alloc);
+    let mut names = Texts::with_capacity(alloc, 1)?;
     names.push(name)?;
     Ok(Fields::Names(names))
 }
@@ -119,7 +119,7 @@ impl Item {
         let place = place_of(node);
         let chain = Chain::read(alloc, words.as_slice(), true, place)?;
         let tests = resolve(alloc, limits, &chain, node)?;
-        let mut values = Values::new(alloc);
+        let mut values = Values::with_capacity(alloc, 1)?;
         values.push(tests)?;
         Ok(Item {
             fields: Fields::Keyword,

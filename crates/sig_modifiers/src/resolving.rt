@@ -30,7 +30,7 @@ fn one_test(alloc: Global, test: Test) -> Result<Tests, Fault>
     ensures ok { IfOk result (λ tests. tests ≡ test ∷ []) }
     ensures err { IfErr result (λ e. e ≡ Fault.Memory) }
 {
-    let mut tests = Tests::new(alloc);
+    let mut tests = Tests::with_capacity(alloc, 1)?;
     tests.push(test)?;
     Ok(tests)
 }
