@@ -4,7 +4,8 @@
     python3 bench/against_sqlite.py PROGRAM [--rules N] [--seed S] [--indexes]
 
 PROGRAM is the built program, as crates/sigma_app/out/sigma_app. It makes N small rules of odd values (wildcards, escapes, quotes,
-signs of LIKE and GLOB, letters beyond ASCII, numbers, null, lists, each modifier, conditions that nest), has the program
+signs of LIKE and GLOB, letters beyond ASCII, numbers, null, lists, each modifier, conditions that nest; one in 200 has a list of
+1,000 to 4,096 values), has the program
 convert them, and runs each query over random events in a table of texts. The rows that SQLite selects have to be those
 that the rule matches by a plain reading of what was made, which shares no code with the program. It prints each rule that differs, and the
 numbers of rules last; the exit status is 1 where one differs.
@@ -137,6 +138,16 @@ def some_rule(rng):
         lines += inner
     condition = some_condition(rng, names, 3)
     return "\n".join(lines + [f"  condition: {condition}"]) + "\n", detections, condition
+
+
+def some_long_rule(rng):
+    """A rule of one list of 1,000 to 4,096 values, each with letters of its own."""
+    chain = rng.choice(CHAINS)
+    values = [some_text(rng) + str(rng.randrange(10 ** 6)) + some_text(rng) for _ in range(rng.randrange(1000, 4097))]
+    item = (rng.choice(FIELDS), chain, values)
+    condition = rng.choice(["sel", "not sel", "1 of sel*", "not 1 of them"])
+    lines = ["title: t", "logsource:", "  category: c", "detection:", "  sel:"] + item_lines(rng, "    ", item)
+    return "\n".join(lines + [f"  condition: {condition}"]) + "\n", {"sel": [[item]]}, condition
 
 
 # ---- what it means
@@ -307,6 +318,7 @@ def main():
     with tempfile.TemporaryDirectory() as folder:
         for start in range(0, told.rules, 200):
             rules = [some_rule(rng) for _ in range(min(200, told.rules - start))]
+            rules[-1] = some_long_rule(rng)
             for rule, (query, line) in zip(rules, converted(program, folder, rules)):
                 verdict = tried(databases, rng, rule, query, line, wrong)
                 counts[verdict] += 1
