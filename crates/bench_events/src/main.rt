@@ -1,0 +1,100 @@
+//! Shows how long reading events takes. The word `lines` reads the lines of standard input, `json` reads each as a JSON value
+//! too, and `events` reads each as an event of a small schema. It prints how many lines there were and how many were read
+//! so. (Run it by hand with a clock around it, as `bench/events.py` does.)
+#![tactic(auto)]
+
+use event_lines::LineReader;
+use event_reading::{read_event, read_schema};
+use event_schema::Schema;
+use serde_json::Value;
+use sig_base::{Fault, InputSource, Limits, LineFault, LineStep, Source};
+use std::alloc::Global;
+use std::{env, io};
+
+/// Five texts, two numbers and the time.
+const SCHEMA: &str =
+    r#"{"fields": [{"name": "Image", "kind": "text"}, {"name": "CommandLine", "kind": "text"},
+    {"name": "User", "kind": "text"}, {"name": "ParentImage", "kind": "text"},
+    {"name": "Hashes", "kind": "text", "many": true}, {"name": "EventID", "kind": "whole"},
+    {"name": "ProcessId", "kind": "whole"}], "time": {"at": ["UtcTime"], "form": "text"}}"#;
+
+#[derive(Clone, Copy)]
+enum Mode {
+    Lines,
+    Json,
+    Events,
+}
+
+/// What comes of the lines: how many there are, and how many were read.
+#[derive(Drop)]
+struct Counts {
+    lines: u64,
+    read: u64,
+}
+
+fn is_read(alloc: Global, mode: Mode, schema: &Schema, number: u32, line: &[u8]) -> bool {
+    match mode {
+        Mode::Lines => true,
+        Mode::Json => Value::from_slice(alloc, line).is_ok(),
+        Mode::Events => read_event(alloc, schema, number, line).is_ok(),
+    }
+}
+
+/// Reads the lines of a source to its end.
+fn read_all<S: Source>(
+    alloc: Global,
+    mode: Mode,
+    schema: &Schema,
+    source: &mut S,
+) -> Result<Counts, LineFault> {
+    let Ok(mut reader) = LineReader::new(alloc, &Limits::standard()) else {
+        return Err(LineFault::Memory);
+    };
+    let mut counts = Counts { lines: 0, read: 0 };
+    for _line in 0..u32::MAX {
+        match reader.next_line(source)? {
+            LineStep::Line { number, bytes } => {
+                counts.lines = counts.lines.saturating_add(1);
+                if is_read(alloc, mode, schema, number, bytes.as_slice()) {
+                    counts.read = counts.read.saturating_add(1);
+                }
+            }
+            LineStep::TooLong { .. } => counts.lines = counts.lines.saturating_add(1),
+            LineStep::TooMuch { .. } | LineStep::End => return Ok(counts),
+        }
+    }
+    Ok(counts)
+}
+
+fn mode_of(word: Option<String>) -> Mode {
+    match word {
+        Some(word) => match word.as_str() {
+            "json" => Mode::Json,
+            "events" => Mode::Events,
+            _ => Mode::Lines,
+        },
+        None => Mode::Lines,
+    }
+}
+
+fn schema(alloc: Global) -> Result<Schema, Fault> {
+    read_schema(alloc, &Limits::standard(), SCHEMA.as_bytes())
+}
+
+fn main(rt: HostRuntime) -> io::Result<()> {
+    let mut words = env::args(&rt)?;
+    let _program = words.next();
+    let mode = mode_of(words.next());
+    let Ok(schema) = schema(rt.alloc()) else {
+        return Err(io::Error::from(io::ErrorKind::InvalidInput));
+    };
+    match read_all(
+        rt.alloc(),
+        mode,
+        &schema,
+        &mut InputSource::new(rt.reader()),
+    ) {
+        Ok(counts) => println!(rt; "{} lines, {} read", counts.lines, counts.read),
+        Err(_) => Err(io::Error::from(io::ErrorKind::Other)),
+    }
+}

@@ -1,0 +1,14 @@
+pub mod EachLemmas
+pub mod Epochs
+pub mod Jsons
+pub mod MomentLemmas
+pub mod Nuls
+pub mod Numerals
+pub mod PlainTexts
+pub mod QuadLemmas
+pub mod RepeatLemmas
+pub mod RowLemmas
+pub mod SchemaLemmas
+pub mod SchemaShapes
+pub mod Sums
+pub mod Takings

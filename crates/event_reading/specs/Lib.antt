@@ -1,0 +1,10 @@
+pub mod Answers
+pub mod EventOf
+pub mod Json
+pub mod Keys
+pub mod Moments
+pub mod Nearness
+pub mod Paths
+pub mod Quads
+pub mod SchemaOf
+pub mod Takes
