@@ -200,7 +200,7 @@ read_where_no_fault row words served only clean none =
       },
     )
 
--- words that the papers take have no fault
+-- where no row has a default, defaults have no fault
 defaults_clear : (rules : List Rule) (rows : List Found) → AllByRecursion (λ a. a.defaults ≡ []) rules → defaults_fault rows rules ≡ []
 unfolding defaults_fault
 defaults_clear [] rows all = refl

@@ -64,6 +64,9 @@ fn copies_lists_and_compares_texts(rt: HostRuntime) -> Result<(), Fail> {
     let mut bytes = Text::copy(rt.alloc(), "aü")?.into_bytes();
     bytes.push(b'!')?;
     assert_eq!(rt; bytes.as_slice(), b"a\xc3\xbc!".as_slice());
+    let mut line = Bytes::copy(rt.alloc(), b"ab")?.into_vec();
+    line.push(b'\n')?;
+    assert_eq!(rt; Bytes::from_vec(line).as_slice(), b"ab\n".as_slice());
     Ok(())
 }
 

@@ -10,7 +10,7 @@ use Rattle.event_schema.specs.declared.value.Value.TheVariants as values
 use Rattle.sql_lang.specs.Tokens.{Eq, Ne, Lt, Gte, scan, tokens, is_number, run_sort, text_sort}
 use Rattle.sql_lang.specs.Grammar.{Collate, Unsaid, NoCase, Binary}
 use Rattle.sql_lang.specs.Expression.{Operand, Side, ColumnAt, Text, Whole, Constant, Compare, Like, Glob, OneOf, Between, Expr, Or, And, Not, Test, Exprs, no_exprs, an_expr}
-use Rattle.text_places.specs.Places.{Fault, fault}
+use Rattle.text_places.specs.Places.{CodeAt, code_at}
 use Rattle.sql_lang.specs.Faults.{is_bad_escape, is_bad_bracket}
 use Rattle.sql_lang.specs.Reading.{opens_too_far, nots_too_many}
 use Rattle.sql_lang.specs.Meaning.{Truth, Yes, No, Unknown, sql_value, like_from, glob_from, fits_parts}
@@ -29,11 +29,11 @@ schema = record {
   time = None;
 }
 
-abbrev pub refused : ℕ → ℕ → ℕ → Result Expr Fault
-refused code line column = Err (fault code (record { line = line; column = column }))
+abbrev pub refused : ℕ → ℕ → ℕ → Result Expr CodeAt
+refused code line column = Err (code_at code (record { line = line; column = column }))
 
 abbrev pub Cases : Type 0
-Cases = List (List ℕ × Result Expr Fault)
+Cases = List (List ℕ × Result Expr CodeAt)
 
 -- behind WHERE, so from column 30 on
 abbrev pub where_text : List ℕ → List ℕ
@@ -153,10 +153,10 @@ depth_cases =
     ∷ (codes "\"Image\" NOT LIKE 'x'", Ok (Test (Like 0 true (codes "x") None)))
     ∷ []
 
-abbrev pub computed : ℕ → (List ℕ → List ℕ) → Cases → List (Result Expr Fault)
+abbrev pub computed : ℕ → (List ℕ → List ℕ) → Cases → List (Result Expr CodeAt)
 computed limit text cases = map (λ c. verdict limit schema (text c.0)) cases
 
-abbrev pub told : Cases → List (Result Expr Fault)
+abbrev pub told : Cases → List (Result Expr CodeAt)
 told cases = map (λ c. c.1) cases
 
 texts_verdicts : computed 1000 (λ text. text) texts ≡ told texts

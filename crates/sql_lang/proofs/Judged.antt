@@ -6,7 +6,7 @@ use Rattle.std.proofs.lemmas.List.{append_cancel_right}
 use Rattle.std.proofs.lemmas.List.Folds.{list_all-append}
 use Rattle.std.proofs.lemmas.Bool.Decides.{nat_tests}
 use Rattle.event_schema.specs.declared.schema.Schema.{Schema}
-use Rattle.text_places.specs.Places.{At, Fault, fault}
+use Rattle.text_places.specs.Places.{At, CodeAt, code_at}
 use Rattle.sql_lang.specs.Tokens.{Token, Sort, Word, OR, AND, Closing, tokens}
 use Rattle.text_places.specs.Tokens.{sorts, places, token_place}
 use Rattle.sql_lang.specs.Grammar.{Collate, Unsaid, NoCase, Binary, Literal, a_text, a_number, Right, a_name, a_literal, Leaf, constant, is_null, compares, like, glob, one_of, between, Ors, last_and, and_or, Ands, last_not, not_and, Nots, not_not, a_test, enclosed, Query, spell_collate, spell_literal, spell_right, spell_not, spell_escape, spell_before, spell_test, spell_or, spell_and, spell_nots, spell_end, spell_query, StopsAt}
@@ -112,7 +112,7 @@ no_stop_spelled q ts front rest spelled s = no_stop_of spell_query q front rest 
 same_condition : (p q : Query) (ts : List Sort) → spell_query p ≡ ts → spell_query q ≡ ts → p ≡ q
 same_condition p q ts first second = one_spelled p q (first ∙ sym second)
 
-pub not_both_of : (limit : ℕ) (schema : Schema) (cs : List ℕ) (e : Expr) (f : Fault) → ReadsWithin limit schema cs e → Refuses limit schema cs f → ⊥
+pub not_both_of : (limit : ℕ) (schema : Schema) (cs : List ℕ) (e : Expr) (f : CodeAt) → ReadsWithin limit schema cs e → Refuses limit schema cs f → ⊥
 not_both_of limit schema cs e f r (no_token place other is) = let none = no_other_in r.reads.query (tokens cs) r.reads.spelled in absurd cc
 not_both_of limit schema cs e f r (nested other far is) = let near = r.nests in absurd cc
 not_both_of limit schema cs e f r (stopped front rest other near s is) = no_stop_spelled r.reads.query (sorts (tokens cs)) front rest r.reads.spelled s
@@ -132,7 +132,7 @@ one_length ts front rest other more s r =
     let parts : front ++ rest ≡ other ++ rest = sym s.parts ∙ (r.parts ∙ ap (λ (us : List Sort). other ++ us) (sym same)) in
     ap length (append_cancel_right front other rest parts)
 
-pub one_refusal_of : (limit : ℕ) (schema : Schema) (cs : List ℕ) (f g : Fault) → Refuses limit schema cs f → Refuses limit schema cs g → f ≡ g
+pub one_refusal_of : (limit : ℕ) (schema : Schema) (cs : List ℕ) (f g : CodeAt) → Refuses limit schema cs f → Refuses limit schema cs g → f ≡ g
 one_refusal_of limit schema cs f g (no_token p other is) (no_token q other' is') = let same : p ≡ q = cc in cc
 one_refusal_of limit schema cs f g (no_token p other is) (nested other' far is') = absurd cc
 one_refusal_of limit schema cs f g (no_token p other is) (stopped front rest other' near s is') = absurd cc
@@ -147,7 +147,7 @@ one_refusal_of limit schema cs f g (stopped front rest other near s is) (no_toke
 one_refusal_of limit schema cs f g (stopped front rest other near s is) (nested other' far is') = absurd cc
 one_refusal_of limit schema cs f g (stopped front rest other near s is) (stopped front' rest' other' near' s' is') =
     let same = one_length (sorts (tokens cs)) front rest front' rest' s s' in
-    is ∙ (ap (λ (n : ℕ). fault 120 (token_place cs (tokens cs) n)) same ∙ sym is')
+    is ∙ (ap (λ (n : ℕ). code_at 120 (token_place cs (tokens cs) n)) same ∙ sym is')
 one_refusal_of limit schema cs f g (stopped front rest other near s is) (deep q other' near' spelled below is') =
     absurd (no_stop_spelled q (sorts (tokens cs)) front rest spelled s)
 one_refusal_of limit schema cs f g (stopped front rest other near s is) (faulty q other' near' spelled within more is') =
@@ -177,7 +177,7 @@ one_refusal_of limit schema cs f g (faulty p other near spelled within more is) 
 -- ---- the verdict, computed
 
 module _ (limit : ℕ) (schema : Schema) (cs : List ℕ) (known : first_other (tokens cs) ≡ None) (near : nests_too_far limit (sorts (tokens cs)) ≡ false) where
-  faults_verdict : (q : Query) (fs : List Fault) → spell_query q ≡ sorts (tokens cs) → depth (or_expr schema.fields q.condition) ≤ limit
+  faults_verdict : (q : Query) (fs : List CodeAt) → spell_query q ≡ sorts (tokens cs) → depth (or_expr schema.fields q.condition) ≤ limit
       → query_faults schema q (places (tokens cs)) ≡ fs → IsVerdict limit schema cs (on_faults (or_expr schema.fields q.condition) fs)
   faults_verdict q [] spelled within is =
       record { reads = record { query = q; spelled = spelled; faultless = is; means = refl }; nests = near; deep = within }
@@ -194,7 +194,7 @@ module _ (limit : ℕ) (schema : Schema) (cs : List ℕ) (known : first_other (t
   query_verdict _ (stops_at_end s) = stopped (sorts (tokens cs)) [] known near s refl
   query_verdict _ (stops front rest s) =
       let count : length (sorts (tokens cs)) - length rest ≡ length front = omega (arith, ap length s.parts, length-append front rest) in
-      stopped front rest known near s (ap (λ (n : ℕ). fault 120 (token_place cs (tokens cs) n)) count)
+      stopped front rest known near s (ap (λ (n : ℕ). code_at 120 (token_place cs (tokens cs) n)) count)
 
 nesting_verdict : (limit : ℕ) (schema : Schema) (cs : List ℕ) (b : Bool) → first_other (tokens cs) ≡ None → nests_too_far limit (sorts (tokens cs)) ≡ b
     → IsVerdict limit schema cs (on_nesting b limit schema cs)
@@ -210,8 +210,8 @@ pub verdict_is : (limit : ℕ) (schema : Schema) (cs : List ℕ) → IsVerdict l
 unfolding verdict
 verdict_is limit schema cs = other_verdict limit schema cs (first_other (tokens cs)) refl
 
-pub has_verdict_of : (limit : ℕ) (schema : Schema) (cs : List ℕ) → ((e : Expr) × ReadsWithin limit schema cs e) ⊎ ((f : Fault) × Refuses limit schema cs f)
+pub has_verdict_of : (limit : ℕ) (schema : Schema) (cs : List ℕ) → ((e : Expr) × ReadsWithin limit schema cs e) ⊎ ((f : CodeAt) × Refuses limit schema cs f)
 has_verdict_of limit schema cs = by (verdict limit schema cs) (verdict_is limit schema cs) where
-  by : (r : Result Expr Fault) → IsVerdict limit schema cs r → ((e : Expr) × ReadsWithin limit schema cs e) ⊎ ((f : Fault) × Refuses limit schema cs f)
+  by : (r : Result Expr CodeAt) → IsVerdict limit schema cs r → ((e : Expr) × ReadsWithin limit schema cs e) ⊎ ((f : CodeAt) × Refuses limit schema cs f)
   by (Ok e) h = inl (e, h)
   by (Err f) h = inr (f, h)

@@ -41,7 +41,7 @@ abbrev pub or_zero : Option ℕ → ℕ
 or_zero None = 0
 or_zero (Some k) = k
 
--- an escape of another length than one character is a fault
+-- an escape of another length than one character is refused
 abbrev pub escape_of : Option (List ℕ) → Option ℕ
 escape_of None = None
 escape_of (Some []) = None
@@ -49,7 +49,7 @@ escape_of (Some (c ∷ [])) = Some c
 escape_of (Some (c ∷ d ∷ cs)) = None
 
 module _ (fields : List Field) where
-  -- a name that is no column's is a fault
+  -- a name that is no column's is refused
   abbrev pub number_at : List ℕ → ℕ
   number_at name = or_zero (column_of fields name)
 

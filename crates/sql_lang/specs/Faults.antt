@@ -1,7 +1,7 @@
 -- What is wrong with a query's names, kinds and patterns, in the order of the text.
 use Rattle.std.specs.Prelude.{ℕ, suc, ◌+◌, Bool, true, false, not, ◌&&◌, ◌||◌, ◌==◌, if◌then◌else◌, List, [], ◌∷◌, ◌++◌, length, drop, Option, Some, None}
 use Rattle.std.specs.List.{list_any}
-use Rattle.text_places.specs.Places.{At, Fault, fault, fault_if, nth}
+use Rattle.text_places.specs.Places.{At, CodeAt, code_at, code_at_if, nth}
 use Rattle.sql_lang.specs.Tokens.{Op, Eq, Ne}
 use Rattle.sql_lang.specs.Grammar.{Collate, Unsaid, NoCase, Binary, Literal, a_text, a_number, Right, a_name, a_literal, Leaf, constant, is_null, compares, like, glob, one_of, between, spell_collate, spell_not, spell_and, spell_nots, Ors, last_and, and_or, Ands, last_not, not_and, Nots, not_not, a_test, enclosed, Query}
 use Rattle.event_schema.specs.declared.schema.Field.{Field}
@@ -103,23 +103,23 @@ module _ (fields : List Field) where
   is_ill (one_of n c b ls l) = is_ill_left n c || list_any (is_ill_literal n) (ls ++ l ∷ [])
   is_ill (between n c b low high) = is_ill_left n c || not_whole n
 
-  abbrev pub right_faults : Right → At → List Fault
-  right_faults (a_name m) p = fault_if (unknown m) 122 p
+  abbrev pub right_faults : Right → At → List CodeAt
+  right_faults (a_name m) p = code_at_if (unknown m) 122 p
   right_faults (a_literal l) p = []
 
   -- An ESCAPE that isn't one character stands at its own place, and else a bad pattern at the pattern's.
-  abbrev pub like_faults : List ℕ → Option (List ℕ) → At → At → List Fault
+  abbrev pub like_faults : List ℕ → Option (List ℕ) → At → At → List CodeAt
   like_faults v None p q = []
-  like_faults v (Some []) p q = fault 125 q ∷ []
-  like_faults v (Some (e ∷ [])) p q = fault_if (is_bad_like e v) 125 p
-  like_faults v (Some (e ∷ f ∷ es)) p q = fault 125 q ∷ []
+  like_faults v (Some []) p q = code_at 125 q ∷ []
+  like_faults v (Some (e ∷ [])) p q = code_at_if (is_bad_like e v) 125 p
+  like_faults v (Some (e ∷ f ∷ es)) p q = code_at 125 q ∷ []
 
   -- at the name that a test begins with: first the name, then the test
-  abbrev pub name_faults : List ℕ → Bool → At → List Fault
-  name_faults n ill p = fault_if (unknown n) 122 p ++ fault_if ill 123 p
+  abbrev pub name_faults : List ℕ → Bool → At → List CodeAt
+  name_faults n ill p = code_at_if (unknown n) 122 p ++ code_at_if ill 123 p
 
   -- the faults of a test whose tokens stand at these places
-  abbrev pub test_faults : Leaf → List At → List Fault
+  abbrev pub test_faults : Leaf → List At → List CodeAt
   test_faults (constant b) ps = []
   test_faults (is_null n b) ps = name_faults n (is_ill (is_null n b)) (nth ps 0)
   test_faults (compares n c op x d) ps =
@@ -127,26 +127,26 @@ module _ (fields : List Field) where
   test_faults (like n b v e) ps =
       name_faults n (is_ill (like n b v e)) (nth ps 0) ++ like_faults v e (nth ps (2 + length (spell_not b))) (nth ps (4 + length (spell_not b)))
   test_faults (glob n b v) ps =
-      name_faults n (is_ill (glob n b v)) (nth ps 0) ++ fault_if (is_bad_glob v) 125 (nth ps (2 + length (spell_not b)))
+      name_faults n (is_ill (glob n b v)) (nth ps 0) ++ code_at_if (is_bad_glob v) 125 (nth ps (2 + length (spell_not b)))
   test_faults (one_of n c b ls l) ps = name_faults n (is_ill (one_of n c b ls l)) (nth ps 0)
   test_faults (between n c b low high) ps = name_faults n (is_ill (between n c b low high)) (nth ps 0)
 
   -- of a piece whose tokens stand at these places: its parts' faults, from the left
   abbrev mutual
-    pub or_faults : Ors → List At → List Fault
+    pub or_faults : Ors → List At → List CodeAt
     or_faults (last_and a) ps = and_faults a ps
     or_faults (and_or a o) ps = and_faults a ps ++ or_faults o (drop (suc (length (spell_and a))) ps)
 
-    pub and_faults : Ands → List At → List Fault
+    pub and_faults : Ands → List At → List CodeAt
     and_faults (last_not n) ps = not_faults n ps
     and_faults (not_and n a) ps = not_faults n ps ++ and_faults a (drop (suc (length (spell_nots n))) ps)
 
-    pub not_faults : Nots → List At → List Fault
+    pub not_faults : Nots → List At → List CodeAt
     not_faults (not_not n) ps = not_faults n (drop 1 ps)
     not_faults (a_test t) ps = test_faults t ps
     not_faults (enclosed o) ps = or_faults o (drop 1 ps)
 
 -- of a query whose tokens stand at these places: by place, and at one place 122 before 123 before 125
-abbrev pub query_faults : Schema → Query → List At → List Fault
+abbrev pub query_faults : Schema → Query → List At → List CodeAt
 query_faults schema q ps =
-    fault_if (not (is_named q.table schema.table)) 122 (nth ps 3) ++ or_faults schema.fields q.condition (drop 5 ps)
+    code_at_if (not (is_named q.table schema.table)) 122 (nth ps 3) ++ or_faults schema.fields q.condition (drop 5 ps)

@@ -1,7 +1,7 @@
 -- Which text is which query under a schema, and which refusal comes first.
 use Rattle.std.specs.Prelude.{ℕ, suc, ◌≡◌, ◌≤◌, ◌<◌, ◌+◌, Bool, true, false, ◌||◌, nat_lt, if◌then◌else◌, List, [], ◌∷◌, length, Option, Some, None, encode_utf8_all}
 use Rattle.std.specs.Str.{all_scalars}
-use Rattle.text_places.specs.Places.{At, origin, IsText, IsBadAt, Fault, fault}
+use Rattle.text_places.specs.Places.{At, origin, IsText, IsBadAt, CodeAt, code_at}
 use Rattle.sql_lang.specs.Tokens.{Token, Sort, Word, Opening, Closing, Other, NOT, tokens}
 use Rattle.text_places.specs.Tokens.{sorts, places, token_place}
 use Rattle.sql_lang.specs.Grammar.{Query, spell_query, StopsAt}
@@ -61,17 +61,17 @@ first_other (t ∷ ts) = if is_other t.sort then Some t.place else first_other t
 
 -- In this order: 121, a token that is none; 124, parentheses or words NOT that nest too far; 120, the place where the
 -- tokens stop being a query's; 124, an expression too deep; 122, 123 and 125, the first of the query's faults.
-pub data Refuses (limit : ℕ) (schema : Schema) (cs : List ℕ) (f : Fault) : Type 0 where
-  no_token : (place : At) → first_other (tokens cs) ≡ Some place → f ≡ fault 121 place → Refuses limit schema cs f
-  nested : first_other (tokens cs) ≡ None → nests_too_far limit (sorts (tokens cs)) ≡ true → f ≡ fault 124 origin → Refuses limit schema cs f
+pub data Refuses (limit : ℕ) (schema : Schema) (cs : List ℕ) (f : CodeAt) : Type 0 where
+  no_token : (place : At) → first_other (tokens cs) ≡ Some place → f ≡ code_at 121 place → Refuses limit schema cs f
+  nested : first_other (tokens cs) ≡ None → nests_too_far limit (sorts (tokens cs)) ≡ true → f ≡ code_at 124 origin → Refuses limit schema cs f
   stopped : (front rest : List Sort) → first_other (tokens cs) ≡ None → nests_too_far limit (sorts (tokens cs)) ≡ false
-      → StopsAt (sorts (tokens cs)) front rest → f ≡ fault 120 (token_place cs (tokens cs) (length front)) → Refuses limit schema cs f
+      → StopsAt (sorts (tokens cs)) front rest → f ≡ code_at 120 (token_place cs (tokens cs) (length front)) → Refuses limit schema cs f
   deep : (q : Query) → first_other (tokens cs) ≡ None → nests_too_far limit (sorts (tokens cs)) ≡ false
       → spell_query q ≡ sorts (tokens cs) → limit < depth (or_expr schema.fields q.condition)
-      → f ≡ fault 124 origin → Refuses limit schema cs f
+      → f ≡ code_at 124 origin → Refuses limit schema cs f
   faulty : (q : Query) → first_other (tokens cs) ≡ None → nests_too_far limit (sorts (tokens cs)) ≡ false
       → spell_query q ≡ sorts (tokens cs) → depth (or_expr schema.fields q.condition) ≤ limit
-      → (more : List Fault) → query_faults schema q (places (tokens cs)) ≡ f ∷ more → Refuses limit schema cs f
+      → (more : List CodeAt) → query_faults schema q (places (tokens cs)) ≡ f ∷ more → Refuses limit schema cs f
 
 -- ---- the same of bytes
 
@@ -82,6 +82,6 @@ pub record BytesRead (limit : ℕ) (schema : Schema) (bytes : List ℕ) (e : Exp
   pub reads : ReadsWithin limit schema characters e
 
 -- 1 where the bytes stop being UTF-8; else the first refusal of their characters
-pub data BytesRefused (limit : ℕ) (schema : Schema) (bytes : List ℕ) (f : Fault) : Type 0 where
-  no_text : (place : At) → IsBadAt bytes place → f ≡ fault 1 place → BytesRefused limit schema bytes f
+pub data BytesRefused (limit : ℕ) (schema : Schema) (bytes : List ℕ) (f : CodeAt) : Type 0 where
+  no_text : (place : At) → IsBadAt bytes place → f ≡ code_at 1 place → BytesRefused limit schema bytes f
   no_query : (characters : List ℕ) → IsText bytes characters → Refuses limit schema characters f → BytesRefused limit schema bytes f

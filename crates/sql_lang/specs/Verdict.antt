@@ -1,7 +1,7 @@
 -- What a text is, as a function that goes by the reading token by token: its expression, or its first refusal.
 use Rattle.std.specs.Prelude.{ℕ, ◌-◌, Bool, true, false, nat_lt, List, [], ◌∷◌, length, Option, Some, None, Result, Ok, Err}
 use Rattle.event_schema.specs.declared.schema.Schema.{Schema}
-use Rattle.text_places.specs.Places.{At, origin, Fault, fault}
+use Rattle.text_places.specs.Places.{At, origin, CodeAt, code_at}
 use Rattle.text_places.specs.Tokens.{sorts, places, token_place}
 use Rattle.sql_lang.specs.Tokens.{Sort, tokens}
 use Rattle.sql_lang.specs.Grammar.{Query}
@@ -10,30 +10,30 @@ use Rattle.sql_lang.specs.Faults.{query_faults}
 use Rattle.sql_lang.specs.Machine.{Begun, run, finish}
 use Rattle.sql_lang.specs.Reading.{ReadsWithin, Refuses, first_other, nests_too_far}
 
-abbrev pub on_faults : Expr → List Fault → Result Expr Fault
+abbrev pub on_faults : Expr → List CodeAt → Result Expr CodeAt
 on_faults e [] = Ok e
 on_faults e (f ∷ fs) = Err f
 
-abbrev pub on_depth : Bool → Schema → List ℕ → Query → Result Expr Fault
-on_depth true schema cs q = Err (fault 124 origin)
+abbrev pub on_depth : Bool → Schema → List ℕ → Query → Result Expr CodeAt
+on_depth true schema cs q = Err (code_at 124 origin)
 on_depth false schema cs q = on_faults (or_expr schema.fields q.condition) (query_faults schema q (places (tokens cs)))
 
-abbrev pub on_query : ℕ → Schema → List ℕ → Result (Option Query) (List Sort) → Result Expr Fault
+abbrev pub on_query : ℕ → Schema → List ℕ → Result (Option Query) (List Sort) → Result Expr CodeAt
 on_query limit schema cs (Ok (Some q)) = on_depth (nat_lt limit (depth (or_expr schema.fields q.condition))) schema cs q
-on_query limit schema cs (Ok None) = Err (fault 120 (token_place cs (tokens cs) (length (sorts (tokens cs)))))
-on_query limit schema cs (Err rest) = Err (fault 120 (token_place cs (tokens cs) (length (sorts (tokens cs)) - length rest)))
+on_query limit schema cs (Ok None) = Err (code_at 120 (token_place cs (tokens cs) (length (sorts (tokens cs)))))
+on_query limit schema cs (Err rest) = Err (code_at 120 (token_place cs (tokens cs) (length (sorts (tokens cs)) - length rest)))
 
-abbrev pub on_nesting : Bool → ℕ → Schema → List ℕ → Result Expr Fault
-on_nesting true limit schema cs = Err (fault 124 origin)
+abbrev pub on_nesting : Bool → ℕ → Schema → List ℕ → Result Expr CodeAt
+on_nesting true limit schema cs = Err (code_at 124 origin)
 on_nesting false limit schema cs = on_query limit schema cs (finish (run Begun (sorts (tokens cs))))
 
-abbrev pub on_other : Option At → ℕ → Schema → List ℕ → Result Expr Fault
-on_other (Some p) limit schema cs = Err (fault 121 p)
+abbrev pub on_other : Option At → ℕ → Schema → List ℕ → Result Expr CodeAt
+on_other (Some p) limit schema cs = Err (code_at 121 p)
 on_other None limit schema cs = on_nesting (nests_too_far limit (sorts (tokens cs))) limit schema cs
 
-unfoldable pub verdict : ℕ → Schema → List ℕ → Result Expr Fault
+unfoldable pub verdict : ℕ → Schema → List ℕ → Result Expr CodeAt
 verdict limit schema cs = on_other (first_other (tokens cs)) limit schema cs
 
-abbrev pub IsVerdict : ℕ → Schema → List ℕ → Result Expr Fault → Type 0
+abbrev pub IsVerdict : ℕ → Schema → List ℕ → Result Expr CodeAt → Type 0
 IsVerdict limit schema cs (Ok e) = ReadsWithin limit schema cs e
 IsVerdict limit schema cs (Err f) = Refuses limit schema cs f

@@ -3,7 +3,7 @@
 ghost use Rattle.std.specs.Prelude.{◌≡◌, ◌⊎◌, ℕ, List};
 ghost use Rattle.event_schema.specs.declared.schema.Schema.{Schema};
 ghost use Rattle.sql_lang.specs.Expression.{Expr};
-ghost use Rattle.text_places.specs.Places.{Fault};
+ghost use Rattle.text_places.specs.Places.{CodeAt};
 ghost use Rattle.sql_lang.specs.Verdict.{verdict, IsVerdict};
 ghost use Rattle.sql_lang.specs.Reading.{ReadsWithin, Refuses, BytesRead, BytesRefused};
 
@@ -12,25 +12,25 @@ ghost use Rattle.sql_lang.specs.Reading.{ReadsWithin, Refuses, BytesRead, BytesR
 pub fn query_or_refusal()
     ensures characters { (limit : ℕ) (schema : Schema) (characters : List ℕ)
         → ((e : Expr) × ReadsWithin limit schema characters e)
-        ⊎ ((f : Fault) × Refuses limit schema characters f) }
+        ⊎ ((f : CodeAt) × Refuses limit schema characters f) }
     ensures bytes { (limit : ℕ) (schema : Schema) (bytes : List ℕ)
-        → ((e : Expr) × BytesRead limit schema bytes e) ⊎ ((f : Fault) × BytesRefused limit schema bytes f) }
+        → ((e : Expr) × BytesRead limit schema bytes e) ⊎ ((f : CodeAt) × BytesRefused limit schema bytes f) }
     ensures computed { (limit : ℕ) (schema : Schema) (characters : List ℕ)
         → IsVerdict limit schema characters (verdict limit schema characters) }
 {}
 
 /// It is not both.
 pub fn no_refused_query()
-    ensures characters { (limit : ℕ) (schema : Schema) (characters : List ℕ) (e : Expr) (f : Fault)
+    ensures characters { (limit : ℕ) (schema : Schema) (characters : List ℕ) (e : Expr) (f : CodeAt)
         → ReadsWithin limit schema characters e → Refuses limit schema characters f → ⊥ }
-    ensures bytes { (limit : ℕ) (schema : Schema) (bytes : List ℕ) (e : Expr) (f : Fault)
+    ensures bytes { (limit : ℕ) (schema : Schema) (bytes : List ℕ) (e : Expr) (f : CodeAt)
         → BytesRead limit schema bytes e → BytesRefused limit schema bytes f → ⊥ }
 {}
 
 /// A text has one first refusal at most, and so have bytes.
 pub fn one_refusal()
-    ensures characters { (limit : ℕ) (schema : Schema) (characters : List ℕ) (f g : Fault)
+    ensures characters { (limit : ℕ) (schema : Schema) (characters : List ℕ) (f g : CodeAt)
         → Refuses limit schema characters f → Refuses limit schema characters g → f ≡ g }
-    ensures bytes { (limit : ℕ) (schema : Schema) (bytes : List ℕ) (f g : Fault)
+    ensures bytes { (limit : ℕ) (schema : Schema) (bytes : List ℕ) (f g : CodeAt)
         → BytesRefused limit schema bytes f → BytesRefused limit schema bytes g → f ≡ g }
 {}

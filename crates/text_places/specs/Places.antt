@@ -25,17 +25,17 @@ nth (p ∷ ps) zero = p
 nth (p ∷ ps) (suc k) = nth ps k
 
 -- a refusal: its number and its place
-pub record Fault : Type 0 where
+pub record CodeAt : Type 0 where
   pub code : ℕ
   pub place : At
 
-abbrev pub fault : ℕ → At → Fault
-fault c p = record { code = c; place = p }
+abbrev pub code_at : ℕ → At → CodeAt
+code_at c p = record { code = c; place = p }
 
--- this fault, if so
-abbrev pub fault_if : Bool → ℕ → At → List Fault
-fault_if true c p = fault c p ∷ []
-fault_if false c p = []
+-- this refusal, if so
+abbrev pub code_at_if : Bool → ℕ → At → List CodeAt
+code_at_if true c p = code_at c p ∷ []
+code_at_if false c p = []
 
 -- ---- bytes
 
