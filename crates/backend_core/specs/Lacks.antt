@@ -6,7 +6,7 @@ use Rattle.sig_base.specs.declared.refusal.Refusal.{Refusal}
 use Rattle.backend_core.specs.declared.lack.Lack.{Lack}
 use Rattle.backend_core.specs.declared.lack.Lack.TheVariants as lack
 use Rattle.backend_core.specs.declared.tree.Leaf.{Leaf}
-use Rattle.backend_core.specs.Trees.{Plain, all, any, negated, leaf, Plains, no_parts, a_part}
+use Rattle.backend_core.specs.Trees.{Plain, all, any, negated, leaf, never, Plains, no_parts, a_part}
 
 abbrev pub lack_name : Lack → List ℕ
 lack_name lack.Many = codes "Many"
@@ -24,6 +24,7 @@ module _ (lacks : Leaf → Option Lack) where
     lack_refusal (any ts) = lacks_refusal ts
     lack_refusal (negated t) = lack_refusal t
     lack_refusal (leaf l) = leaf_refusal l (lacks l)
+    lack_refusal never = None
 
     pub lacks_refusal : Plains → Option Refusal
     lacks_refusal no_parts = None

@@ -1,22 +1,33 @@
--- Trees that fit a schema and can be written: no field is missing, no list is needless, and patterns are of characters
--- other than U+0000, of single characters and of runs.
-use Rattle.std.specs.Prelude.{◌≡◌, ◌<◌, true, List, length, ⊤}
+-- Trees that fit a schema and can be written: no field is missing, no list is needless, patterns are of characters other than
+-- U+0000, of single characters and of runs, and a field of whole numbers is compared with numbers, by a pattern only where it has
+-- a wildcard.
+use Rattle.std.specs.Prelude.{ℕ, zero, suc, ◌≡◌, ◌<◌, true, List, [], ◌∷◌, length, ⊤}
 use Rattle.event_schema.specs.declared.schema.Field.{Field}
-use Rattle.event_schema.specs.Events.{IsPlainText}
-use Rattle.sig_strings.specs.Edits.{all_written, plain_text}
+use Rattle.event_schema.specs.declared.schema.FieldKind.{FieldKind}
+use Rattle.event_schema.specs.declared.schema.FieldKind.TheVariants as kinds
+use Rattle.event_schema.specs.Events.{IsPlainText, IsWholeNumber}
+use Rattle.sig_strings.specs.Edits.{all_written, has_wildcard, plain_text}
 use Rattle.sig_strings.specs.declared.part.Part.{Part}
 use Rattle.backend_core.specs.declared.tree.LeafTest.{LeafTest}
 use Rattle.backend_core.specs.declared.tree.LeafTest.TheVariants as tests
-use Rattle.backend_core.specs.Trees.{Plain, all, any, negated, leaf, Plains, no_parts, a_part}
+use Rattle.backend_core.specs.Trees.{Plain, all, any, negated, leaf, never, Plains, no_parts, a_part}
 
 pub record IsSoundPattern (parts : List Part) : Type 0 where
   pub written : all_written parts ≡ true
   pub plain : IsPlainText (plain_text parts)
 
-abbrev pub IsSoundTest : LeafTest → Type 0
-IsSoundTest tests.Has = ⊤
-IsSoundTest tests.Absent = ⊤
-IsSoundTest (tests.Fits pattern cased) = IsSoundPattern pattern
+-- the kind of field k; behind the last field it's that of texts
+abbrev pub kind_at : List Field → ℕ → FieldKind
+kind_at [] k = kinds.Text
+kind_at (field ∷ fields) zero = field.kind
+kind_at (field ∷ fields) (suc k) = kind_at fields k
+
+-- of a field of this kind
+abbrev pub IsSoundTest : FieldKind → LeafTest → Type 0
+IsSoundTest kind tests.Has = ⊤
+IsSoundTest kind tests.Absent = ⊤
+IsSoundTest kind (tests.Fits pattern cased) = IsSoundPattern pattern × (kind ≡ kinds.Whole → has_wildcard pattern ≡ true)
+IsSoundTest kind (tests.Equals n) = (kind ≡ kinds.Whole) × IsWholeNumber n
 
 -- at least two parts
 abbrev pub AreTwo : Plains → Type 0
@@ -30,7 +41,8 @@ module _ (fields : List Field) where
     IsSound (all ts) = AreTwo ts × AreSound ts
     IsSound (any ts) = AreTwo ts × AreSound ts
     IsSound (negated t) = IsSound t
-    IsSound (leaf l) = (l.field < length fields) × IsSoundTest l.test
+    IsSound (leaf l) = (l.field < length fields) × IsSoundTest (kind_at fields l.field) l.test
+    IsSound never = ⊤
 
     pub AreSound : Plains → Type 0
     AreSound no_parts = ⊤

@@ -7,6 +7,7 @@ mutual
     any : Plains → Plain
     negated : Plain → Plain
     leaf : Leaf → Plain
+    never : Plain
 
   pub data Plains : Type 0 where
     no_parts : Plains

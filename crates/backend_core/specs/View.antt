@@ -2,7 +2,7 @@
 use Rattle.std.specs.Prelude.{List, [], ◌∷◌}
 use Rattle.backend_core.specs.declared.tree.Tree.{Tree, All', Any', Not', Row_of-Tree, end_of-Tree, more_of-Tree}
 use Rattle.backend_core.specs.declared.tree.Tree as trees
-use Rattle.backend_core.specs.Trees.{Plain, all, any, negated, leaf, Plains, no_parts, a_part}
+use Rattle.backend_core.specs.Trees.{Plain, all, any, negated, leaf, never, Plains, no_parts, a_part}
 
 abbrev mutual
   pub tree_view : Tree → Plain
@@ -10,6 +10,7 @@ abbrev mutual
   tree_view (trees.Any' shape parts) = any (trees_view parts)
   tree_view (trees.Not' p part) = negated (tree_view part)
   tree_view (trees.Leaf l) = leaf l
+  tree_view trees.Never = never
 
   pub trees_view : {m : _} → Row_of-Tree m → Plains
   trees_view end_of-Tree = no_parts

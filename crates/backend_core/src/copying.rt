@@ -23,6 +23,7 @@ impl LeafTest {
                     cased: *cased,
                 })
             }
+            LeafTest::Equals(number) => Ok(LeafTest::Equals(*number)),
         }
     }
 }
@@ -68,6 +69,7 @@ impl Tree {
                 Ok(Tree::Not(Box::new(alloc, copy)?))
             }
             Tree::Leaf(leaf) => Ok(Tree::Leaf(leaf.copy(alloc)?)),
+            Tree::Never => Ok(Tree::Never),
         }
     }
 }

@@ -71,6 +71,7 @@ pub fn judge_lacks<B: Lacking>(
         Tree::Any(parts) => judge_parts(alloc, backend, schema, parts.as_slice()),
         Tree::Not(part) => judge_lacks(alloc, backend, schema, part),
         Tree::Leaf(leaf) => judge_lack(alloc, leaf, backend.lacks(schema, leaf)),
+        Tree::Never => Ok(()),
     }
 }
 

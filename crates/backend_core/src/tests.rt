@@ -26,6 +26,12 @@ fn copies_are_the_same(rt: HostRuntime) -> Result<(), Fail> {
         test: LeafTest::Has,
         place,
     }))?;
+    parts.push(Tree::Leaf(Leaf {
+        field: 4,
+        test: LeafTest::Equals(-7),
+        place,
+    }))?;
+    parts.push(Tree::Never)?;
     let tree = Tree::Not(Box::new(alloc, Tree::Any(parts))?);
     let copy = tree.copy(alloc)?;
     let shown = format!(in alloc; "{tree:?}")?;

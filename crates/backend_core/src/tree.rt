@@ -3,13 +3,14 @@
 use sig_base::Place;
 use sig_strings::Pattern;
 
-/// All of some parts, any of them, not a part, or one test.
+/// All of some parts, any of them, not a part, one test, or what never holds.
 #[derive(Drop, Debug)]
 pub enum Tree {
     All(Vec<Tree>),
     Any(Vec<Tree>),
     Not(Box<Tree>),
     Leaf(Leaf),
+    Never,
 }
 
 /// A test of a field, which goes by its place in the schema, counted from 0, and where the rule asks
@@ -30,4 +31,6 @@ pub enum LeafTest {
     Absent,
     /// the pattern fits some value's text, or a number's decimal, as written or without regard to the case of A to Z
     Fits { pattern: Pattern, cased: bool },
+    /// some value is this number; of fields of whole numbers alone
+    Equals(i64),
 }
