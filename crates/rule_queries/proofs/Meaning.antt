@@ -22,7 +22,7 @@ use Rattle.event_schema.specs.Names.{IsName}
 use Rattle.event_schema.specs.Schemas.{AreApart, IsSchema}
 use Rattle.backend_core.specs.Lacks.{lack_refusal}
 use Rattle.sqlite_writer.specs.Lacking.{sqlite_lacks}
-use Rattle.sqlite_writer.specs.Schemas.{AreScalars, IsNamedSchema}
+use Rattle.sqlite_writer.specs.Schemas.{AreScalars, IsFoundSchema}
 use Rattle.yaml_tree.specs.Texts.{HasScalarTexts}
 use Rattle.yaml_tree.specs.Tree.{Tree}
 use Rattle.rule_queries.specs.Queries.{rule_tree, query_under, query_of, query_depth, schema_for, made_refusal, Converts}
@@ -40,13 +40,13 @@ abbrev TreesSound : Type 0
 TreesSound = (schema : Schema) (rule : PlainRule) → IsWhole rule → fit_refusal schema rule ≡ None → IsSound schema.fields (tree_of schema rule)
 
 abbrev TextSchemas : Type 0
-TextSchemas = (names : List (List ℕ)) → AreScalars names → AreApart names → IsNamedSchema (record { table = codes "events"; fields = map text_field names; time = None })
+TextSchemas = (names : List (List ℕ)) → AreScalars names → AreApart names → IsFoundSchema (record { table = codes "events"; fields = map text_field names; time = None })
 
 abbrev TreesAreQueries : Type 0
-TreesAreQueries = (limit : ℕ) (schema : Schema) (t : Plain) → IsNamedSchema schema → IsSound schema.fields t → lack_refusal (sqlite_lacks schema.fields) t ≡ None → 1 ≤ limit → depth (query_expr schema t) ≤ limit → IsQueryOf limit schema t (query_bytes schema t)
+TreesAreQueries = (limit : ℕ) (schema : Schema) (t : Plain) → IsFoundSchema schema → IsSound schema.fields t → lack_refusal (sqlite_lacks schema.fields) t ≡ None → 1 ≤ limit → depth (query_expr schema t) ≤ limit → IsQueryOf limit schema t (query_bytes schema t)
 
 abbrev FoundSchemas : Type 0
-FoundSchemas = (schema : Schema) → IsSchema schema → IsNamedSchema schema
+FoundSchemas = (schema : Schema) → IsSchema schema → IsFoundSchema schema
 
 scalars_of : (names : List (List ℕ)) → EachOf IsName names → AreScalars names
 scalars_of [] each = tt
@@ -56,7 +56,7 @@ both_ways : {A B C : Type 0} → A ↔ B → B ↔ C → A ↔ C
 both_ways f g = ((λ a. g.0 (f.0 a)), (λ c. f.1 (g.1 c)))
 
 -- every schema is found by its names, the given one and the one that is made of a whole rule whose names don't clash
-schema_found : TextSchemas → FoundSchemas → (given : Option Schema) (rule : PlainRule) → IfSome given IsSchema → IsWhole rule → made_refusal given rule ≡ None → IsNamedSchema (schema_for given rule)
+schema_found : TextSchemas → FoundSchemas → (given : Option Schema) (rule : PlainRule) → IfSome given IsSchema → IsWhole rule → made_refusal given rule ≡ None → IsFoundSchema (schema_for given rule)
 schema_found texts found None rule is whole made = texts (rule_names rule) (scalars_of (rule_names rule) (rule_legal rule whole)) (rule_apart rule made)
 schema_found texts found (Some schema) rule is whole made = found schema is
 

@@ -7,6 +7,7 @@ use Rattle.std.specs.BTreeMap.{BTreeMap, get_by_text}
 use Rattle.std.proofs.lemmas.List.Folds.{find-append}
 use Rattle.sig_base.specs.declared.refusal.Place.{Place}
 use Rattle.sig_base.specs.Judged.{refusal}
+use Rattle.sig_base.proofs.Firsts.{from_error}
 use Rattle.std.specs.List.{list_any, flat_map}
 use Rattle.std.specs.declared.result.Result.{Result}
 use Rattle.std.proofs.lemmas.List.{drop_more}
@@ -274,9 +275,8 @@ stop f i xs x ns r whole l e h g =
     sym h ∙ (ap (gathered ns) (rest f i xs x l e) ∙ gathered_stops ns r (f x) (flat_map f (drop (i + 1) xs)) g)
 
 -- a fault of a part is the whole's
-pub hands_on : (result : Result (Unit {0}) Fault) (e : Fault) (Q : Fault → Type 0) (old now new last : List (List ℕ)) (part whole : List Use)
+pub gathers_on : (result : Result (Unit {0}) Fault) (e : Fault) (Q : Fault → Type 0) (old now new last : List (List ℕ)) (part whole : List Use)
     → IsErrAnd result Q → ((y : Fault) → Q y → y ≡ e) → Gathers (Err e) now new part → ((r : Refusal) → gathered now part ≡ Err r → gathered old whole ≡ Err r)
     → Gathers result old last whole
-hands_on (Ok u) e Q old now new last part whole h q g f = absurd h
-hands_on (Err y) Memory Q old now new last part whole h q g f = subst (λ (z : Fault). Gathers (Err z) old last whole) (sym (q y h)) tt
-hands_on (Err y) (Refused r) Q old now new last part whole h q g f = subst (λ (z : Fault). Gathers (Err z) old last whole) (sym (q y h)) (f r g)
+gathers_on result Memory Q old now new last part whole h q g f = from_error (λ (s : Result (Unit {0}) Fault). Gathers s old last whole) result Memory Q h q tt
+gathers_on result (Refused r) Q old now new last part whole h q g f = from_error (λ (s : Result (Unit {0}) Fault). Gathers s old last whole) result (Refused r) Q h q (f r g)

@@ -50,14 +50,17 @@ part_first view refusal i xs x r h is some =
     ap (λ ys. first (map refusal ys)) (list_at view i xs x h is)
     ∙ ap (λ o. first (o ∷ map refusal (map view (drop (i + 1) xs)))) some
 
+-- where a `?` hands an error on, what is said of this error holds
+pub from_error : {X F : Type 0} (P : Result X F → Type 0) (result : Result X F) (e : F) (Q : F → Type 0)
+    → IsErrAnd result Q → ((y : F) → Q y → y ≡ e) → P (Err e) → P result
+from_error P (Ok x) e Q h q p = absurd h
+from_error {F = F} P (Err y) e Q h q p = subst (λ (z : F). P (Err z)) (sym (q y h)) p
+
 -- a fault of a part is the whole's
 pub hands_on : {X Y : Type 0} (IsRead : X → Type 0) (IsPart : Y → Type 0) (result : Result X Fault) (e : Fault) (Q : Fault → Type 0) (whole part : Option Refusal)
     → IsErrAnd result Q → ((y : Fault) → Q y → y ≡ e) → Judged IsPart part (Err e) → ((r : Refusal) → part ≡ Some r → whole ≡ Some r) → Judged IsRead whole result
-hands_on IsRead IsPart (Ok x) e Q whole part h q j f = absurd h
-hands_on IsRead IsPart (Err y) Memory Q whole part h q j f =
-    subst (λ (z : Fault). Judged IsRead whole (Err z)) (sym (q y h)) tt
-hands_on IsRead IsPart (Err y) (Refused r) Q whole part h q j f =
-    subst (λ (z : Fault). Judged IsRead whole (Err z)) (sym (q y h)) (f r j)
+hands_on IsRead IsPart result Memory Q whole part h q j f = from_error (Judged IsRead whole) result Memory Q h q tt
+hands_on IsRead IsPart result (Refused r) Q whole part h q j f = from_error (Judged IsRead whole) result (Refused r) Q h q (f r j)
 
 -- what is read of the elements before one, and of this one, place by place
 pub zip_push : {A B : Type 0} (R : A → B → Type 0) (xs : List A) (ys : List B) (x : A) (y : B) → AllZip R xs ys → R x y → AllZip R (xs ++ x ∷ []) (ys ++ y ∷ [])

@@ -5,6 +5,7 @@ use Rattle.std.specs.Result.{IsErrAnd}
 use Rattle.std.specs.declared.option.Option.{Option}
 use Rattle.std.specs.declared.result.Result.{Result}
 use Rattle.std.proofs.lemmas.List.{drop_more}
+use Rattle.sig_base.proofs.Firsts.{from_error}
 use Rattle.sig_conditions.specs.declared.condition.Condition.{Condition}
 use Rattle.sig_conditions.specs.declared.formula.Formula.{Formula}
 use Rattle.sig_conditions.specs.declared.unresolved.Unresolved.{Unresolved}
@@ -85,10 +86,9 @@ pub faults_end : (names : List (List ℕ)) (cs : List Condition) (whole : List W
 faults_end names cs whole e inv = sym inv ∙ ap (λ (ds : List Condition). faults_of names (conds_of (conds_view ds))) e
 
 -- a fault that a `?` hands on
-pub hands_on : {X A : Type 0} (view : X → A) (r : Result X Unresolved) (e : Unresolved) (Q : Unresolved → Type 0) (o : Option A) (whys : List Why)
+pub resolves_on : {X A : Type 0} (view : X → A) (r : Result X Unresolved) (e : Unresolved) (Q : Unresolved → Type 0) (o : Option A) (whys : List Why)
     → IsErrAnd r Q → ((y : Unresolved) → Q y → y ≡ e) → Fails e whys → Resolves view r o whys
-hands_on view (Ok x) e Q o whys h q f = absurd h
-hands_on view (Err y) e Q o whys h q f = subst (λ (z : Unresolved). Fails z whys) (sym (q y h)) f
+resolves_on {X = X} view r e Q o whys h q f = from_error (λ (s : Result X Unresolved). Resolves view s o whys) r e Q h q f
 
 -- one more part has taken names
 pub left_goes : (names : List (List ℕ)) (i : ℕ) (cs : List Condition) (c : Condition) (before after whole all : ℕ) → i < length cs → c ≡ get_or cs i c

@@ -5,7 +5,7 @@ use Rattle.sig_conditions.specs.Formulas.{faults, formula_of}
 use Rattle.sig_conditions.specs.Resolved.{Fails}
 use Rattle.sig_conditions.specs.Selectors.{taken_count}
 use Rattle.sig_conditions.specs.declared.condition.Condition.{Condition}
-use Rattle.sig_conditions.proofs.Parts.{faults_end, faults_go, formula_goes, formulas_end, hands_on, left_end, left_goes, part_fails}
+use Rattle.sig_conditions.proofs.Parts.{faults_end, faults_go, formula_goes, formulas_end, resolves_on, left_end, left_goes, part_fails}
 use Rattle.sig_conditions.proofs.resolver.+resolver.Goals as goal
 
 pub resolve_all-loop-part-preserved : goal.resolve_all-loop-part-preserved
@@ -39,7 +39,7 @@ resolve_all-returns t c =
 
 pub resolve_all-returns-in_err-formula-clause-formulas : goal.resolve_all-returns-in_err-formula-clause-formulas
 resolve_all-returns-in_err-formula-clause-formulas t c =
-    hands_on _ _ c.in_err-formula.field-0.0 _ _ _ c.from_residual.ensures.1 (λ e p. p)
+    resolves_on _ _ c.in_err-formula.field-0.0 _ _ _ c.from_residual.ensures.1 (λ e p. p)
     (part_fails c.args.names.now.names c.loop-part.part-index c.args.parts.now c.part-item.result c.in_err-formula.field-0.0 _ c.loop-part-test.true c.part-item.is
     c.loop-part.invariant.faults
     (subst (λ (ns : List (List ℕ)). Fails c.in_err-formula.field-0.0 (faults ns (cond_view c.part-item.result))) c.loop-part.invariant.names c.in_err-formula.ensures.formula))
