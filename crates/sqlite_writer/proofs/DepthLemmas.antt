@@ -29,6 +29,7 @@ module _ (fields : List Field) where
     by false true is = rw is refl
     by true false is = rw is refl
     by false false is = rw is refl
+  test_is name (tests.Equals n) = refl
 
   few_texts : (wild cased : Bool) → text_depth wild cased ≤ 3
   few_texts true cased = omega arith
@@ -39,6 +40,7 @@ module _ (fields : List Field) where
   few_written tests.Has = omega arith
   few_written tests.Absent = omega arith
   few_written (tests.Fits parts cased) = few_texts (has_wildcard parts) cased
+  few_written (tests.Equals n) = omega arith
 
   module _ (most : ℕ) (some : 3 ≤ most) where
     -- at most the most
@@ -107,6 +109,9 @@ module _ (fields : List Field) where
       leaf_or = λ l. leaf_is (name_at fields l.field) l.test;
       leaf_and = λ l. leaf_is (name_at fields l.field) l.test;
       leaf_not = λ l. leaf_is (name_at fields l.field) l.test;
+      never_or = omega (arith, some);
+      never_and = omega (arith, some);
+      never_not = omega (arith, some);
       not_or = λ n t h. not_is (depth (not_expr fields n)) (tree_depth most t) h;
       not_and = λ n t h. not_is (depth (not_expr fields n)) (tree_depth most t) h;
       not_again = λ n t h. not_is (depth (not_expr fields n)) (tree_depth most t) h;

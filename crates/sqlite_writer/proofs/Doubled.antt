@@ -67,3 +67,8 @@ next_doubled f q ps i p out new whole is within added before =
 pub text_test : (old named worded said new name text word behind : List ℕ) → named ≡ old ++ in_quotes 34 name → worded ≡ named ++ (word ++ 39 ∷ [])
     → said ≡ worded ++ doubled 39 text → new ≡ said ++ 39 ∷ behind → new ≡ old ++ (in_quotes 34 name ++ (word ++ (in_quotes 39 text ++ behind)))
 text_test old named worded said new name text word behind a b c d = rw (d, c, b, a) (simp append_assoc)
+
+-- a name, a word and a number
+pub number_test : (old named worded new name word number : List ℕ) → named ≡ old ++ in_quotes 34 name → worded ≡ named ++ word → new ≡ worded ++ number
+    → new ≡ old ++ (in_quotes 34 name ++ (word ++ number))
+number_test old named worded new name word number a b c = rw (c, b, a) (simp append_assoc)

@@ -3,7 +3,7 @@ use Rattle.std.proofs.Common.{ℕ, ◌+◌, ◌≡◌, ◌≤◌, ◌<◌, rules
 use Rattle.std.specs.declared.alloc.Global.{Global}
 use Rattle.std.specs.declared.vec.Vec.{Vec}
 use Rattle.std.proofs.lemmas.List.{drop_all, drop_more}
-use Rattle.backend_core.specs.Trees.{Plain, Plains, no_parts, a_part, all, any, negated, leaf}
+use Rattle.backend_core.specs.Trees.{Plain, Plains, no_parts, a_part, all, any, negated, leaf, never}
 use Rattle.backend_core.specs.View.{tree_view, plains_of}
 use Rattle.backend_core.specs.declared.tree.Leaf.{Leaf}
 use Rattle.backend_core.specs.declared.tree.Tree.{Tree}
@@ -42,6 +42,10 @@ leaf_alone : (k : Kind) (t : Plain) (l : Leaf) → t ≡ leaf l → parts_of k t
 leaf_alone All t l is = rw is refl
 leaf_alone Any t l is = rw is refl
 
+never_alone : (k : Kind) (t : Plain) → t ≡ never → parts_of k t ≡ a_part t no_parts
+never_alone All t is = rw is refl
+never_alone Any t is = rw is refl
+
 pushed : (k : Kind) (old new : List Tree) (t tree : Tree) → parts_of k (tree_view tree) ≡ a_part (tree_view tree) no_parts → tree ≡ t
     → new ≡ old ++ t ∷ [] → plains_of new ≡ append (plains_of old) (parts_of k (tree_view tree))
 pushed k old new t tree alone is items =
@@ -79,6 +83,10 @@ pushed_not k old new b tree is items = pushed k old new (trees.Not b) tree (not_
 pub pushed_leaf : (k : Kind) (old new : List Tree) (l : Leaf) (tree : Tree) → tree ≡ trees.Leaf l → new ≡ old ++ trees.Leaf l ∷ []
     → plains_of new ≡ append (plains_of old) (parts_of k (tree_view tree))
 pushed_leaf k old new l tree is items = pushed k old new (trees.Leaf l) tree (leaf_alone k (tree_view tree) l (ap tree_view is)) is items
+
+pub pushed_never : (k : Kind) (old new : List Tree) (tree : Tree) → tree ≡ trees.Never → new ≡ old ++ trees.Never ∷ []
+    → plains_of new ≡ append (plains_of old) (parts_of k (tree_view tree))
+pushed_never k old new tree is items = pushed k old new trees.Never tree (never_alone k (tree_view tree) (ap tree_view is)) is items
 
 -- ---- loops over parts
 

@@ -2,12 +2,12 @@
 use Rattle.std.proofs.Common.{◌≡◌, sym, ◌∙◌, ap, Bool, true, false, not, List, [], ◌∷◌, ◌++◌, map, length, arith}
 use Rattle.std.proofs.lemmas.List.{map-append}
 use Rattle.event_schema.specs.declared.schema.Field.{Field}
-use Rattle.sql_lang.specs.Grammar.{Ors, last_and, and_or, Ands, last_not, Nots, not_not, a_test, enclosed}
+use Rattle.sql_lang.specs.Grammar.{Ors, last_and, and_or, Ands, last_not, Nots, not_not, a_test, enclosed, constant}
 use Rattle.sql_halves.specs.Halves.{or_join, and_join, halved_ors, halved_ands}
 use Rattle.sql_halves.specs.HalvedTrees.{Form, form, form_of_not, form_of_or, form_of_and, ors_behind, ands_behind}
 use Rattle.sql_halves.proofs.Chains.{or_parts, and_parts, or_parts_joined, and_parts_joined}
 use Rattle.backend_core.specs.declared.tree.Leaf.{Leaf}
-use Rattle.backend_core.specs.Trees.{Plain, Plains, no_parts, a_part, all, any, negated, leaf}
+use Rattle.backend_core.specs.Trees.{Plain, Plains, no_parts, a_part, all, any, negated, leaf, never}
 use Rattle.backend_core.specs.Sound.{IsSound, AreSound}
 use Rattle.sqlite_writer.specs.declared.place.Kind.TheVariants.{All, Any}
 use Rattle.sqlite_writer.specs.declared.place.Standing.{Standing}
@@ -20,6 +20,10 @@ module _ (fields : List Field) where
   abbrev pub test_of_leaf : Leaf → Nots
   test_of_leaf l = a_test (written_test (name_at fields l.field) l.test)
 
+-- 0
+abbrev pub test_of_never : Nots
+test_of_never = a_test (constant false)
+
 module _ (fields : List Field) {B : Type 0} (whole : Ors → B) (in_or : Ands → B) (in_and : Nots → B) (in_not : Nots → B)
     (m : Standing → Plain → B) (ms : Standing → Plains → List B) where
   -- each piece of a layout is what the part is that it lays out
@@ -29,6 +33,9 @@ module _ (fields : List Field) {B : Type 0} (whole : Ors → B) (in_or : Ands �
     pub leaf_or : (l : Leaf) → in_or (last_not (test_of_leaf fields l)) ≡ m InOr (leaf l)
     pub leaf_and : (l : Leaf) → in_and (test_of_leaf fields l) ≡ m InAnd (leaf l)
     pub leaf_not : (l : Leaf) → in_not (test_of_leaf fields l) ≡ m BehindNot (leaf l)
+    pub never_or : in_or (last_not test_of_never) ≡ m InOr never
+    pub never_and : in_and test_of_never ≡ m InAnd never
+    pub never_not : in_not test_of_never ≡ m BehindNot never
     pub not_or : (n : Nots) (t : Plain) → in_not n ≡ m BehindNot t → in_or (last_not (not_not n)) ≡ m InOr (negated t)
     pub not_and : (n : Nots) (t : Plain) → in_not n ≡ m BehindNot t → in_and (not_not n) ≡ m InAnd (negated t)
     pub not_again : (n : Nots) (t : Plain) → in_not n ≡ m BehindNot t → in_not (not_not n) ≡ m BehindNot (negated t)
@@ -61,6 +68,13 @@ module _ (fields : List Field) {B : Type 0} (whole : Ors → B) (in_or : Ands �
       or = just InOr (leaf l) (in_or (last_not (test_of_leaf fields l))) (r.leaf_or l);
       and = just InAnd (leaf l) (in_and (test_of_leaf fields l)) (r.leaf_and l);
       not = r.leaf_not l;
+    }
+
+    agrees_never : Agrees (form_of_not test_of_never) never
+    agrees_never = record {
+      or = just InOr never (in_or (last_not test_of_never)) r.never_or;
+      and = just InAnd never (in_and test_of_never) r.never_and;
+      not = r.never_not;
     }
 
     agrees_any : (o : Ors) (ts : Plains) → map in_or (or_parts o) ≡ ms InOr ts → Agrees (form_of_or o) (any ts)
@@ -127,6 +141,7 @@ module _ (fields : List Field) {B : Type 0} (whole : Ors → B) (in_or : Ands �
       agrees odd (negated t) s = agrees_not (form (sql_tree fields (not odd) t)).in_not (guarded (not odd) t) (agrees (not odd) t s).not
       agrees true (leaf l) s = agrees_leaf (is_unsure l.test) l
       agrees false (leaf l) s = agrees_leaf false l
+      agrees odd never s = agrees_never
 
       ands_agree : (odd : Bool) (a : Ands) (us ts : Plains) → AreSound fields ts → map in_and (and_parts a) ≡ ms InAnd us
           → map in_and (and_parts (ands_behind a (sql_trees fields odd ts))) ≡ ms InAnd (append us (guarded_parts All odd ts))
@@ -158,6 +173,7 @@ module _ (fields : List Field) {B : Type 0} (whole : Ors → B) (in_or : Ands �
     whole_is o (any ts) h = r.any_whole o ts h
     whole_is o (negated t) h = one_is o (negated t) h
     whole_is o (leaf l) h = one_is o (leaf l) h
+    whole_is o never h = one_is o never h
 
     pub reckoned : (odd : Bool) (t : Plain) → IsSound fields t → whole (halved_ors (form (sql_tree fields odd t)).in_or) ≡ m InOr (guarded odd t)
     reckoned odd t s = whole_is (form (sql_tree fields odd t)).in_or (guarded odd t) (agrees odd t s).or

@@ -3,6 +3,7 @@ mod Calm
 mod DepthLemmas
 mod DepthRows
 mod Doubled
+mod FieldKinds
 mod Guards
 mod Laid
 mod Laws
@@ -10,6 +11,7 @@ mod LeafMeans
 mod Lists
 mod Names
 mod Nested
+mod Numbers
 mod PolarityLemmas
 mod Rows
 mod Sounds

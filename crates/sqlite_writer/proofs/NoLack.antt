@@ -6,7 +6,7 @@ use Rattle.event_schema.specs.declared.schema.Field.{Field}
 use Rattle.sig_base.specs.Judged.{first}
 use Rattle.sig_base.specs.declared.refusal.Refusal.{Refusal}
 use Rattle.backend_core.specs.Lacks.{leaf_refusal, lack_refusal, lacks_refusal}
-use Rattle.backend_core.specs.Trees.{Plain, Plains, no_parts, a_part, all, any, negated, leaf}
+use Rattle.backend_core.specs.Trees.{Plain, Plains, no_parts, a_part, all, any, negated, leaf, never}
 use Rattle.backend_core.specs.declared.lack.Lack.{Lack}
 use Rattle.backend_core.specs.declared.lack.Lack.TheVariants.{Many}
 use Rattle.backend_core.specs.declared.tree.Leaf.{Leaf}
@@ -29,6 +29,7 @@ mutual
   no_lack names (any ts) = none_lack names ts
   no_lack names (negated t) = no_lack names t
   no_lack names (leaf l) = leaf_free names l
+  no_lack names never = refl
 
   none_lack : (names : List (List ℕ)) (ts : Plains) → lacks_refusal (sqlite_lacks (map text_field names)) ts ≡ None
   none_lack names no_parts = refl

@@ -10,7 +10,7 @@ use Rattle.event_schema.specs.declared.value.Value.{Value}
 use Rattle.sql_lang.specs.Meaning.{Truth, Yes, No, Unknown, both, either, negation}
 use Rattle.sql_layout.specs.Trees.{tree_value, all_trees, any_tree}
 use Rattle.backend_core.specs.declared.tree.Leaf.{Leaf}
-use Rattle.backend_core.specs.Trees.{Plain, Plains, no_parts, a_part, all, any, negated, leaf}
+use Rattle.backend_core.specs.Trees.{Plain, Plains, no_parts, a_part, all, any, negated, leaf, never}
 use Rattle.backend_core.specs.Holds.{TreeHolds, EachHolds, OneHolds}
 use Rattle.backend_core.specs.Lacks.{leaf_refusal, lack_refusal, lacks_refusal}
 use Rattle.backend_core.specs.Sound.{IsSound, AreSound}
@@ -110,6 +110,7 @@ module _ (fields : List Field) (lacks : Leaf → Option Lack) (cells : List (Opt
         (tree_even t s.1.0 none.0) (one_even ts s.1.1 none.1)
     tree_even (negated t) s n = negation_even (tree_value fields cells (sql_tree fields true t)) (TreeHolds row t) (tree_odd t s n)
     tree_even (leaf l) s n = leaf_even l s n
+    tree_even never s n = λ h. h
 
     each_even : (ts : Plains) → AreSound fields ts → lacks_refusal lacks ts ≡ None
         → EvenIs (all_trees fields cells (sql_trees fields false ts)) (EachHolds row ts)
@@ -141,6 +142,7 @@ module _ (fields : List Field) (lacks : Leaf → Option Lack) (cells : List (Opt
         (tree_odd t s.1.0 none.0) (one_odd ts s.1.1 none.1)
     tree_odd (negated t) s n = negation_odd (tree_value fields cells (sql_tree fields false t)) (TreeHolds row t) (tree_even t s n)
     tree_odd (leaf l) s n = leaf_odd l s n
+    tree_odd never s n = λ h. h
 
     each_odd : (ts : Plains) → AreSound fields ts → lacks_refusal lacks ts ≡ None
         → OddIs (all_trees fields cells (sql_trees fields true ts)) (EachHolds row ts)

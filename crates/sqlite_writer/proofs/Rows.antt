@@ -4,7 +4,7 @@ use Rattle.std.specs.Prelude.{take}
 use Rattle.std.specs.declared.alloc.Global.{Global}
 use Rattle.std.specs.declared.vec.Vec.{Vec}
 use Rattle.std.proofs.lemmas.List.{drop_all, drop_more, length-drop, length-take, length-map, take-map, drop-map}
-use Rattle.backend_core.specs.Trees.{Plain, Plains, no_parts, a_part, all, any, negated, leaf}
+use Rattle.backend_core.specs.Trees.{Plain, Plains, no_parts, a_part, all, any, negated, leaf, never}
 use Rattle.backend_core.specs.View.{tree_view, plains_of}
 use Rattle.backend_core.specs.declared.tree.Tree.{Tree}
 use Rattle.backend_core.specs.declared.tree.Tree as trees
@@ -27,6 +27,7 @@ abbrev mutual
   nodes (any ts) = suc (nodes_in ts)
   nodes (negated t) = suc (nodes t)
   nodes (leaf l) = 1
+  nodes never = 1
 
   pub nodes_in : Plains → ℕ
   nodes_in no_parts = 0
@@ -41,6 +42,7 @@ some_nodes (all ts) = omega arith
 some_nodes (any ts) = omega arith
 some_nodes (negated t) = omega arith
 some_nodes (leaf l) = omega arith
+some_nodes never = omega arith
 
 nodes_listed : (ts : List Tree) → nodes_in (plains_of ts) ≡ items_nodes ts
 nodes_listed [] = refl

@@ -67,6 +67,9 @@ module _ (fields : List Field) where
     leaf_or = λ l. refl;
     leaf_and = λ l. refl;
     leaf_not = λ l. refl;
+    never_or = refl;
+    never_and = refl;
+    never_not = refl;
     not_or = λ n t h. ap (λ (x : List ℕ). codes "NOT " ++ x) h;
     not_and = λ n t h. ap (λ (x : List ℕ). codes "NOT " ++ x) h;
     not_again = λ n t h. ap (λ (x : List ℕ). codes "NOT " ++ x) h;

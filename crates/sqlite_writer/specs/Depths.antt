@@ -4,7 +4,7 @@ use Rattle.sig_strings.specs.Edits.{has_wildcard}
 use Rattle.backend_core.specs.declared.tree.LeafTest.{LeafTest}
 use Rattle.backend_core.specs.declared.tree.LeafTest.TheVariants as tests
 use Rattle.backend_core.specs.declared.tree.Tree.{Tree}
-use Rattle.backend_core.specs.Trees.{Plain, Plains, no_parts, a_part, all, any, negated, leaf}
+use Rattle.backend_core.specs.Trees.{Plain, Plains, no_parts, a_part, all, any, negated, leaf, never}
 use Rattle.backend_core.specs.View.{tree_view}
 use Rattle.sql_halves.specs.Lists.{halved}
 
@@ -18,6 +18,7 @@ abbrev pub written_depth : LeafTest → ℕ
 written_depth tests.Has = 2
 written_depth tests.Absent = 2
 written_depth (tests.Fits pattern cased) = text_depth (has_wildcard pattern) cased
+written_depth (tests.Equals n) = 2
 
 abbrev pub or_zero : Option ℕ → ℕ
 or_zero None = 0
@@ -52,6 +53,7 @@ module _ (most : ℕ) where
     tree_depth (any ts) = halved_depth (parts_depth ts)
     tree_depth (negated t) = one_more (tree_depth t)
     tree_depth (leaf l) = written_depth l.test
+    tree_depth never = 1
 
     pub parts_depth : Plains → List ℕ
     parts_depth no_parts = []

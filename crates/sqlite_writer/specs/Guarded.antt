@@ -1,12 +1,13 @@
--- Which tests a tree is in SQL. Where a field has no value a test of its text is unknown, and unknown stays unknown behind
--- NOT; so below an odd number of words NOT such a test stands behind the test that there is a value (SQLite, expressions:
+-- Which tests a tree is in SQL. Where a field has no value a test of its text or number is unknown, and unknown stays unknown
+-- behind NOT; so below an odd number of words NOT such a test stands behind the test that there is a value (SQLite, expressions:
 -- NULL and the operators).
 use Rattle.std.specs.Prelude.{ℕ, zero, suc, Bool, true, false, not, ◌&&◌, if◌then◌else◌, List, [], ◌∷◌}
 use Rattle.event_schema.specs.declared.schema.Field.{Field}
 use Rattle.sig_strings.specs.declared.part.Part.{Part}
 use Rattle.sig_strings.specs.Edits.{has_wildcard, plain_text}
 use Rattle.sql_lang.specs.Grammar.{Unsaid, NoCase, Leaf, constant}
-use Rattle.sql_layout.specs.Leaves.{has_value, has_no_value, equals_text, fits_like, fits_glob}
+use Rattle.sql_lang.specs.Tokens.{Eq}
+use Rattle.sql_layout.specs.Leaves.{has_value, has_no_value, equals_text, compares_number, fits_like, fits_glob}
 use Rattle.sql_layout.specs.Escaped.{like_text, glob_text}
 use Rattle.sql_layout.specs.Trees.{Tree, leaf, all, any, negated, Trees, no_trees, a_tree}
 use Rattle.sql_patterns.specs.Writable.{sql_parts}
@@ -36,19 +37,21 @@ written_test field tests.Has = has_value field
 written_test field tests.Absent = has_no_value field
 written_test field (tests.Fits pattern cased) =
     if has_wildcard pattern then wildcard_test field cased pattern else plain_test field cased pattern
+written_test field (tests.Equals n) = compares_number field Eq n
 
 -- a test that is unknown where there is no value
 abbrev pub is_unsure : LeafTest → Bool
 is_unsure tests.Has = false
 is_unsure tests.Absent = false
 is_unsure (tests.Fits pattern cased) = true
+is_unsure (tests.Equals n) = true
 
 abbrev pub guarded_test : Bool → List ℕ → LeafTest → Tree
 guarded_test guarded field test =
     if guarded then all (leaf (has_value field)) (a_tree (leaf (written_test field test)) no_trees) else leaf (written_test field test)
 
--- the tests of a tree that stands below an odd number of words NOT, or below an even one; an all of no parts is 1 and an
--- any of none 0
+-- the tests of a tree that stands below an odd number of words NOT, or below an even one; an all of no parts is 1, and an any
+-- of none and what never holds are 0
 module _ (fields : List Field) where
   abbrev mutual
     pub sql_tree : Bool → Plain → Tree
@@ -58,6 +61,7 @@ module _ (fields : List Field) where
     sql_tree odd (trees.any (a_part t ts)) = any (sql_tree odd t) (sql_trees odd ts)
     sql_tree odd (trees.negated t) = negated (sql_tree (not odd) t)
     sql_tree odd (trees.leaf l) = guarded_test (odd && is_unsure l.test) (name_at fields l.field) l.test
+    sql_tree odd trees.never = leaf (constant false)
 
     pub sql_trees : Bool → Plains → Trees
     sql_trees odd no_parts = no_trees

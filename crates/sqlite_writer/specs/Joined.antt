@@ -3,7 +3,7 @@
 use Rattle.std.specs.Prelude.{Bool, true, false, not, ◌&&◌}
 use Rattle.backend_core.specs.declared.tree.Leaf.{Leaf}
 use Rattle.backend_core.specs.declared.tree.LeafTest.TheVariants as tests
-use Rattle.backend_core.specs.Trees.{Plain, Plains, no_parts, a_part, all, any, negated, leaf}
+use Rattle.backend_core.specs.Trees.{Plain, Plains, no_parts, a_part, all, any, negated, leaf, never}
 use Rattle.sqlite_writer.specs.declared.place.Kind.{Kind}
 use Rattle.sqlite_writer.specs.declared.place.Kind.TheVariants.{All, Any}
 use Rattle.sqlite_writer.specs.Guarded.{is_unsure}
@@ -18,10 +18,12 @@ parts_of All (all ts) = ts
 parts_of All (any ts) = a_part (any ts) no_parts
 parts_of All (negated t) = a_part (negated t) no_parts
 parts_of All (leaf l) = a_part (leaf l) no_parts
+parts_of All never = a_part never no_parts
 parts_of Any (all ts) = a_part (all ts) no_parts
 parts_of Any (any ts) = ts
 parts_of Any (negated t) = a_part (negated t) no_parts
 parts_of Any (leaf l) = a_part (leaf l) no_parts
+parts_of Any never = a_part never no_parts
 
 -- that the field of a leaf has a value
 abbrev pub guard_of : Leaf → Leaf
@@ -38,6 +40,7 @@ abbrev mutual
   guarded odd (any ts) = any (guarded_parts Any odd ts)
   guarded odd (negated t) = negated (guarded (not odd) t)
   guarded odd (leaf l) = guarded_leaf (odd && is_unsure l.test) l
+  guarded odd never = never
 
   pub guarded_parts : Kind → Bool → Plains → Plains
   guarded_parts kind odd no_parts = no_parts

@@ -7,7 +7,7 @@ use Rattle.sql_layout.specs.Leaves.{has_value}
 use Rattle.sql_layout.specs.Layout.{spaced, in_quotes}
 use Rattle.backend_core.specs.declared.tree.LeafTest.{LeafTest}
 use Rattle.backend_core.specs.declared.tree.Tree.{Tree}
-use Rattle.backend_core.specs.Trees.{Plain, Plains, no_parts, a_part, all, any, negated, leaf}
+use Rattle.backend_core.specs.Trees.{Plain, Plains, no_parts, a_part, all, any, negated, leaf, never}
 use Rattle.backend_core.specs.View.{tree_view}
 use Rattle.sqlite_writer.specs.declared.place.Kind.{Kind}
 use Rattle.sqlite_writer.specs.declared.place.Kind.TheVariants.{All, Any}
@@ -67,6 +67,7 @@ module _ (fields : List Field) where
     tree_text at (any ts) = enclosed_if (is_enclosed Any at) (halved_text Any (parts_text InOr ts))
     tree_text at (negated t) = codes "NOT " ++ tree_text BehindNot t
     tree_text at (leaf l) = test_text (name_at fields l.field) l.test
+    tree_text at never = codes "0"
 
     pub parts_text : Standing → Plains → List (List ℕ)
     parts_text at no_parts = []

@@ -39,6 +39,7 @@ fn test_depth(test: &LeafTest) -> usize
     match test {
         LeafTest::Has | LeafTest::Absent => 2,
         LeafTest::Fits { pattern, cased } => text_depth(pattern.has_wildcard(), *cased),
+        LeafTest::Equals(_) => 2,
     }
 }
 
@@ -83,5 +84,6 @@ pub(crate) fn tree_depth(tree: &Tree) -> usize
             one_more(depth)
         }
         Tree::Leaf(leaf) => test_depth(&leaf.test),
+        Tree::Never => 1,
     }
 }

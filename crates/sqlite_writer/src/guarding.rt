@@ -16,7 +16,7 @@ fn is_unsure(test: &LeafTest) -> bool
 {
     match test {
         LeafTest::Has | LeafTest::Absent => false,
-        LeafTest::Fits { .. } => true,
+        LeafTest::Fits { .. } | LeafTest::Equals(_) => true,
     }
 }
 
@@ -35,6 +35,9 @@ fn add_to_all(parts: &mut Vec<Tree>, tree: Tree) -> Result<(), AllocError>
         }
         Tree::Leaf(leaf) => {
             parts.push(Tree::Leaf(leaf))?;
+        }
+        Tree::Never => {
+            parts.push(Tree::Never)?;
         }
     }
     Ok(())
@@ -55,6 +58,9 @@ fn add_to_any(parts: &mut Vec<Tree>, tree: Tree) -> Result<(), AllocError>
         }
         Tree::Leaf(leaf) => {
             parts.push(Tree::Leaf(leaf))?;
+        }
+        Tree::Never => {
+            parts.push(Tree::Never)?;
         }
     }
     Ok(())
@@ -124,5 +130,6 @@ pub(crate) fn guarded(alloc: Global, tree: &Tree, odd: bool) -> Result<Tree, Fau
             Ok(Tree::Not(Box::new(alloc, part)?))
         }
         Tree::Leaf(leaf) => guarded_leaf(alloc, leaf, odd && is_unsure(&leaf.test)),
+        Tree::Never => Ok(Tree::Never),
     }
 }

@@ -6,7 +6,7 @@ ghost use Rattle.event_schema.specs.declared.schema.Schema.{Schema};
 ghost use Rattle.event_schema.specs.declared.value.Value.{Value};
 ghost use Rattle.event_schema.specs.Events.{IsEvent};
 ghost use Rattle.event_schema.specs.Rows.{first_values};
-ghost use Rattle.event_schema.specs.Schemas.{AreApart};
+ghost use Rattle.event_schema.specs.Schemas.{AreApart, IsSchema};
 ghost use Rattle.event_schema.specs.Inferred.{text_field};
 ghost use Rattle.backend_core.specs.Trees.{Plain};
 ghost use Rattle.backend_core.specs.Holds.{TreeHolds};
@@ -19,34 +19,35 @@ ghost use Rattle.sqlite_writer.specs.Guarded.{sql_tree};
 ghost use Rattle.sqlite_writer.specs.Queries.{query_text, query_bytes, query_expr, IsQueryOf};
 ghost use Rattle.sqlite_writer.specs.Lacking.{sqlite_lacks};
 ghost use Rattle.sqlite_writer.specs.Shallow.{ListsAreShallow};
-ghost use Rattle.sqlite_writer.specs.Schemas.{IsTextSchema, AreScalars};
+ghost use Rattle.sqlite_writer.specs.Schemas.{IsFoundSchema, AreScalars};
 
 use sig_strings::plain_fits;
 use sql_halves::{
     halved_layout_is_fine, halved_layout_is_read, halved_layout_means_tree, halves_are_shallow,
 };
 use sql_lang::{one_reading, one_spelling};
-use sql_layout::{leaves_are_sound, spelling_is_scanned};
+use sql_layout::{leaves_are_read, leaves_are_sound, spelling_is_scanned};
 use sql_patterns::{glob_means, like_means};
 
 /// Of a tree for which nothing is lacking: below an even number of words NOT it's yes exactly where it holds, and below an odd
 /// number it's no exactly where it doesn't hold.
 pub fn polarity()
-    ensures even { (schema : Schema) (t : Plain) (row : List (List Value)) → IsTextSchema schema
+    ensures even { (schema : Schema) (t : Plain) (row : List (List Value)) → IsFoundSchema schema
         → IsSound schema.fields t → lack_refusal (sqlite_lacks schema.fields) t ≡ None → IsEvent schema.fields row
         → (tree_value schema.fields (first_values row) (sql_tree schema.fields false t) ≡ Yes) ↔ TreeHolds row t }
-    ensures odd { (schema : Schema) (t : Plain) (row : List (List Value)) → IsTextSchema schema
+    ensures odd { (schema : Schema) (t : Plain) (row : List (List Value)) → IsFoundSchema schema
         → IsSound schema.fields t → lack_refusal (sqlite_lacks schema.fields) t ≡ None → IsEvent schema.fields row
         → (tree_value schema.fields (first_values row) (sql_tree schema.fields true t) ≡ No) ↔ (TreeHolds row t → ⊥) }
 {
     like_means();
     glob_means();
     plain_fits();
+    leaves_are_read();
 }
 
 /// The text of a sound tree for which nothing is lacking is one query, and it selects an event exactly where the tree holds.
 pub fn tree_is_query()
-    ensures { (limit : ℕ) (schema : Schema) (t : Plain) → IsTextSchema schema → IsSound schema.fields t
+    ensures { (limit : ℕ) (schema : Schema) (t : Plain) → IsFoundSchema schema → IsSound schema.fields t
         → lack_refusal (sqlite_lacks schema.fields) t ≡ None → 1 ≤ limit → depth (query_expr schema t) ≤ limit → IsQueryOf limit schema t (query_bytes schema t) }
 {
     polarity();
@@ -66,11 +67,16 @@ pub fn lists_are_shallow()
     halves_are_shallow();
 }
 
-/// The table `events` with a field of texts for each name is a schema of texts, where the names are
-/// of characters and, folded, no two of them are equal.
+/// Every schema has its fields found by their names.
+pub fn schemas_are_found()
+    ensures { (schema : Schema) → IsSchema schema → IsFoundSchema schema }
+{}
+
+/// The table `events` with a field of texts for each name has its fields found by these names, where they are of
+/// characters and, folded, no two of them are equal.
 pub fn text_schemas()
     ensures { (names : List (List ℕ)) → AreScalars names → AreApart names
-        → IsTextSchema (record { table = codes "events"; fields = map text_field names; time = None }) }
+        → IsFoundSchema (record { table = codes "events"; fields = map text_field names; time = None }) }
 {}
 
 /// Nothing is lacking for a tree of tests on fields of texts, each of one value.

@@ -8,6 +8,8 @@ mod guarding;
 mod lack_tests;
 mod lacking;
 mod law;
+#[cfg(test)]
+mod number_tests;
 mod patterns;
 mod place;
 mod putting;
@@ -18,5 +20,8 @@ mod tests_of;
 mod walk;
 mod writer;
 
-pub use law::{lists_are_shallow, polarity, text_fields_lack_nothing, text_schemas, tree_is_query};
+pub use law::{
+    lists_are_shallow, polarity, schemas_are_found, text_fields_lack_nothing, text_schemas,
+    tree_is_query,
+};
 pub use writer::Sqlite;

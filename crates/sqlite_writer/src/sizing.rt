@@ -137,5 +137,6 @@ pub(crate) fn with_tree(
             with_tree(alloc, sum, fields, part, Standing::BehindNot)
         }
         Tree::Leaf(leaf) => with_leaf(alloc, size, fields, leaf),
+        Tree::Never => with_piece_if(size, true, "0"),
     }
 }

@@ -11,6 +11,8 @@ ghost use Rattle.sqlite_writer.specs.Pieces.{has_text, test_text};
 use crate::patterns::{put_characters, put_glob, put_like};
 use crate::putting::{put, put_name};
 use backend_core::LeafTest;
+use event_schema::decimal_in;
+use itoa::Buffer;
 use sig_base::{Fault, Text};
 use sig_strings::{Part, Pattern};
 
@@ -75,6 +77,18 @@ fn put_fits(out: &mut Text, field: &str, cased: bool, pattern: &Pattern) -> Resu
     put_plain(out, field, cased, parts)
 }
 
+#[tactic(auto, using(crate::proofs::Doubled::number_test))]
+fn put_equals(out: &mut Text, field: &str, number: &i64) -> Result<(), Fault>
+    ensures ok { OnOk result (out.new ≡ out.old ++ test_text (chars field.now) (LeafTest.Equals number.now)) }
+    ensures err { IfErr result (λ e. e ≡ Fault.Memory) }
+{
+    put_name(out, field)?;
+    put(out, " = ")?;
+    let mut buffer = Buffer::new();
+    out.push_str(decimal_in(&mut buffer, *number))?;
+    Ok(())
+}
+
 /// Adds a test of a field.
 pub(crate) fn put_test(out: &mut Text, field: &str, test: &LeafTest) -> Result<(), Fault>
     ensures ok { OnOk result (out.new ≡ out.old ++ test_text (chars field.now) test.now) }
@@ -84,5 +98,6 @@ pub(crate) fn put_test(out: &mut Text, field: &str, test: &LeafTest) -> Result<(
         LeafTest::Has => put_has(out, field),
         LeafTest::Absent => put_absent(out, field),
         LeafTest::Fits { pattern, cased } => put_fits(out, field, *cased, pattern),
+        LeafTest::Equals(number) => put_equals(out, field, number),
     }
 }

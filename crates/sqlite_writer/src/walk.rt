@@ -94,5 +94,6 @@ pub(crate) fn put_tree(
             put_tree(out, fields, part, Standing::BehindNot)
         }
         Tree::Leaf(leaf) => put_leaf(out, fields, leaf),
+        Tree::Never => put(out, "0"),
     }
 }

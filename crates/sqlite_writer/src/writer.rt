@@ -13,7 +13,7 @@ ghost use Rattle.sqlite_writer.specs.Sizes.{bytes_in};
 ghost use Rattle.sqlite_writer.specs.Joined.{guarded as guarded_tree};
 ghost use Rattle.sqlite_writer.specs.Lacking.{sqlite_lacks};
 ghost use Rattle.sqlite_writer.specs.Refused.{refusal, IsRefused, IsUnwritten};
-ghost use Rattle.sqlite_writer.specs.Schemas.{IsTextSchema};
+ghost use Rattle.sqlite_writer.specs.Schemas.{IsFoundSchema};
 ghost use Rattle.sqlite_writer.specs.Shallow.{ListsAreShallow};
 
 use crate::deep::tree_depth;
@@ -50,7 +50,8 @@ fn query_of(alloc: Global, bytes: usize, schema: &Schema, written: &Tree) -> Res
         → IfOk result (λ text. text ≡ query_text schema.now t) }
     ensures err { IfErr result (λ e. e ≡ Fault.Memory) }
 {
-    let mut out = Text::with_capacity(alloc, bytes)?;
+    // with room for a line feed behind it
+    let mut out = Text::with_capacity(alloc, bytes.saturating_add(1))?;
     put_head(&mut out, schema)?;
     put_tree(&mut out, schema.fields.as_slice(), written, Standing::InOr)?;
     Ok(out)
@@ -108,7 +109,7 @@ impl Sqlite {
         ensures bytes { IsSound schema.now.fields (tree_view tree.now)
             → IfOk result (λ bytes. bytes ≡ query_bytes schema.now (tree_view tree.now)) }
         ensures lacks { OnOk result (lack_refusal (sqlite_lacks schema.now.fields) (tree_view tree.now) ≡ None) }
-        ensures law { IsSound schema.now.fields (tree_view tree.now) → IsTextSchema schema.now
+        ensures law { IsSound schema.now.fields (tree_view tree.now) → IsFoundSchema schema.now
             → IfOk result (λ bytes. (limit : ℕ) → 1 ≤ limit
             → depth (query_expr schema.now (tree_view tree.now)) ≤ limit
             → IsQueryOf limit schema.now (tree_view tree.now) bytes) }
@@ -138,7 +139,7 @@ impl Sqlite {
         ensures bytes { IsSound schema.now.fields (tree_view tree.now)
             → IfOk result (λ bytes. bytes ≡ query_bytes schema.now (tree_view tree.now)) }
         ensures lacks { OnOk result (lack_refusal (sqlite_lacks schema.now.fields) (tree_view tree.now) ≡ None) }
-        ensures law { IsSound schema.now.fields (tree_view tree.now) → IsTextSchema schema.now
+        ensures law { IsSound schema.now.fields (tree_view tree.now) → IsFoundSchema schema.now
             → IfOk result (λ bytes. IsQueryOf limits.now.sql_depth schema.now (tree_view tree.now) bytes) }
         ensures deep { IsSound schema.now.fields (tree_view tree.now)
             → IfOk result (λ bytes. depth (query_expr schema.now (tree_view tree.now)) ≤ limits.now.sql_depth) }
@@ -162,7 +163,7 @@ impl Sqlite {
     ) -> Result<Bytes, Fault>
         ensures bytes { IsSound schema.now.fields (tree_view tree.now)
             → IfOk result (λ bytes. bytes ≡ query_bytes schema.now (tree_view tree.now)) }
-        ensures law { IsSound schema.now.fields (tree_view tree.now) → IsTextSchema schema.now
+        ensures law { IsSound schema.now.fields (tree_view tree.now) → IsFoundSchema schema.now
             → lack_refusal (sqlite_lacks schema.now.fields) (tree_view tree.now) ≡ None
             → IfOk result (λ bytes. (limit : ℕ) → 1 ≤ limit
             → depth (query_expr schema.now (tree_view tree.now)) ≤ limit

@@ -1,5 +1,5 @@
 use Rattle.sqlite_writer.specs.declared.place.Kind.TheVariants.{All}
-use Rattle.sqlite_writer.proofs.Guards.{moved_all, pushed_any, pushed_not, pushed_leaf}
+use Rattle.sqlite_writer.proofs.Guards.{moved_all, pushed_any, pushed_not, pushed_leaf, pushed_never}
 use Rattle.sqlite_writer.proofs.guarding.add_to_all.Goals as goal
 
 pub returns-in_ok-append-in-All : goal.returns-in_ok-append-in-All
@@ -13,3 +13,6 @@ returns-in_ok-push-in-Not c = pushed_not All c.args.parts.now.items c.push-in-No
 
 pub returns-in_ok-push-in-Leaf : goal.returns-in_ok-push-in-Leaf
 returns-in_ok-push-in-Leaf c = pushed_leaf All c.args.parts.now.items c.push-in-Leaf.new.self.items c.in-Leaf.leaf c.args.tree c.in-Leaf.is c.in_ok-push-in-Leaf.ensures.items
+
+pub returns-in_ok-push-in-Never : goal.returns-in_ok-push-in-Never
+returns-in_ok-push-in-Never c = pushed_never All c.args.parts.now.items c.push-in-Never.new.self.items c.args.tree c.in-Never.is c.in_ok-push-in-Never.ensures.items
