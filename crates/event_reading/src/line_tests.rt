@@ -17,7 +17,10 @@ fn push_event(
     all.push_str(format!(in alloc; "{number}")?.as_str())?;
     match read {
         Ok(event) => match event.get(0) {
-            Some(value) => all.push_str(format!(in alloc; "={} ", value.text(alloc)?.as_str())?.as_str())?,
+            Some(value) => all.push_str(format!(in alloc;
+                "={} ",
+                value.text(alloc)?.as_str()
+            )?.as_str())?,
             None => all.push_str("= ")?,
         },
         Err(fault) => {
@@ -26,10 +29,14 @@ fn push_event(
             };
             let place = refusal.place;
             let code = refusal.code;
-            all.push_str(
-                format!(in alloc; ":{}:{}: {} {} ", place.line, place.column, code.number(), code.name())?
-                    .as_str(),
-            )?;
+            all.push_str(format!(in alloc;
+                ":{}:{}: {} {} ",
+                place.line,
+                place.column,
+                code.number(),
+                code.name()
+            )?
+            .as_str())?;
         }
     }
     Ok(())
