@@ -1,15 +1,17 @@
 #!/usr/bin/env python3
 """Times the reading of events beside Python's `json` and, where it is installed, `jq`. Run by hand, in one run for all.
 
-    python3 bench/events.py PROGRAM [--events N]
+    python3 bench/events.py PROGRAM [--events N] [--repeats N]
 
-PROGRAM is the built bench, as crates/bench_events/out/bench_events. It makes N flat events of about 230 bytes and as many nested ones of about
-670 bytes, and prints for each reader the least of five times, in seconds of processor time, and the megabytes of input in a second:
-`lines` alone, `json` (lines and a JSON value each) and `events` (lines, and an event of a schema of seven fields and a time each). What
-`events` costs beyond `lines`, as a share of what `json` does, stands last.
+PROGRAM is the built bench, crates/bench_events/out/bench_events, which `rt run` in crates/bench_events makes. The script makes N flat events
+of about 210 bytes and as many nested ones of about 580 bytes, and prints for each reader the least of some times, in seconds of processor
+time, and the megabytes of input in a second: `lines` alone, `json` (lines and a JSON value each) and `events` (lines, and an event of
+a schema of seven fields and a time each). The readers take turns, so that a busy machine slows none of them alone. What `events` costs
+beyond `lines`, as a share of what `json` does, stands last.
 """
 import argparse
 import json
+import math
 import os
 import random
 import resource
@@ -17,8 +19,6 @@ import shutil
 import subprocess
 import tempfile
 import time
-
-REPEATS = 5
 
 
 def flat(rng, number):
@@ -36,36 +36,35 @@ def nested(rng, number):
             "winlog": {"user": {"name": "alice", "domain": "CORP"}, "record_id": number, "task": "Process Create (rule: ProcessCreate)"}}
 
 
-def seconds(words, path):
-    """The processor time of a child that reads the file, the least of some runs."""
-    least = None
-    for _ in range(REPEATS):
+def child(words, path):
+    """The processor time of a child that reads the file."""
+    def spent():
         with open(path, "rb") as file:
             before = resource.getrusage(resource.RUSAGE_CHILDREN)
             subprocess.run(words, stdin=file, stdout=subprocess.DEVNULL, check=True)
             after = resource.getrusage(resource.RUSAGE_CHILDREN)
-        spent = after.ru_utime + after.ru_stime - before.ru_utime - before.ru_stime
-        least = spent if least is None else min(least, spent)
-    return least
+        return after.ru_utime + after.ru_stime - before.ru_utime - before.ru_stime
+    return spent
 
 
-def python_seconds(path):
+def python_json(path):
+    """The processor time of Python's `json` on the file's lines."""
     with open(path, "rb") as file:
         lines = file.read().split(b"\n")[:-1]
-    least = None
-    for _ in range(REPEATS):
+
+    def spent():
         start = time.process_time()
         for line in lines:
             json.loads(line)
-        spent = time.process_time() - start
-        least = spent if least is None else min(least, spent)
-    return least
+        return time.process_time() - start
+    return spent
 
 
 def main():
     parser = argparse.ArgumentParser(description=__doc__, formatter_class=argparse.RawDescriptionHelpFormatter)
     parser.add_argument("program", help="the built bench")
     parser.add_argument("--events", type=int, default=200000, help="how many events (200,000)")
+    parser.add_argument("--repeats", type=int, default=5, help="how many times (5)")
     told = parser.parse_args()
     program = os.path.abspath(told.program)
     with tempfile.TemporaryDirectory() as folder:
@@ -76,10 +75,14 @@ def main():
                     file.write(json.dumps(make(rng, number), separators=(",", ":")) + "\n")
             size = os.path.getsize(path)
             print(f"{name}: {told.events} events, {size / told.events:.0f} bytes each")
-            times = {mode: seconds([program, mode], path) for mode in ["lines", "json", "events"]}
-            times["Python's json"] = python_seconds(path)
+            readers = {"lines": child([program, "lines"], path), "json": child([program, "json"], path),
+                       "events": child([program, "events"] + ["nested"] * (name == "nested"), path), "Python's json": python_json(path)}
             if shutil.which("jq"):
-                times["jq"] = seconds(["jq", "-c", "length"], path)
+                readers["jq"] = child(["jq", "-c", "length"], path)
+            times = {reader: math.inf for reader in readers}
+            for _ in range(told.repeats):
+                for reader, spent in readers.items():
+                    times[reader] = min(times[reader], spent())
             for reader, spent in times.items():
                 print(f"  {reader}: {spent:.3f} s, {size / spent / 1e6:.0f} MB/s")
             bare, whole = times["json"] - times["lines"], times["events"] - times["lines"]

@@ -1,6 +1,7 @@
 //! Shows how long reading events takes. The word `lines` reads the lines of standard input, `json` reads each as a JSON value
-//! too, and `events` reads each as an event of a small schema. It prints how many lines there were and how many were read
-//! so. (Run it by hand with a clock around it, as `bench/events.py` does.)
+//! too, and `events` reads each as an event of a small schema, which finds its values in nested objects after the word
+//! `nested`. It prints how many lines there were and how many were read so. (Run it by hand with a clock around it, as
+//! `bench/events.py` does.)
 #![tactic(auto)]
 
 use event_lines::LineReader;
@@ -17,6 +18,13 @@ const SCHEMA: &str =
     {"name": "User", "kind": "text"}, {"name": "ParentImage", "kind": "text"},
     {"name": "Hashes", "kind": "text", "many": true}, {"name": "EventID", "kind": "whole"},
     {"name": "ProcessId", "kind": "whole"}], "time": {"at": ["UtcTime"], "form": "text"}}"#;
+
+/// The same of events whose values stand in objects of objects.
+const NESTED: &str =
+    r#"{"fields": [{"name": "Image", "kind": "text", "at": ["process", "executable"]}, {"name": "Arguments", "kind": "text", "many": true, "at": ["process", "args"]},
+    {"name": "User", "kind": "text", "at": ["winlog", "user", "name"]}, {"name": "ParentImage", "kind": "text", "at": ["process", "parent", "executable"]},
+    {"name": "Address", "kind": "address", "many": true, "at": ["host", "ip"]}, {"name": "Sequence", "kind": "whole", "at": ["event", "sequence"]},
+    {"name": "ProcessId", "kind": "whole", "at": ["process", "pid"]}], "time": {"at": ["event", "created"], "form": "text"}}"#;
 
 #[derive(Clone, Copy)]
 enum Mode {
@@ -77,15 +85,20 @@ fn mode_of(word: Option<String>) -> Mode {
     }
 }
 
-fn schema(alloc: Global) -> Result<Schema, Fault> {
-    read_schema(alloc, &Limits::standard(), SCHEMA.as_bytes())
+/// The schema of nested events where the word says so.
+fn schema(alloc: Global, word: Option<String>) -> Result<Schema, Fault> {
+    let text = match word {
+        Some(_) => NESTED,
+        None => SCHEMA,
+    };
+    read_schema(alloc, &Limits::standard(), text.as_bytes())
 }
 
 fn main(rt: HostRuntime) -> io::Result<()> {
     let mut words = env::args(&rt)?;
     let _program = words.next();
     let mode = mode_of(words.next());
-    let Ok(schema) = schema(rt.alloc()) else {
+    let Ok(schema) = schema(rt.alloc(), words.next()) else {
         return Err(io::Error::from(io::ErrorKind::InvalidInput));
     };
     match read_all(

@@ -190,10 +190,12 @@ answers_failed old now after None rest more line p empty keeps is = tt
 answers_failed old now after (Some xs) None more line p empty keeps is = absurd p.told
 answers_failed old now after (Some xs) (Some ys) None line p empty keeps is = absurd keeps
 answers_failed old now after (Some xs) (Some ys) (Some zs) line p empty keeps is =
-    let given = p.told.0 in (
+    let given = p.told.0 in
+    let front : old.ahead ++ given ≡ p.front = sym p.told.2 ∙ (ap (λ (l : List ℕ). p.front ++ l) empty ∙ append-nil p.front) in (
       given,
       p.told.1 ∙ ap (λ (l : List ℕ). given ++ l) (sym keeps),
-      ap has_feed (sym p.told.2 ∙ (ap (λ (l : List ℕ). p.front ++ l) empty ∙ append-nil p.front)) ∙ p.plain,
+      ap has_feed front ∙ p.plain,
+      subst (λ (l : List ℕ). length l ≤ old.room) (sym front) (omega (arith, p.room)),
       is,
     )
 

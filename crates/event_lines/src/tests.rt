@@ -87,19 +87,50 @@ fn lines_within_limits(rt: HostRuntime) -> Result<(), Fail> {
     Ok(())
 }
 
+/// The first call of the source whose failure is told otherwise; of three lines, what stands between `|` is wanted where the
+/// first call fails, the second, and so on.
+fn wrong_call(alloc: Global, most: usize, wants: &str) -> Result<Option<u64>, Fail> {
+    let mut call: u64 = 0;
+    for want in wants.split('|') {
+        call = call.saturating_add(1);
+        let got = told(alloc, b"ab\ncd\nef\n", most, 8, 100, one(alloc, call)?)?;
+        if got.as_str() != want {
+            return Ok(Some(call));
+        }
+    }
+    Ok(None)
+}
+
 #[test]
 fn each_call_fails_once(rt: HostRuntime) -> Result<(), Fail> {
     let alloc = rt.alloc();
-    for (call, want) in [
-        (1, "read end"),
-        (2, "1:2 read end"),
-        (3, "1:2 2:2 read end"),
-        (4, "1:2 2:2 3:2 read end"),
-        (5, "1:2 2:2 3:2 end"),
+    for (most, wants) in [
+        (
+            1,
+            "read end|read end|read end|1:2 read end|1:2 read end|1:2 read end|1:2 2:2 read end|1:2 2:2 read end|1:2 2:2 read end|1:2 2:2 3:2 read end|1:2 2:2 3:2 end",
+        ),
+        (
+            2,
+            "read end|read end|1:2 read end|1:2 2:2 read end|1:2 2:2 read end|1:2 2:2 3:2 read end|1:2 2:2 3:2 end",
+        ),
+        (
+            3,
+            "read end|1:2 read end|1:2 2:2 read end|1:2 2:2 3:2 read end|1:2 2:2 3:2 end",
+        ),
+        (65_536, "read end|1:2 2:2 3:2 read end|1:2 2:2 3:2 end"),
     ] {
-        let got = told(alloc, b"ab\ncd\nef\n", 4, 8, 100, one(alloc, call)?)?;
-        assert_eq!(rt; got.as_str(), want);
+        assert!(rt; wrong_call(alloc, most, wants)?.is_none());
     }
+    Ok(())
+}
+
+#[test]
+fn too_much_before_a_failure(rt: HostRuntime) -> Result<(), Fail> {
+    let alloc = rt.alloc();
+    let got = told(alloc, b"ab\ncd\nef\n", 4, 8, 7, one(alloc, 3)?)?;
+    assert_eq!(rt; got.as_str(), "1:2 2:2 3:much end");
+    let got = told(alloc, b"ab\ncd\nef\n", 4, 8, 8, one(alloc, 3)?)?;
+    assert_eq!(rt; got.as_str(), "1:2 2:2 read end");
     Ok(())
 }
 

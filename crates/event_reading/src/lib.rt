@@ -7,6 +7,8 @@ pub use schemas::read_schema;
 mod decimals;
 mod event;
 mod json_values;
+#[cfg(test)]
+mod line_tests;
 mod moments;
 mod parts;
 mod path;

@@ -159,6 +159,7 @@ fn addresses(rt: HostRuntime) -> Result<(), Fail> {
     let table = r#"null~
 true~26 at 7:1
 false~26 at 7:1
+"10.\u0000"~26 at 7:1
 "x"~|x
 ""~|
 "a\u0000"~28 at 7:1
