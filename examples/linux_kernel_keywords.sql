@@ -1,0 +1,1 @@
+SELECT * FROM "events" WHERE "facility" = 'kern' COLLATE NOCASE AND ("Message" LIKE '%module verification failed%' ESCAPE '\' OR "Message" LIKE '%loading out-of-tree module%' ESCAPE '\' OR "Message" LIKE '%segfault%' ESCAPE '\' AND "Message" LIKE '%libc%' ESCAPE '\')

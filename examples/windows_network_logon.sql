@@ -1,0 +1,1 @@
+SELECT * FROM "security" WHERE "EventID" = 4624 AND ("LogonType" = 3 OR "LogonType" = 10) AND "TargetUserName" LIKE 'adm-%' ESCAPE '\' AND NOT ("IpAddress" IS NOT NULL AND "IpAddress" LIKE '10.20.%' ESCAPE '\')
