@@ -130,36 +130,36 @@ fn guards_of_numbers(rt: HostRuntime) -> Result<(), Fail> {
 #[test]
 fn what_never_holds(rt: HostRuntime) -> Result<(), Fail> {
     let alloc = rt.alloc();
-    assert!(rt; is_written(alloc, &Tree::Never, "0")?);
-    let none = not(alloc, Tree::Never)?;
-    assert!(rt; is_written(alloc, &none, "NOT 0")?);
     let all = Tree::All(two(alloc, Tree::Never, equals(2, 5))?);
-    assert!(rt; is_written(alloc, &all, "0 AND \"Code\" = 5")?);
     let any = Tree::Any(two(alloc, fits(alloc, 0, "b", true)?, Tree::Never)?);
-    assert!(rt; is_written(alloc, &any, "\"Image\" = 'b' OR 0")?);
-    let any = not(alloc, any)?;
-    assert!(rt;
-        is_written(
-            alloc,
-            &any,
-            "NOT (\"Image\" IS NOT NULL AND \"Image\" = 'b' OR 0)"
-        )?
-    );
+    let either = Tree::Any(two(alloc, equals(2, 5), Tree::Never)?);
+    for (tree, want) in &[
+        (Tree::Never, "0"),
+        (not(alloc, Tree::Never)?, "NOT 0"),
+        (all, "0 AND \"Code\" = 5"),
+        (either, "\"Code\" = 5 OR 0"),
+        (
+            not(alloc, any)?,
+            "NOT (\"Image\" IS NOT NULL AND \"Image\" = 'b' OR 0)",
+        ),
+    ] {
+        assert!(rt; is_written(alloc, tree, *want)?, "{want}");
+    }
     Ok(())
 }
 
 #[test]
 fn depths_of_numbers_and_never(rt: HostRuntime) -> Result<(), Fail> {
     let alloc = rt.alloc();
-    assert_eq!(rt; refused_depth(alloc, 0, &Tree::Never)?, 1);
-    assert_eq!(rt; refused_depth(alloc, 1, &Tree::Never)?, 0);
-    let none = not(alloc, Tree::Never)?;
-    assert_eq!(rt; refused_depth(alloc, 1, &none)?, 2);
-    assert_eq!(rt; refused_depth(alloc, 2, &none)?, 0);
-    assert_eq!(rt; refused_depth(alloc, 1, &equals(1, 1))?, 2);
-    assert_eq!(rt; refused_depth(alloc, 2, &equals(1, 1))?, 0);
-    let none = not(alloc, equals(1, 1))?;
-    assert_eq!(rt; refused_depth(alloc, 3, &none)?, 4);
-    assert_eq!(rt; refused_depth(alloc, 4, &none)?, 0);
+    for (tree, limit, want) in &[
+        (Tree::Never, 0, 1),
+        (Tree::Never, 1, 0),
+        (not(alloc, Tree::Never)?, 1, 2),
+        (equals(1, 1), 1, 2),
+        (equals(1, 1), 2, 0),
+        (not(alloc, equals(1, 1))?, 3, 4),
+    ] {
+        assert_eq!(rt; refused_depth(alloc, *limit, tree)?, *want);
+    }
     Ok(())
 }
