@@ -176,7 +176,7 @@ fn read_entries(alloc: Global, limits: &Limits, entries: &[Entry]) -> Result<Det
         (first (list_map (spec.detection_refusal limits.now) (filter spec.is_no_condition (entries_view entries.now)))) result }
     ensures whole { IfOk result (λ all. EachOf IsWholeDetection all) }
 {
-    let mut all = Detections::new(alloc);
+    let mut all = Detections::with_capacity(alloc, entries.len())?;
     for entry in entries {
         if !is_no_condition(entry) {
             continue;

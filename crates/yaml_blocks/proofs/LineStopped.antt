@@ -12,7 +12,7 @@ use Rattle.yaml_lines.proofs.Flows.{length-tail}
 use Rattle.yaml_lines.proofs.Nexts.{next_is, plain_rest_shorter}
 use Rattle.yaml_lines.proofs.Opens.{quote_not_left_out}
 use Rattle.yaml_blocks.specs.LineStops.{quote_of, behind_quote, StopsQuoted, StopsKey, StopsWanting, StopsColon, StopsSeparator, StopsFlowKey, StopsFlowScalar, StopsFlowElement, StopsFlowElements, StopsFlowValue, StopsFlowEntry, StopsFlowEntries, StopsFlow}
-use Rattle.yaml_blocks.proofs.Tools.{choose, allowed, bind_ok, bind_err, ok_same, neither, not_false, not_true}
+use Rattle.yaml_blocks.proofs.Tools.{choose, allowed, bind_ok, inside_ok, bind_err, ok_same, neither, not_false, not_true}
 use Rattle.yaml_blocks.proofs.Rests.{skip_within, quoted_within, fresh_key_within, after_within}
 
 -- ---- quotes
@@ -372,11 +372,6 @@ module _ (node : Line → List ℕ → Front Tree) (N : Line → List ℕ → St
 inside_err : {A : Type 0} (a : At) (c : ℕ) (r : Read A) (s : Stop) → inside_open a c r ≡ Err s → (t : Stop) × (r ≡ Err t) × (s ≡ opened a c t)
 inside_err a c (Ok x) s e = cc
 inside_err a c (Err t) s e = (t, refl, cc)
-
-inside_ok : {A : Type 0} (a : At) (c : ℕ) (r : Read A) (x : A) → inside_open a c r ≡ Ok x → r ≡ Ok x
-inside_ok a c (Ok y) x e = e
-inside_ok a c (Err (refused code place)) x e = cc
-inside_ok a c (Err (unclosed n opens)) x e = cc
 
 front_err : {A B : Type 0} (f : A → B) (r : Front A) (s : Stop) → front_map f r ≡ Err s → r ≡ Err s
 front_err f r s e = elim (bind_err r _ s e) [ inl h ↦ h | inr h ↦ cc ]

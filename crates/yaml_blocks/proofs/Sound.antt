@@ -9,18 +9,13 @@ use Rattle.yaml_lines.specs.Key.{Keyed, keyed, unkeyed, key_stop, key_at}
 use Rattle.yaml_blocks.specs.Blocks.{skip_comments, alone}
 use Rattle.yaml_blocks.specs.Reading.{Item, offset, is_level, key_of, item_key, key_in, behind_in, element_in, elements_in, entry_in, entries_in, scalar_or_flow_in, node_in, block_from, block_with, block_in, too_deep}
 use Rattle.yaml_blocks.specs.Lays.{IsFlow, IsNoCollection, IsDashed, IsKeyed, LaysBlock, LaysElement, LaysValue, LaysNode, LaysElements, LaysMembers, Lays}
-use Rattle.yaml_blocks.proofs.Tools.{choose, allowed, bind_ok, ok_same, either, neither, both, none_of, not_false}
+use Rattle.yaml_blocks.proofs.Tools.{choose, allowed, bind_ok, inside_ok, ok_same, either, neither, both, none_of, not_false}
 use Rattle.yaml_blocks.proofs.Cases.{lists, maps, node_cases, alone_ok}
 
 -- ---- flow collections
 
 front_ok : {A B : Type 0} (f : A → B) (r : Front A) (q : B × List ℕ) → front_map f r ≡ Ok q → (x : A) × (f x ≡ q.0)
 front_ok f r q e = let (p, at, same) = bind_ok r _ q e in (p.0, cc)
-
-inside_ok : {A : Type 0} (a : At) (c : ℕ) (r : Read A) (x : A) → inside_open a c r ≡ Ok x → r ≡ Ok x
-inside_ok a c (Ok y) x e = e
-inside_ok a c (Err (refused code place)) x e = cc
-inside_ok a c (Err (unclosed n opens)) x e = cc
 
 -- a bracket makes a collection
 map_from-scalar : (bracket a : At) (s : Scalar) (ms : Members) → map_from bracket ms ≡ scalar a s → ⊥

@@ -1,6 +1,8 @@
 -- What a reading that is an `if` or a chain gives.
-use Rattle.std.proofs.Common.{◌≡◌, Bool, true, false, not, cond, ◌&&◌, ◌||◌, ◌⊎◌, inl, inr, Option, Some, None, is_some, Ok, Err, refl}
-use Rattle.yaml_lines.specs.Line.{Stop, Read, ◌>>=◌}
+use Rattle.std.proofs.Common.{◌≡◌, ℕ, Bool, true, false, not, cond, ◌&&◌, ◌||◌, ◌⊎◌, inl, inr, Option, Some, None, is_some, Ok, Err, refl}
+use Rattle.yaml_tree.specs.Tree.{At}
+use Rattle.yaml_lines.specs.Line.{Stop, refused, unclosed, Read, ◌>>=◌}
+use Rattle.yaml_lines.specs.Flow.{inside_open}
 
 pub choose : {A : Type 0} (b : Bool) (x y z : A) → cond b x y ≡ z → ((b ≡ true) × (x ≡ z)) ⊎ ((b ≡ false) × (y ≡ z))
 choose true x y z e = inl (refl, e)
@@ -18,6 +20,12 @@ bind_ok (Err s) f y e = cc
 pub bind_err : {A B : Type 0} (r : Read A) (f : A → Read B) (s : Stop) → (r >>= f) ≡ Err s → (r ≡ Err s) ⊎ ((x : A) × (r ≡ Ok x) × (f x ≡ Err s))
 bind_err (Ok x) f s e = inr (x, refl, e)
 bind_err (Err t) f s e = inl (cc)
+
+-- inside something that opened, what is read is read
+pub inside_ok : {A : Type 0} (a : At) (c : ℕ) (r : Read A) (x : A) → inside_open a c r ≡ Ok x → r ≡ Ok x
+inside_ok a c (Ok y) x e = e
+inside_ok a c (Err (refused code place)) x e = cc
+inside_ok a c (Err (unclosed n opens)) x e = cc
 
 pub ok_same : {A : Type 0} (x y : A) → ((let r : Read A = Ok x in r) ≡ Ok y) → x ≡ y
 ok_same x y e = cc

@@ -23,6 +23,11 @@ pub nothing_unexpected : (xs : List code.Line) (i : ℕ) (x : code.Line) → i <
 unfolding nothing_in
 nothing_unexpected xs i x h x_is comment = ap (λ (ys : List code.Line). nothing_in (lines_view ys)) (drop_at xs i x h x_is) ∙ rw comment refl
 
+-- a line that carries something stands there
+pub nothing_not : (xs : List code.Line) (i : ℕ) (x : code.Line) → i < length xs → x ≡ get_or xs i x → is_comment (line_view x) ≡ false
+    → nothing_in (lines_view (drop i xs)) ≡ Ok tt → ⊥
+nothing_not xs i x h x_is comment e = let stop = nothing_unexpected xs i x h x_is comment in cc
+
 pub nothing_end : (xs : List code.Line) (i : ℕ) → length xs ≤ i → nothing_in (lines_view (drop i xs)) ≡ Ok tt
 unfolding nothing_in
 nothing_end xs i h = at_drop_all (λ (ys : List code.Line). nothing_in (lines_view ys)) xs i h

@@ -1,6 +1,6 @@
 //! Plain scalars, which may go on over continuation lines (YAML 1.2, 7.3.3 and 6.5 on folding).
 
-ghost use Rattle.std.specs.Prelude.{◌≡◌, ◌≤◌, ◌++◌, ℕ, length, drop, Ok, IfOk, IfSome, OnOk};
+ghost use Rattle.std.specs.Prelude.{◌≡◌, ◌≤◌, ◌++◌, ℕ, length, drop, Ok, IfOk, MatchOption, OnOk};
 ghost use Rattle.yaml_lines.specs.Scalar as scalar;
 ghost use Rattle.yaml_lines.specs.View.{line_view, Gives};
 ghost use Rattle.yaml_blocks.specs.Blocks as spec;
@@ -103,14 +103,18 @@ pub enum PlainText<'t> {
     Joined(Text),
 }
 
-/// The front, where it's all that its line and the lines behind it have.
+/// The front, where nothing more stands on the lines; nothing where something does.
+#[tactic(auto, using(crate::proofs::Turns::nothing_comment, crate::proofs::Turns::nothing_end))]
 fn all_there<'t>(front: &'t [char], lines: &[Line<'_>]) -> Option<&'t [char]>
-    ensures { IfSome result (λ all. (all.now ≡ front.now) × (spec.nothing_in (lines_view lines.now) ≡ Ok tt)) }
+    ensures { MatchOption result (spec.nothing_in (lines_view lines.now) ≡ Ok tt → ⊥)
+        (λ all. (all.now ≡ front.now) × (spec.nothing_in (lines_view lines.now) ≡ Ok tt)) }
 {
-    match nothing_in(lines) {
-        Ok(()) => Some(front),
-        Err(_) => None,
+    for line in lines {
+        if !is_comment(line) {
+            return None;
+        }
     }
+    Some(front)
 }
 
 /// The text of the plain scalar that begins here, which may go on over the lines of its block.

@@ -7,7 +7,7 @@ use Rattle.yaml_lines.specs.Scalar.{resolved}
 use Rattle.yaml_lines.specs.Flow.{Front, front_map, inside_open, is_quote, fresh_key, after_element, is_bracket, flow_element, flow_elements, flow_value, flow_entry, flow_members, flow_scalar, map_from, flow_node}
 use Rattle.yaml_lines.proofs.Flows.{length-tail}
 use Rattle.yaml_lines.proofs.Nexts.{next_is, plain_rest_shorter}
-use Rattle.yaml_blocks.proofs.Tools.{choose, allowed, bind_ok, ok_same}
+use Rattle.yaml_blocks.proofs.Tools.{choose, allowed, bind_ok, inside_ok, ok_same}
 use Rattle.yaml_bounds.specs.Nodes.{nodes, element_nodes, value_nodes}
 use Rattle.yaml_blocks.proofs.Rests.{skip_within, tail_within, quoted_within, fresh_key_within, after_within}
 
@@ -20,11 +20,6 @@ paid_same {A = A} count cs p q e h = omega (arith, ap (λ (x : A × List ℕ). c
 
 front_ok : {A B : Type 0} (f : A → B) (r : Front A) (q : B × List ℕ) → front_map f r ≡ Ok q → (p : A × List ℕ) × (r ≡ Ok p) × ((f p.0, p.1) ≡ q)
 front_ok f r q e = let (p, at, same) = bind_ok r _ q e in (p, at, ok_same (f p.0, p.1) q same)
-
-inside_ok : {A : Type 0} (a : At) (c : ℕ) (r : Read A) (x : A) → inside_open a c r ≡ Ok x → r ≡ Ok x
-inside_ok a c (Ok y) x e = e
-inside_ok a c (Err (refused code place)) x e = cc
-inside_ok a c (Err (unclosed n opens)) x e = cc
 
 -- something stands behind the blanks
 next : (rest : List ℕ) → ends_line rest ≡ false → blank_or_end (skip_blanks rest) ≡ false
