@@ -1,9 +1,9 @@
 -- Tables of small texts with what they are, reckoned by hand from YAML 1.2 and the profile's differences.
-use Rattle.std.proofs.Common.{◌≡◌, ℕ, List, [], ◌∷◌, codes, pos, negsuc, true, false, map as list_map, refl}
+use Rattle.std.proofs.Common.{◌≡◌, ℕ, List, [], ◌∷◌, codes, pos, negsuc, true, false, map as list_map, Err, refl}
 use Rattle.yaml_tree.specs.Tree.{Scalar, null, truth, text, whole, Tree, scalar, list, map, no_elements, element, no_members, Answer, tree, refusal}
-use Rattle.yaml_lines.specs.File.{line_texts, lines_of, is_parting, is_marker, parted, documents_of, skip_blanks, carries_nothing, ends_line}
-use Rattle.yaml_lines.specs.Line.{indentation, indent, body, is_comment, is_empty_line, bad_start, unexpected, plain_len, trimmed, plain_front, plain_rest}
-use Rattle.yaml_lines.specs.Scalar.{value_within, whole_of, resolved, single, escape, double, block_text}
+use Rattle.yaml_lines.specs.File.{Line, line_texts, lines_of, is_parting, is_marker, parted, documents_of, skip_blanks, carries_nothing, ends_line}
+use Rattle.yaml_lines.specs.Line.{indentation, indent, body, is_comment, is_empty_line, bad_start, unexpected, plain_len, trimmed, plain_front, plain_rest, Read, refused, unclosed, stops, is_indicator, starts_plain, is_dash, is_left_out}
+use Rattle.yaml_lines.specs.Scalar.{value_within, whole_of, resolved, single, escape, double, begins_blank, block_text}
 use Rattle.yaml_lines.specs.Flow.{quoted, behind_colon, flow_key, fresh_key, after_element, flow_element, flow_elements, flow_value, flow_entry, flow_members, flow_scalar, flow_node}
 use Rattle.yaml_lines.specs.Key.{key_at}
 use Rattle.yaml_blocks.specs.Blocks.{nothing_in, continuation, more_plain, plain_text, scalar_lines, block_scalar}
@@ -446,3 +446,106 @@ blocks : told
     ∷ (tree (list (at 1 1) (element (list (at 1 3) (element (list (at 1 5) (element (text_at 1 7 (codes "a")) no_elements)) no_elements)) no_elements)) ∷ []) ∷ [])
 unfolding line_texts lines_of documents_of parted is_parting is_marker skip_blanks carries_nothing ends_line indentation indent body is_comment is_empty_line bad_start unexpected plain_len trimmed plain_front plain_rest value_within whole_of resolved single escape double block_text quoted behind_colon flow_key fresh_key after_element flow_element flow_elements flow_value flow_entry flow_members flow_scalar flow_node nothing_in key_at continuation more_plain plain_text scalar_lines block_scalar element_in item_key key_in entry_in scalar_or_flow_in node_in
 blocks = refl
+
+-- Blanks, characters at the edge of what is allowed, signs, escapes behind escapes, and keys farther up (YAML 1.2, 5.1, 5.3, 5.7, 6.2, 7.4).
+signs : told
+    (codes "a: \"b\" "
+    ∷ codes "a: b  "
+    ∷ codes "a: b\t# c"
+    ∷ codes "a: \u{1f}"
+    ∷ codes "a: \u{7f}"
+    ∷ codes "a: b # \u{1f}"
+    ∷ codes "a: ~b \u{80}"
+    ∷ codes "... a"
+    ∷ codes "...."
+    ∷ codes "[#a]"
+    ∷ codes "[|a]"
+    ∷ codes "[>a]"
+    ∷ codes "[$a, =b, (c, )d, _e]"
+    ∷ codes "\"\\n\\q\""
+    ∷ codes "\"\\x41\\q\""
+    ∷ codes "\"\\x4A\\xaF\""
+    ∷ codes "\"\\x4G\""
+    ∷ codes "\"\\x4@\""
+    ∷ codes "\"\\x4`\""
+    ∷ codes "{\"a\" : b}"
+    ∷ codes "[\"a\" , 'b' ]"
+    ∷ codes "[a,b]"
+    ∷ codes "{a, b: c}"
+    ∷ codes "{<<, b: c}"
+    ∷ codes "{a:\n}"
+    ∷ codes "{a: 1, b: 2, a: 3}"
+    ∷ codes "a: 1\nb: 2\na: 3" ∷ [])
+    ≡ ((at_a (text_at 1 4 (codes "b")))
+    ∷ (at_a (text_at 1 4 (codes "b")))
+    ∷ (at_a (text_at 1 4 (codes "b")))
+    ∷ (is_refused 4 1 1)
+    ∷ (is_refused 4 1 1)
+    ∷ (is_refused 4 1 1)
+    ∷ (at_a (text_at 1 4 (126 ∷ 98 ∷ 32 ∷ 128 ∷ [])))
+    ∷ (is_refused 3 1 1)
+    ∷ (is_text (codes "...."))
+    ∷ (is_refused 4 1 1)
+    ∷ (is_refused 4 1 1)
+    ∷ (is_refused 4 1 1)
+    ∷ (tree (list (at 1 1) (element (text_at 1 2 (codes "$a")) (element (text_at 1 6 (codes "=b")) (element (text_at 1 10 (codes "(c")) (element (text_at 1 14 (codes ")d")) (element (text_at 1 18 (codes "_e")) no_elements)))))) ∷ [])
+    ∷ (is_refused 9 1 4)
+    ∷ (is_refused 9 1 6)
+    ∷ (is_text (74 ∷ 175 ∷ []))
+    ∷ (is_refused 9 1 2)
+    ∷ (is_refused 9 1 2)
+    ∷ (is_refused 9 1 2)
+    ∷ (tree (map (at 1 2) (entry 1 2 (codes "a") (text_at 1 8 (codes "b")) no_members)) ∷ [])
+    ∷ (tree (list (at 1 1) (element (text_at 1 2 (codes "a")) (element (text_at 1 8 (codes "b")) no_elements))) ∷ [])
+    ∷ (tree (list (at 1 1) (element (text_at 1 2 (codes "a")) (element (text_at 1 4 (codes "b")) no_elements))) ∷ [])
+    ∷ (is_refused 4 1 1)
+    ∷ (is_refused 4 1 1)
+    ∷ (is_refused 3 1 1)
+    ∷ (is_refused 5 1 14)
+    ∷ (is_refused 5 3 1) ∷ [])
+unfolding line_texts lines_of documents_of parted is_parting is_marker skip_blanks carries_nothing ends_line indentation indent body is_comment is_empty_line bad_start unexpected plain_len trimmed plain_front plain_rest value_within whole_of resolved single escape double block_text quoted behind_colon flow_key fresh_key after_element flow_element flow_elements flow_value flow_entry flow_members flow_scalar flow_node nothing_in key_at continuation more_plain plain_text scalar_lines block_scalar element_in item_key key_in entry_in scalar_or_flow_in node_in
+signs = refl
+
+-- Where a reading stops on one line, with the openings that nothing closes there, outermost first.
+abbrev line_seven : List ℕ → Line
+line_seven cs = record { number = 7; text = cs }
+
+abbrev stops_of : List (List ℕ) → List (Read (Tree × List ℕ))
+stops_of texts = list_map (λ cs. flow_node 3 (line_seven cs) cs) texts
+
+stops_inside : stops_of
+    (codes "[a"
+    ∷ codes "[b, {c: 'd"
+    ∷ codes "{\"a"
+    ∷ codes "[[[[a]]]]"
+    ∷ codes "[a b: c]" ∷ [])
+    ≡ ((Err (unclosed 7 ((at 7 1, 93) ∷ [])))
+    ∷ (Err (unclosed 7 ((at 7 1, 93) ∷ (at 7 5, 125) ∷ (at 7 9, 39) ∷ [])))
+    ∷ (Err (unclosed 7 ((at 7 1, 125) ∷ (at 7 2, 34) ∷ [])))
+    ∷ (Err (refused 6 (at 7 4)))
+    ∷ (Err (refused 3 (at 7 2))) ∷ [])
+unfolding line_texts lines_of documents_of parted is_parting is_marker skip_blanks carries_nothing ends_line indentation indent body is_comment is_empty_line bad_start unexpected plain_len trimmed plain_front plain_rest value_within whole_of resolved single escape double block_text quoted behind_colon flow_key fresh_key after_element flow_element flow_elements flow_value flow_entry flow_members flow_scalar flow_node nothing_in key_at continuation more_plain plain_text scalar_lines block_scalar element_in item_key key_in entry_in scalar_or_flow_in node_in
+stops_inside = refl
+
+-- Why nothing more may stand on a line.
+unexpected_lines : list_map (λ cs. unexpected (line_seven cs)) (codes "--- x" ∷ codes "..." ∷ codes "  \tx" ∷ codes "  x" ∷ [])
+    ≡ (refused 3 (at 7 1) ∷ refused 3 (at 7 1) ∷ refused 8 (at 7 3) ∷ refused 4 (at 7 1) ∷ [])
+unfolding line_texts lines_of documents_of parted is_parting is_marker skip_blanks carries_nothing ends_line indentation indent body is_comment is_empty_line bad_start unexpected plain_len trimmed plain_front plain_rest value_within whole_of resolved single escape double block_text quoted behind_colon flow_key fresh_key after_element flow_element flow_elements flow_value flow_entry flow_members flow_scalar flow_node nothing_in key_at continuation more_plain plain_text scalar_lines block_scalar element_in item_key key_in entry_in scalar_or_flow_in node_in
+unexpected_lines = refl
+
+-- An empty plain scalar is null (YAML 1.2, 10.3.2).
+empty_is_null : resolved [] ≡ null
+unfolding line_texts lines_of documents_of parted is_parting is_marker skip_blanks carries_nothing ends_line indentation indent body is_comment is_empty_line bad_start unexpected plain_len trimmed plain_front plain_rest value_within whole_of resolved single escape double block_text quoted behind_colon flow_key fresh_key after_element flow_element flow_elements flow_value flow_entry flow_members flow_scalar flow_node nothing_in key_at continuation more_plain plain_text scalar_lines block_scalar element_in item_key key_in entry_in scalar_or_flow_in node_in
+empty_is_null = refl
+
+-- The characters that begin no plain scalar, and others (YAML 1.2, 5.3).
+indicators : list_map is_indicator (codes ",[]{}#&*!|>'\"%@`") ≡ (true ∷ true ∷ true ∷ true ∷ true ∷ true ∷ true ∷ true ∷ true ∷ true ∷ true ∷ true ∷ true ∷ true ∷ true ∷ true ∷ [])
+indicators = refl
+
+no_indicators : list_map is_indicator (codes "-?:$()+;<=^_~") ≡ (false ∷ false ∷ false ∷ false ∷ false ∷ false ∷ false ∷ false ∷ false ∷ false ∷ false ∷ false ∷ false ∷ [])
+no_indicators = refl
+
+-- What a text without characters begins and ends.
+at_the_end : (stops false [] ∷ stops true [] ∷ starts_plain [] ∷ is_dash [] ∷ is_left_out [] ∷ begins_blank [] ∷ begins_blank (codes "\ta") ∷ [])
+    ≡ (true ∷ true ∷ false ∷ false ∷ false ∷ false ∷ true ∷ [])
+at_the_end = refl

@@ -1,5 +1,5 @@
 -- Nodes that begin with a quote.
-use Rattle.std.proofs.Common.{◌≡◌, ℕ, true, List, Ok, Err, refl, ◌∙◌}
+use Rattle.std.proofs.Common.{◌≡◌, ℕ, true, List, Ok, Err, refl, sym, ap, ◌∙◌}
 use Rattle.yaml_tree.specs.Tree.{text, scalar}
 use Rattle.yaml_lines.specs.File.{Line, skip_blanks}
 use Rattle.yaml_lines.specs.Line.{Stop, Read, ◌>>=◌, spot}
@@ -23,6 +23,10 @@ scalar_or_flow_quoted d m l cs ls e = rw (quote_not_left_out cs e, quote_no_perc
 key_quoted : (l : Line) (cs : List ℕ) → is_quote cs ≡ true → key_at l cs ≡ quoted_key (quoted l cs)
 unfolding key_at
 key_quoted l cs e = rw (quote_not_left_out cs e, e) refl
+
+-- the key that stands in quotes
+pub key_in_quotes : (l : Line) (cs k after others : List ℕ) → is_quote cs ≡ true → quoted l cs ≡ Ok (k, after) → keyed k others ≡ colon_then k (skip_blanks after) → key_at l cs ≡ keyed k others
+key_in_quotes l cs k after others e read key = key_quoted l cs e ∙ (ap quoted_key read ∙ sym key)
 
 node_quoted : (d m : ℕ) (l : Line) (cs : List ℕ) (ls : List Line) → is_quote cs ≡ true
     → node_in d true m l cs ls ≡ quoted l cs >>= (λ q. keyed_then (colon_then q.0 (skip_blanks q.1)) (mapping_in d l cs ls) (alone l q.1 ls (scalar (spot l cs) (text q.0))))

@@ -1,5 +1,5 @@
 -- The items of a block, a turn at a time.
-use Rattle.std.proofs.Common.{◌≡◌, ℕ, zero, suc, ◌+◌, ◌<◌, ◌≤◌, Bool, true, false, cond, Option, Some, None, is_some, IfSome, List, [], ◌∷◌, ◌++◌, length, get_or, drop, Ok, Err, refl, sym, ap, ◌∙◌, subst, arith}
+use Rattle.std.proofs.Common.{◌≡◌, ℕ, zero, suc, ◌+◌, ◌-◌, ◌<◌, ◌≤◌, Bool, true, false, cond, Option, Some, None, is_some, IfSome, List, [], ◌∷◌, ◌++◌, length, get_or, drop, Ok, Err, refl, sym, ap, ◌∙◌, subst, arith}
 use Rattle.std.specs.Prelude.{map as list_map}
 use Rattle.std.proofs.lemmas.List.{drop-drop, at_drop_all}
 use Rattle.std.proofs.lemmas.Bool.Decides.{nat_tests}
@@ -257,6 +257,13 @@ key_fails_at (Some s) found read h step = step s h
 
 pub key_fails : {A : Type 0} (h : Halt) (found : Keyed) (read : Read A) → IfSome (halt_view h) (λ s. found ≡ key_stop s) → ((s : Stop) → found ≡ key_stop s → read ≡ Err s) → Fails h read
 key_fails h found read e step = key_fails_at (halt_view h) found read e step
+
+pub map_stop : (d : ℕ) (l : Line) (cs : List ℕ) (ls : List Line) (s : Stop) → (d ≡ 0 → ⊥) → entries_at (d - 1) (offset l cs) [] (items_of true l cs ls) ≡ Err s → mapping_in d l cs ls ≡ Err s
+map_stop zero l cs ls s some e = absurd (some refl)
+map_stop (suc d) l cs ls s some e =
+    let same : suc d - 1 ≡ d = omega arith in
+    let stop : entries_at d (offset l cs) [] (items_of true l cs ls) ≡ Err s = ap (λ (n : ℕ). entries_at n (offset l cs) [] (items_of true l cs ls)) (sym same) ∙ e in
+    rw stop refl
 
 -- ---- what stands behind a dash or a colon
 

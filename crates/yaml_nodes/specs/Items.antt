@@ -1,5 +1,6 @@
 -- The blocks' reading, as the readers of its parts give it.
-use Rattle.std.specs.Prelude.{◌≡◌, ◌≤◌, length, ℕ, zero, suc, false, Bool, List, Ok}
+use Rattle.std.specs.Prelude.{◌≡◌, ◌<◌, ◌≤◌, length, ℕ, zero, suc, false, Bool, List, Option, Some, None, Ok}
+use Rattle.std.specs.Borrow.{Bor}
 use Rattle.std.specs.declared.vec.Vec.{Vec}
 use Rattle.std.specs.declared.alloc.Global.{Global}
 use Rattle.yaml_tree.specs.Tree.{At, Tree, scalar, Elements, Members, Member}
@@ -10,6 +11,7 @@ use Rattle.yaml_lines.specs.declared.line.Line as code
 use Rattle.yaml_lines.specs.File.{Line, blank_or_end, carries_nothing, skip_blanks}
 use Rattle.yaml_lines.specs.Line.{spot, Read, ◌>>=◌}
 use Rattle.yaml_lines.specs.Scalar.{resolved}
+use Rattle.yaml_lines.specs.Key.{keyed, key_at}
 use Rattle.yaml_lines.specs.View.{line_view}
 use Rattle.yaml_blocks.specs.Blocks.{plain_text}
 use Rattle.yaml_blocks.specs.Reading.{Item, behind_in, element_in, elements_in, entry_in, entries_in, sequence_in, map_in, too_deep, block_with, node_in}
@@ -63,3 +65,12 @@ pub record IsContent (rest next : List ℕ) : Type 0 where
   pub next_is : next ≡ skip_blanks rest
   pub solid : blank_or_end next ≡ false
   pub within : length next ≤ length rest
+
+-- the key that begins here, and what is left behind its colon
+abbrev pub IsKey : Line → List ℕ → List ℕ → List ℕ → Type 0
+IsKey l cs k rest = (key_at l cs ≡ keyed k rest) × (length rest < length cs)
+
+-- where the key that begins here was read already, it is this one
+abbrev pub IsRead : Line → List ℕ → Option (List ℕ × Bor (List ℕ)) → Type 0
+IsRead l cs None = Unit {0}
+IsRead l cs (Some p) = IsKey l cs p.0 p.1.now

@@ -81,10 +81,11 @@ fn node(
     if is_quote(rest) {
         return quoted_node(alloc, depth, line, rest, lines);
     }
-    let Some(_) = plain_key_at(line, rest)? else {
+    let Some(found) = plain_key_at(line, rest)? else {
         return scalar_or_flow(alloc, depth, least, line, rest, lines);
     };
-    map(alloc, depth, line, rest, lines)
+    let key = Text::from_chars(alloc, found.0)?;
+    map(alloc, depth, line, rest, key, found.1, lines)
 }
 
 /// The node that begins here with a quote: a map where its first key stands in quotes, or a text.
@@ -102,7 +103,7 @@ fn quoted_node(
 {
     let (content, after) = quoted(alloc, line, rest)?;
     match past_colon(skip_blanks(after)) {
-        Some(_) => map(alloc, depth, line, rest, lines),
+        Some(others) => map(alloc, depth, line, rest, content, others, lines),
         None => alone(line, after, lines, Node::text(spot(line, rest), content)),
     }
 }
@@ -126,22 +127,25 @@ fn sequence(
     Ok(Node::list(spot(line, rest), elements))
 }
 
-/// The map that begins here, with collections at most so deep, itself counted.
+/// The map that begins here with this key, with collections at most so deep, itself counted.
 #[cycle(node)]
-fn map(
+fn map<'t>(
     alloc: Global,
     depth: usize,
     line: &Line<'_>,
-    rest: &[char],
+    rest: &'t [char],
+    key: Text,
+    after: &'t [char],
     lines: &[Line<'_>],
 ) -> Result<Node, Halt>
-    requires { length rest.now ≤ length line.now.text.now }
+    requires within { length rest.now ≤ length line.now.text.now }
+    requires key { spec.IsKey (line_view line.now) rest.now key after.now }
     ensures { Gives node_view result (spec.mapping_in depth (line_view line.now) rest.now (lines_view lines.now)) }
 {
     if depth == 0 {
         return Err(refused(Code::TOO_DEEP, line, rest));
     }
-    let entries = entries(alloc, depth - 1, line, rest, lines)?;
+    let entries = entries(alloc, depth - 1, line, rest, key, after, lines)?;
     Ok(Node::map(spot(line, rest), entries))
 }
 
@@ -209,53 +213,68 @@ fn element(
     }
 }
 
-/// The entries of the map that begins here.
+/// The entries of the map that begins here with this key.
 #[cycle(node)]
-fn entries(
+fn entries<'t>(
     alloc: Global,
     depth: usize,
     line: &Line<'_>,
-    rest: &[char],
+    rest: &'t [char],
+    key: Text,
+    after: &'t [char],
     lines: &[Line<'_>],
 ) -> Result<Vec<Entry>, Halt>
-    requires { length rest.now ≤ length line.now.text.now }
+    requires within { length rest.now ≤ length line.now.text.now }
+    requires key { spec.IsKey (line_view line.now) rest.now key after.now }
     ensures { Gives spec.entries_given result (spec.entries_at depth (reading.offset (line_view line.now) rest.now) [] (reading.items_of true (line_view line.now) rest.now (lines_view lines.now))) }
 {
     let level = offset(line, rest);
     let mut seen = Seen::new(alloc);
     let mut entries = Vec::new(alloc);
     let inner = lines_inside(true, level, lines);
-    let first = entry(alloc, depth, level, &mut seen, line, rest, inner)?;
+    let read = Some((key, after));
+    let first = entry(alloc, depth, level, &mut seen, line, rest, read, inner)?;
     push_fitting(&mut entries, first)?;
     let mut at = inner.len();
     while at < lines.len() {
         let line = &lines[at];
         let others = lines_behind(lines, at + 1);
         let inner = lines_inside(true, level, others);
-        let next = entry(alloc, depth, level, &mut seen, line, body(line), inner)?;
+        let next = entry(
+            alloc,
+            depth,
+            level,
+            &mut seen,
+            line,
+            body(line),
+            None,
+            inner,
+        )?;
         push_fitting(&mut entries, next)?;
         at += 1 + inner.len();
     }
     Ok(entries)
 }
 
-/// The entry of an item, whose key isn't one of those seen.
+/// The entry of an item, whose key may be read already, and isn't one of those seen.
 #[cycle(node)]
 #[tactic(auto, unfolding(yaml_blocks::specs::Reading::entry_in))]
-fn entry(
+fn entry<'t>(
     alloc: Global,
     depth: usize,
     level: usize,
     seen: &mut Seen,
     line: &Line<'_>,
-    rest: &[char],
+    rest: &'t [char],
+    read: Option<(Text, &'t [char])>,
     inner: &[Line<'_>],
 ) -> Result<Entry, Halt>
-    requires { length rest.now ≤ length line.now.text.now }
+    requires within { length rest.now ≤ length line.now.text.now }
+    requires read { spec.IsRead (line_view line.now) rest.now read }
     ensures entry { (ks : List (List ℕ)) → Knows seen.old ks → Gives entry_view result (spec.entry_at depth level ks (spec.item line.now rest.now inner.now)) }
     ensures seen { (ks : List (List ℕ)) → Knows seen.old ks → IfOk result (λ e. Knows seen.new (ks ++ (entry_view e).key ∷ [])) }
 {
-    let (key, after) = fresh_key(alloc, level, seen, line, rest)?;
+    let (key, after) = fresh_key(alloc, level, seen, line, rest, read)?;
     let place = spot(line, rest);
     let value = value(alloc, depth, level, place, line, after, inner)?;
     Ok(Entry { key, place, value })
@@ -289,8 +308,10 @@ fn item_key<'t>(
     level: usize,
     line: &Line<'_>,
     rest: &'t [char],
+    read: Option<(Text, &'t [char])>,
 ) -> Result<(Text, &'t [char]), Halt>
-    requires { length rest.now ≤ length line.now.text.now }
+    requires within { length rest.now ≤ length line.now.text.now }
+    requires read { spec.IsRead (line_view line.now) rest.now read }
     ensures key { Gives text_front result (reading.item_key level (line_view line.now) rest.now) }
     ensures short { IfOk result (λ p. level < 4294967295) }
     ensures shorter { IfOk result (λ p. length p.1.now < length rest.now) }
@@ -300,6 +321,9 @@ fn item_key<'t>(
     }
     if offset(line, rest) != level {
         return Err(no_reading(line));
+    }
+    if let Some(found) = read {
+        return Ok(found);
     }
     match key_at(alloc, line, rest)? {
         Some((key, after)) => Ok((key, after)),
@@ -315,14 +339,16 @@ fn fresh_key<'t>(
     seen: &mut Seen,
     line: &Line<'_>,
     rest: &'t [char],
+    read: Option<(Text, &'t [char])>,
 ) -> Result<(Text, &'t [char]), Halt>
-    requires { length rest.now ≤ length line.now.text.now }
+    requires within { length rest.now ≤ length line.now.text.now }
+    requires read { spec.IsRead (line_view line.now) rest.now read }
     ensures key { (ks : List (List ℕ)) → Knows seen.old ks → Gives text_front result (reading.key_in level ks (line_view line.now) rest.now) }
     ensures seen { (ks : List (List ℕ)) → Knows seen.old ks → IfOk result (λ p. Knows seen.new (ks ++ p.0 ∷ [])) }
     ensures short { IfOk result (λ p. level < 4294967295) }
     ensures shorter { IfOk result (λ p. length p.1.now < length rest.now) }
 {
-    let (key, after) = item_key(alloc, level, line, rest)?;
+    let (key, after) = item_key(alloc, level, line, rest, read)?;
     let fresh = seen.insert(alloc, &key)?;
     if fresh {
         Ok((key, after))

@@ -1,10 +1,10 @@
-use Rattle.std.proofs.Common.{◌≡◌, ℕ, ◌+◌, Bool, List, [], ◌∷◌, ◌++◌, drop, true, false, sym, ap, ◌∙◌, subst, rules}
+use Rattle.std.proofs.Common.{◌≡◌, ℕ, ◌+◌, ◌-◌, Bool, List, [], ◌∷◌, ◌++◌, drop, true, false, sym, ap, ◌∙◌, subst, rules}
 use Rattle.yaml_tree.specs.Tree.{At, Tree, scalar, text}
 use Rattle.yaml_tree.specs.View.{place_view, node_view, entry_view, nodes_view, entries_view}
 use Rattle.yaml_lines.specs.File.{blank_or_end, carries_nothing}
 use Rattle.yaml_lines.specs.Line.{Read, spot}
 use Rattle.yaml_lines.specs.Flow.{quoted}
-use Rattle.yaml_lines.specs.Key.{colon_then, key_at}
+use Rattle.yaml_lines.specs.Key.{keyed, colon_then, key_at}
 use Rattle.yaml_lines.specs.Keys.{parts_view}
 use Rattle.yaml_lines.specs.View.{line_view, Gives}
 use Rattle.yaml_lines.proofs.Failing.{fails_more, gives_err}
@@ -13,10 +13,10 @@ use Rattle.yaml_lines.proofs.SeenLemmas.{knows_none}
 use Rattle.yaml_blocks.specs.Blocks.{alone}
 use Rattle.yaml_blocks.specs.Reading.{Item, items_of, offset, after_spaces, node_in, block_with}
 use Rattle.yaml_blocks.specs.Views.{lines_view}
-use Rattle.yaml_nodes.specs.Items.{item, element_at, entry_at, elements_at, entries_at, elements_given, entries_given, IsContent}
+use Rattle.yaml_nodes.specs.Items.{item, mapping_in, element_at, entry_at, elements_at, entries_at, elements_given, entries_given, IsContent}
 use Rattle.yaml_nodes.proofs.Contents.{body_solid}
-use Rattle.yaml_nodes.proofs.Turns.{first_item, next_item, outside_rest, outside_next, elements_first, elements_more, elements_stop_first, elements_stop, elements_end, entries_first, entries_more, entries_stop_first, entries_stop, entries_end, knows_grown, node_no, node_list, node_map, node_scalar_or_flow, node_stop, key_fails, dashed_is, behind_block, behind_node, first_solid}
-use Rattle.yaml_nodes.proofs.QuotedNodes.{quoted_stop, quoted_map, quoted_text}
+use Rattle.yaml_nodes.proofs.Turns.{first_item, next_item, outside_rest, outside_next, elements_first, elements_more, elements_stop_first, elements_stop, elements_end, entries_first, entries_more, entries_stop_first, entries_stop, entries_end, knows_grown, node_no, node_list, node_map, node_scalar_or_flow, node_stop, key_fails, dashed_is, behind_block, behind_node, first_solid, map_stop}
+use Rattle.yaml_nodes.proofs.QuotedNodes.{quoted_stop, quoted_map, quoted_text, key_in_quotes}
 use Rattle.yaml_nodes.proofs.node.+node.Goals as goal
 
 pub block-node-requires : goal.block-node-requires
@@ -206,24 +206,24 @@ node-returns-then-is_dash t c =
     subst (λ (r : Read Tree). Gives node_view c.sequence.result r)
     (sym (node_list c.args.depth c.args.may c.args.least (line_view c.args.line.now) c.args.rest.now (lines_view c.args.lines.now) c.if-not-may.false (sym c.is_dash.ensures ∙ c.if-is_dash.true))) c.sequence.ensures
 
-pub node-returns-in_err-plain_key_at : goal.node-returns-in_err-plain_key_at
-node-returns-in_err-plain_key_at t c =
+pub node-returns-in_err-found : goal.node-returns-in_err-found
+node-returns-in_err-found t c =
     let whole = node_in c.args.depth c.args.may c.args.least (line_view c.args.line.now) c.args.rest.now (lines_view c.args.lines.now) in
-    let e = c.in_err-plain_key_at.field-0.0 in
+    let e = c.in_err-found.field-0.0 in
     gives_err node_view c.from_residual.result whole e _ c.from_residual.ensures.1 (λ y p. p)
-    (key_fails e (key_at (line_view c.args.line.now) c.args.rest.now) whole c.in_err-plain_key_at.ensures.key
+    (key_fails e (key_at (line_view c.args.line.now) c.args.rest.now) whole c.in_err-found.ensures.key
     (λ s p. node_stop c.args.depth c.args.may c.args.least (line_view c.args.line.now) c.args.rest.now (lines_view c.args.lines.now) s c.if-not-may.false (sym c.is_dash.ensures ∙ c.if-is_dash.false) p))
 
 pub node-returns-in_default : goal.node-returns-in_default
 node-returns-in_default t c =
-    let key = c.in_ok-plain_key_at.ensures.key ∙ ap parts_view c.in_default.is in
+    let key = c.in_ok-found.ensures.key ∙ ap parts_view c.in_default.is in
     subst (λ (r : Read Tree). Gives node_view c.scalar_or_flow-in_default.result r)
     (sym (node_scalar_or_flow c.args.depth c.args.may c.args.least (line_view c.args.line.now) c.args.rest.now (lines_view c.args.lines.now) c.if-not-may.false (sym c.is_dash.ensures ∙ c.if-is_dash.false) key))
     c.scalar_or_flow-in_default.ensures
 
 pub node-returns : goal.node-returns
 node-returns t c =
-    let key = c.in_ok-plain_key_at.ensures.key ∙ ap parts_view c.in-Some.is in
+    let key = c.in_ok-found.ensures.key ∙ ap parts_view c.in-Some.is in
     subst (λ (r : Read Tree). Gives node_view c.map.result r)
     (sym (node_map c.args.depth c.args.may c.args.least (line_view c.args.line.now) c.args.rest.now (lines_view c.args.lines.now) _ _ c.if-not-may.false (sym c.is_dash.ensures ∙ c.if-is_dash.false) key))
     c.map.ensures
@@ -264,3 +264,32 @@ quoted_node-returns-in-None t c = λ m.
     let node = c.text.ensures ∙ ap (λ (a : At). scalar a (text k)) c.spot.ensures in
     let whole = quoted_text c.args.depth m l cs ls k after c.requires.quote c.in_ok-content.ensures.text key ∙ ap (alone l after ls) (sym node) in
     subst (λ (r : Read Tree). Gives node_view c.alone.result r) (sym whole) c.alone.ensures
+
+pub node-map-requires : goal.node-map-requires
+node-map-requires t c =
+    let found = c.in-Some.found in
+    let there = c.in_ok-found.ensures.key ∙ ap parts_view c.in-Some.is in
+    let key = there ∙ ap (λ (k : List ℕ). keyed k found.1.now) (sym c.in_ok-key.ensures) in
+    let shorter = rw c.in-Some.is at c.in_ok-found.ensures.shorter in
+    (search rules, (c.requires.within, (key, shorter)))
+
+pub quoted_node-map-requires : goal.quoted_node-map-requires
+quoted_node-map-requires t c =
+    let l = line_view c.args.line.now in
+    let cs = c.args.rest.now in
+    let k = c.in_ok-content.content in
+    let after = c.in_ok-content.after.now in
+    let there = c.in-Some.ensures.key k ∙ ap (colon_then k) c.skip_blanks.ensures.rest in
+    let key = key_in_quotes l cs k after c.in-Some.others.now c.requires.quote c.in_ok-content.ensures.text there in
+    (search rules, (c.requires.within, (key, search rules)))
+
+pub map-returns-in_err-entries : goal.map-returns-in_err-entries
+map-returns-in_err-entries t c =
+    let l = line_view c.args.line.now in
+    let cs = c.args.rest.now in
+    let ls = lines_view c.args.lines.now in
+    let whole = mapping_in c.args.depth l cs ls in
+    let e = c.in_err-entries.field-0.0 in
+    gives_err node_view c.from_residual.result whole e _ c.from_residual.ensures.1 (λ y p. p)
+    (fails_more e (entries_at (c.args.depth - 1) (offset l cs) [] (items_of true l cs ls)) whole c.in_err-entries.ensures
+    (λ s p. map_stop c.args.depth l cs ls s c.if-depth-eq0.false p))
