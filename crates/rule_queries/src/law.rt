@@ -1,6 +1,8 @@
 //! What follows from the definitions, for the proofs of callers: each function does nothing else than name laws that it stands on.
 
-ghost use Rattle.std.specs.Prelude.{◌≡◌, None};
+ghost use Rattle.std.specs.Prelude.{◌≡◌, Option, None, IfSome};
+ghost use Rattle.event_schema.specs.Schemas.{IsSchema};
+ghost use Rattle.event_schema.specs.declared.schema.Schema.{Schema};
 ghost use Rattle.rule_model.specs.Plain.{PlainRule};
 ghost use Rattle.rule_model.specs.Rules.{rule_refusal};
 ghost use Rattle.rule_queries.specs.Queries.{query_of, Converts};
@@ -20,12 +22,13 @@ pub fn one_verdict()
 
 /// The query of each rule that has one means the rule.
 pub fn queries_mean_rules()
-    ensures { (limits : Limits) (t : Tree) (rule : PlainRule) → HasScalarTexts t → IsConverted limits t rule → Converts limits rule (query_of rule) }
+    ensures { (limits : Limits) (given : Option Schema) (t : Tree) (rule : PlainRule) → IfSome given IsSchema → HasScalarTexts t
+        → IsConverted limits given t rule → Converts limits given rule (query_of given rule) }
 {
     rule_model::rules_are_whole();
     rule_lowering::tree_means_rule();
     rule_lowering::tree_is_sound();
     sqlite_writer::text_schemas();
-    sqlite_writer::text_fields_lack_nothing();
+    sqlite_writer::schemas_are_found();
     sqlite_writer::tree_is_query();
 }
