@@ -7,7 +7,7 @@ ghost use Rattle.answer_parts.specs.Stands.{Writes};
 
 use crate::outside::Outside;
 use crate::stop::Stop;
-use std::alloc::{AllocError, Global};
+use std::alloc::AllocError;
 
 /// Writes bytes on the output; nothing is refused by it.
 pub fn put_text<W: Outside>(text: &[u8], outside: &mut W) -> Result<bool, Stop>
@@ -20,20 +20,20 @@ pub fn put_text<W: Outside>(text: &[u8], outside: &mut W) -> Result<bool, Stop>
 }
 
 /// Writes a line with its line feed, in one write, on the output; nothing is refused by it.
-pub fn put_line<W: Outside>(alloc: Global, line: &[u8], outside: &mut W) -> Result<bool, Stop>
-    ensures { Writes (λ share. share ≡ text_share (ended line.now)) result (W.state outside.old) (W.state outside.new) }
+pub fn put_line<W: Outside>(line: Vec<u8>, outside: &mut W) -> Result<bool, Stop>
+    ensures { Writes (λ share. share ≡ text_share (ended line.items)) result (W.state outside.old) (W.state outside.new) }
 {
-    match ended_line(alloc, line) {
+    match ended_line(line) {
         Ok(text) => put_text(text.as_slice(), outside),
         Err(_) => Err(Stop::Memory),
     }
 }
 
 /// The line with its line feed.
-fn ended_line(alloc: Global, line: &[u8]) -> Result<Vec<u8>, AllocError>
-    ensures { IfOk result (λ text. text.items ≡ ended line.now) }
+fn ended_line(line: Vec<u8>) -> Result<Vec<u8>, AllocError>
+    ensures { IfOk result (λ text. text.items ≡ ended line.items) }
 {
-    let mut text = Vec::from_slice(alloc, line)?;
+    let mut text = line;
     text.push(b'\n')?;
     Ok(text)
 }

@@ -11,7 +11,7 @@ use Rattle.clap.specs.declared.builder.action.ArgAction.TheVariants.{Set, Append
 use Rattle.command_words.specs.Given.{Word, is_among}
 use Rattle.command_words.specs.declared.command_name.Count.{Count}
 use Rattle.command_words.specs.declared.command_name.Count.TheVariants.{NoName, OneName, SomeNames}
-use Rattle.command_words.specs.Table.{Row, takes_names, backend, check, convert}
+use Rattle.command_words.specs.Table.{Row, takes_names, backend, schema, check, convert}
 use Rattle.command_words.proofs.Shapes.{file_id, option_rule, file_rule, shape_with, IsName, IsOption, HasFiles, Serves}
 use Rattle.command_words.specs.Apps.{app_with}
 
@@ -47,6 +47,9 @@ serves_by rules options takes all files = record { option = each_known (IsOption
 backend_name : IsName backend
 backend_name = record { alone = refl; both = λ v. refl; no_end = refl; no_end_both = λ v. refl; same = refl; other = refl; other_way = refl }
 
+schema_name : IsName schema
+schema_name = record { alone = refl; both = λ v. refl; no_end = refl; no_end_both = λ v. refl; same = refl; other = refl; other_way = refl }
+
 pub check_served : IsServed check
 check_served = record {
   simple = refl;
@@ -64,9 +67,11 @@ convert_served = record {
   simple = refl;
   built_is = refl;
   no_name = refl;
-  serves = serves_by (rules_of_row convert) (backend ∷ []) true (record { required = true; by_long = refl; by_id = refl; name = backend_name }, tt) (λ e. record { by_index = refl; by_id = refl });
+  serves = serves_by (rules_of_row convert) (backend ∷ schema ∷ []) true
+      (record { required = true; by_long = refl; by_id = refl; name = backend_name }, (record { required = false; by_long = refl; by_id = refl; name = schema_name }, tt))
+      (λ e. record { by_index = refl; by_id = refl });
   free = refl;
-  defaults = (refl, (refl, tt));
+  defaults = (refl, (refl, (refl, tt)));
   pass = refl;
   known = (refl, tt);
 }

@@ -8,7 +8,7 @@ use Rattle.clap.proofs.CutLemmas.{Lacks, list_any-Lacks, list_any-at, before_fir
 use Rattle.command_words.specs.Given.{Word, Item, named, file, is_value, is_nonempty, dashed, joined, is_among, less, Reads, nothing, apart, together, placed, ended, value_of, names_of}
 use Rattle.command_words.specs.Clean.{behind_dashes}
 use Rattle.command_words.specs.Computed.{before, with_value, word_items, items_of, items_apart, is_all, if_all, given}
-use Rattle.command_words.specs.Table.{Row, row_of, backend, takes_names, are_enough, IsGiven}
+use Rattle.command_words.specs.Table.{Row, row_of, backend, schema, takes_names, are_enough, IsGiven}
 use Rattle.command_words.specs.declared.command_name.CommandName.{CommandName}
 use Rattle.command_words.specs.declared.command_name.CommandName.TheVariants as commands
 use Rattle.command_words.proofs.Fresh.{and_left, and_right, still_among}
@@ -185,7 +185,8 @@ lacks_of text none = by (cut_of text) where
 
 pub plain_names : (command : CommandName) → AreNames ((row_of command).required ++ (row_of command).optional)
 plain_names commands.Check x e = absurd cc
-plain_names commands.Convert x e = by (bytes_eq backend x) refl e where
-  by : (b : Bool) → bytes_eq backend x ≡ b → (b || false) ≡ true → IsOptionName x
-  by true same e = subst IsOptionName ((bytes_eq-Decides backend x).0 same) (refl, lacks_of backend refl)
-  by false same e = absurd cc
+plain_names commands.Convert x e = by (bytes_eq backend x) refl (bytes_eq schema x) refl e where
+  by : (b : Bool) → bytes_eq backend x ≡ b → (c : Bool) → bytes_eq schema x ≡ c → (b || (c || false)) ≡ true → IsOptionName x
+  by true same c is e = subst IsOptionName ((bytes_eq-Decides backend x).0 same) (refl, lacks_of backend refl)
+  by false same true is e = subst IsOptionName ((bytes_eq-Decides schema x).0 is) (refl, lacks_of schema refl)
+  by false same false is e = absurd cc

@@ -17,12 +17,15 @@ pub record Row : Type 0 where
 abbrev pub backend : Word
 backend = codes "backend"
 
+abbrev pub schema : Word
+schema = codes "schema"
+
 -- a row for each command
 abbrev pub check : Row
 check = record { name = codes "check"; required = []; optional = []; files = SomeNames }
 
 abbrev pub convert : Row
-convert = record { name = codes "convert"; required = backend ∷ []; optional = []; files = SomeNames }
+convert = record { name = codes "convert"; required = backend ∷ []; optional = schema ∷ []; files = SomeNames }
 
 abbrev pub row_of : CommandName → Row
 row_of commands.Check = check

@@ -22,6 +22,8 @@ static NO_OPTIONS: [&str; 0] = [];
 
 static BACKEND: [&str; 1] = ["backend"];
 
+static SCHEMA: [&str; 1] = ["schema"];
+
 impl CommandName {
     /// The word that stands for the command.
     pub fn name(self) -> &'static str
@@ -49,7 +51,7 @@ impl CommandName {
     {
         match self {
             CommandName::Check => NO_OPTIONS.as_slice(),
-            CommandName::Convert => NO_OPTIONS.as_slice(),
+            CommandName::Convert => SCHEMA.as_slice(),
         }
     }
 

@@ -4,7 +4,7 @@ use crate::{CommandName, read};
 use std::alloc::Global;
 use std::test::Fail;
 
-/// What the words behind a command's name give: the backend, and the files with a `;` behind each.
+/// What the words behind a command's name give: the backend, the schema, and the files with a `;` behind each.
 fn told(alloc: Global, command: CommandName, words: &[&str]) -> Result<String, Fail> {
     let mut all = String::new(alloc);
     let Ok(Some(matches)) = read(alloc, command, words) else {
@@ -13,6 +13,11 @@ fn told(alloc: Global, command: CommandName, words: &[&str]) -> Result<String, F
     };
     if let Some(backend) = matches.get_str("backend") {
         all.push_str(backend)?;
+        all.push_str(": ")?;
+    }
+    if let Some(schema) = matches.get_str("schema") {
+        all.push_str("under ")?;
+        all.push_str(schema)?;
         all.push_str(": ")?;
     }
     if let Some(files) = matches.get_raw("FILE") {
@@ -71,6 +76,56 @@ fn words_of_convert(rt: HostRuntime) -> Result<(), Fail> {
 }
 
 #[test]
+fn words_with_a_schema(rt: HostRuntime) -> Result<(), Fail> {
+    let alloc = rt.alloc();
+    for (words, want) in [
+        (
+            ["--schema", "s.json", "--backend", "sqlite", "r.yml"].as_slice(),
+            "sqlite: under s.json: r.yml;",
+        ),
+        (
+            ["a", "--backend=sqlite", "--schema=s=1", "b"].as_slice(),
+            "sqlite: under s=1: a;b;",
+        ),
+        (
+            ["a", "b", "--schema", "s", "--backend=sqlite"].as_slice(),
+            "sqlite: under s: a;b;",
+        ),
+        (
+            ["--backend=sqlite", "r", "--", "--schema", "s"].as_slice(),
+            "sqlite: r;--schema;s;",
+        ),
+        (["--schema", "s", "r"].as_slice(), "not taken"),
+        (["--backend=sqlite", "--schema", "s"].as_slice(), "not taken"),
+        (["--backend=sqlite", "r", "--schema"].as_slice(), "not taken"),
+        (
+            ["--backend=sqlite", "--schema", "s", "--schema", "s", "r"].as_slice(),
+            "not taken",
+        ),
+        (
+            ["--schema=s", "--backend=sqlite", "r", "--schema=t"].as_slice(),
+            "not taken",
+        ),
+        (
+            ["--backend=sqlite", "--schema", "", "r"].as_slice(),
+            "not taken",
+        ),
+        (["--backend=sqlite", "--schema=", "r"].as_slice(), "not taken"),
+        (
+            ["--backend=sqlite", "--schema", "-s", "r"].as_slice(),
+            "not taken",
+        ),
+        (
+            ["--backend=sqlite", "--schema=-s", "r"].as_slice(),
+            "not taken",
+        ),
+    ] {
+        assert_eq!(rt; told(alloc, CommandName::Convert, words)?.as_str(), want);
+    }
+    Ok(())
+}
+
+#[test]
 fn words_of_check(rt: HostRuntime) -> Result<(), Fail> {
     let alloc = rt.alloc();
     for (words, want) in [
@@ -80,6 +135,7 @@ fn words_of_check(rt: HostRuntime) -> Result<(), Fail> {
         ([].as_slice(), "not taken"),
         (["--"].as_slice(), "not taken"),
         (["--backend", "sqlite", "a"].as_slice(), "not taken"),
+        (["--schema", "s", "a"].as_slice(), "not taken"),
         (["-h"].as_slice(), "not taken"),
     ] {
         assert_eq!(rt; told(alloc, CommandName::Check, words)?.as_str(), want);

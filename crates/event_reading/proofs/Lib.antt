@@ -9,6 +9,7 @@ pub mod QuadLemmas
 pub mod RepeatLemmas
 pub mod RowLemmas
 pub mod SchemaLemmas
+pub mod SchemaNames
 pub mod SchemaShapes
 pub mod Sums
 pub mod Takings

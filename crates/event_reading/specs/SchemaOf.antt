@@ -1,7 +1,7 @@
 -- The schema that the bytes of a file are.
 use Rattle.std.specs.Prelude.{ℕ, nat_lt, Bool, true, false, not, ◌&&◌, ◌||◌, if◌then◌else◌, List, [], ◌∷◌, length, map, codes, Option, Some, None, option_map, option_and_then, Result, Ok, Err, is_some}
 use Rattle.std.specs.List.{list_any, list_all}
-use Rattle.std.specs.Str.{bytes_eq, chars}
+use Rattle.std.specs.Str.{bytes_eq, chars, all_scalars}
 use Rattle.serde_json.specs.Data.{Data, Items, no_items, item, Members, no_members, member}
 use Rattle.serde_json.specs.Find.{get, as_array, as_bool, as_object, as_str}
 use Rattle.sig_base.specs.Folding.{folded}
@@ -174,12 +174,16 @@ schema_in d = record {
   time = option_map time_of (get (codes "time") d);
 }
 
+-- a legal name, of Unicode scalar values, as each text of JSON is
+abbrev pub is_name : List ℕ → Bool
+is_name name = is_legal name && all_scalars name
+
 -- the name is legal, keywords search texts alone, and numbers have no case
 abbrev pub is_allowed : Field → Bool
-is_allowed field = is_legal field.name && (not field.search || may_be_searched field.kind) && (not field.cased || may_be_cased field.kind)
+is_allowed field = is_name field.name && (not field.search || may_be_searched field.kind) && (not field.cased || may_be_cased field.kind)
 
 abbrev pub are_allowed : Schema → Bool
-are_allowed schema = is_legal schema.table && list_all is_allowed schema.fields
+are_allowed schema = is_name schema.table && list_all is_allowed schema.fields
 
 -- the name is one of these
 abbrev pub is_named : List (List ℕ) → List ℕ → Bool

@@ -2,11 +2,13 @@
 #![tactic(auto)]
 
 pub use event::read_event;
+pub use law::schemas_are_kept;
 pub use schemas::read_schema;
 
 mod decimals;
 mod event;
 mod json_values;
+mod law;
 #[cfg(test)]
 mod line_tests;
 mod moments;

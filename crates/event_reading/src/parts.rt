@@ -1,9 +1,8 @@
 //! What JSON values say, as parts of a schema.
 
 ghost use Rattle.std.specs.Prelude.{◌≡◌, ◌∷◌, [], true, codes, IfOk, IfErr, option_map};
-ghost use Rattle.std.specs.Str.{all_scalars, chars};
+ghost use Rattle.std.specs.Str.{chars};
 ghost use Rattle.event_reading.specs.SchemaOf as spec;
-ghost use Rattle.event_schema.specs.Lists.{EachOf};
 ghost use Rattle.serde_json.specs.Find.{get};
 ghost use Rattle.serde_json.specs.View.{view, items_view};
 
@@ -145,7 +144,6 @@ fn path_of(alloc: Global, name: &str, value: &Value, key: &str) -> Result<Texts,
 
 fn field_of(alloc: Global, value: &Value) -> Result<Field, Fault>
     ensures ok { IfOk result (λ field. field ≡ spec.field_of (view value.now)) }
-    ensures scalars { IfOk result (λ field. all_scalars field.name ≡ true) }
     ensures err { IfErr result (λ e. e ≡ Fault.Memory) }
 {
     let name = text_at(alloc, value, "name")?;
@@ -162,7 +160,6 @@ fn field_of(alloc: Global, value: &Value) -> Result<Field, Fault>
 
 fn fields_of(alloc: Global, items: &[Value]) -> Result<FieldList, Fault>
     ensures ok { IfOk result (λ fields. fields ≡ spec.fields_of (items_view items.now)) }
-    ensures scalars { IfOk result (EachOf (λ field. all_scalars field.name ≡ true)) }
     ensures err { IfErr result (λ e. e ≡ Fault.Memory) }
 {
     let mut fields = FieldList::new(alloc);
@@ -214,7 +211,6 @@ fn table_at(alloc: Global, value: &Value, key: &str) -> Result<Text, Fault>
 /// What a value that is a schema says.
 pub(super) fn schema_in(alloc: Global, value: &Value) -> Result<Schema, Fault>
     ensures ok { IfOk result (λ schema. schema ≡ spec.schema_in (view value.now)) }
-    ensures fields { IfOk result (λ schema. EachOf (λ field. all_scalars field.name ≡ true) schema.fields) }
     ensures err { IfErr result (λ e. e ≡ Fault.Memory) }
 {
     let table = table_at(alloc, value, "table")?;

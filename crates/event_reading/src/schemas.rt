@@ -1,11 +1,9 @@
 //! Schemas, read from the bytes of a file.
 
-ghost use Rattle.std.specs.Prelude.{◌≡◌, true, IfOk, Some};
+ghost use Rattle.std.specs.Prelude.{◌≡◌, IfOk, Some};
 ghost use Rattle.std.specs.List.{list_all};
-ghost use Rattle.std.specs.Str.{all_scalars};
 ghost use Rattle.event_reading.specs.Answers.{Answers};
 ghost use Rattle.event_reading.specs.SchemaOf as spec;
-ghost use Rattle.event_schema.specs.Lists.{EachOf};
 ghost use Rattle.event_schema.specs.Schemas as schemas;
 ghost use Rattle.event_schema.specs.Schemas.{IsSchema};
 ghost use Rattle.serde_json.specs.View.{view};
@@ -16,7 +14,7 @@ use crate::repeats::has_repeats;
 use crate::shapes::is_schema;
 use event_schema::{Field, FieldKind, Schema, is_legal};
 use serde_json::Value;
-use sig_base::{Code, Fault, Limits, Place, refused};
+use sig_base::{Code, Fault, Limits, Place, Text, refused};
 use std::alloc::Global;
 
 fn may_be_searched(kind: FieldKind) -> bool
@@ -39,11 +37,19 @@ fn may_be_cased(kind: FieldKind) -> bool
     }
 }
 
+/// Whether the name is legal; a text is of scalar values by itself.
+#[tactic(auto, using(crate::proofs::SchemaNames::legal_name))]
+fn is_name(name: &Text) -> bool
+    ensures { result ≡ spec.is_name name.now }
+{
+    is_legal(name)
+}
+
 /// Whether the field's name is legal, and its kind may be searched and cased where it is.
 fn is_allowed(field: &Field) -> bool
     ensures { result ≡ spec.is_allowed field.now }
 {
-    is_legal(&field.name)
+    is_name(&field.name)
         && (!field.search || may_be_searched(field.kind))
         && (!field.cased || may_be_cased(field.kind))
 }
@@ -55,10 +61,9 @@ fn all_allowed(fields: &[Field]) -> bool
 }
 
 fn are_allowed(schema: &Schema) -> bool
-    ensures allowed { result ≡ spec.are_allowed schema.now }
-    ensures scalars { all_scalars schema.now.table ≡ true }
+    ensures { result ≡ spec.are_allowed schema.now }
 {
-    is_legal(&schema.table) && all_allowed(schema.fields.as_slice())
+    is_name(&schema.table) && all_allowed(schema.fields.as_slice())
 }
 
 /// The schema, unless it has too many fields or names that stand there twice.

@@ -1,21 +1,28 @@
 -- The laws of the answers.
-use Rattle.std.proofs.Common.{ℕ, List, [], ◌∷◌}
+use Rattle.std.proofs.Common.{◌≡◌, ℕ, List, [], ◌∷◌, refl, ap, sym, ◌∙◌, subst, Option, None, Some, Result, Ok, Err}
+use Rattle.std.specs.Prelude.{IfSome}
 use Rattle.std.specs.List.{AllByRecursion}
 use Rattle.answer_parts.proofs.Rows.{each_parts, parts_one}
 use Rattle.answer_parts.specs.Each.{EachShare, EachPart}
 use Rattle.answer_parts.specs.Input.{World}
-use Rattle.answer_parts.specs.Parts.{Share, Part}
+use Rattle.answer_parts.specs.Parts.{Share, Part, no_share}
+use Rattle.event_reading.specs.SchemaOf.{schema_of}
+use Rattle.event_schema.specs.Schemas.{IsSchema}
+use Rattle.event_schema.specs.declared.schema.Schema.{Schema}
 use Rattle.rule_model.specs.Plain.{PlainRule}
 use Rattle.rule_queries.specs.Queries.{query_of, Converts}
 use Rattle.rule_queries.specs.Verdicts.{IsConverted}
+use Rattle.sig_base.specs.Judged.{refusal as refused_at}
 use Rattle.sig_base.specs.declared.limits.Limits.{Limits}
 use Rattle.sigma_app.proofs.Documented.{each_document, each_file, one_document, one_file}
 use Rattle.sigma_app.proofs.Filed.{each_part, one_part}
 use Rattle.sigma_app.proofs.Judged.{each_checks, each_converts, one_checks, one_converts}
 use Rattle.sigma_app.specs.Check.{CheckGives}
 use Rattle.sigma_app.specs.Convert.{ConvertGives, has_query, no_query, ConvertMeans, means_rule, means_none}
-use Rattle.sigma_app.specs.Laws.{EachDocument, EachFile, EachAnswer, OneDocument, OneFile, OneAnswer, OfBoth, EachRule, OneRule, QueriesMean}
-use Rattle.sigma_app.specs.RuleFiles.{DocumentGives, as_one, by_document, RuleFile}
+use Rattle.sigma_app.specs.Converted.{Converted, without, under, refused, schema_part, file_start}
+use Rattle.sigma_app.specs.Laws.{EachDocument, EachFile, EachAnswer, OneDocument, OneFile, OneAnswer, OfBoth, EachRule, OneRule, QueriesMean, AnswersMean}
+use Rattle.sigma_app.specs.Reports.{refusal_share}
+use Rattle.sigma_app.specs.RuleFiles.{DocumentGives, as_one, by_document, RuleFile, contents}
 use Rattle.sigma_app.specs.declared.request.Request.TheVariants.{Check, Convert}
 use Rattle.yaml_bounds.specs.Laws.{TextsAreScalars}
 use Rattle.yaml_documents.specs.Verdicts as yaml
@@ -23,57 +30,169 @@ use Rattle.yaml_tree.specs.Texts.{HasScalarTexts, AnswerHas}
 use Rattle.yaml_tree.specs.Tree.{Tree, Answer, tree, refusal}
 
 pub both_documents : EachRule → OfBoth EachDocument
-both_documents rule limits = (each_document (CheckGives limits) (each_checks rule limits), each_document (ConvertGives limits) (each_converts rule limits))
+both_documents rule limits = (
+  each_document (CheckGives limits) (each_checks rule limits),
+  λ given. each_document (ConvertGives limits given) (each_converts rule limits given),
+)
 
 pub both_files : EachRule → yaml.EachVerdict → OfBoth EachFile
-both_files rule file limits = (each_file (CheckGives limits) (each_checks rule limits) file, each_file (ConvertGives limits) (each_converts rule limits) file)
+both_files rule file limits = (
+  each_file (CheckGives limits) (each_checks rule limits) file,
+  λ given. each_file (ConvertGives limits given) (each_converts rule limits given) file,
+)
+
+-- rule files under a schema, or under those that are made of their rules
+abbrev FilesUnder : Limits → Option Schema → List (List ℕ) → World → List Part → Type 0
+FilesUnder limits given rules world parts = EachPart (RuleFile (ConvertGives limits given) limits) rules world parts
+
+each_under : OfBoth EachFile → (limits : Limits) (given : Option Schema) (rules : List (List ℕ)) (world : World) → (parts : List Part) × FilesUnder limits given rules world parts
+each_under file limits given rules world =
+    each_parts (RuleFile (ConvertGives limits given) limits) (each_part (ConvertGives limits given) limits ((file limits).1 given)) rules world
+
+pub each_converted : OfBoth EachFile → (limits : Limits) (schema : Option (List ℕ)) (rules : List (List ℕ)) (world : World)
+    → (parts : List Part) × Converted (ConvertGives limits) limits schema rules world parts
+each_converted file limits None rules world = let all = each_under file limits None rules world in (all.0, without refl all.1)
+each_converted file limits (Some name) rules world = by (schema_of limits (contents world.files name)) refl
+  where
+    by : (r : Result Schema ℕ) → schema_of limits (contents world.files name) ≡ r → (parts : List Part) × Converted (ConvertGives limits) limits (Some name) rules world parts
+    by (Ok given) is =
+        let all = each_under file limits (Some given) rules world in
+        (schema_part name no_share ∷ all.0, under name refl given is all.0 all.1 refl)
+    by (Err code) is = (schema_part name (refusal_share name (refused_at code file_start)) ∷ [], refused name refl code is refl)
 
 pub each_answer : EachRule → yaml.EachVerdict → EachAnswer
 each_answer rule file limits (Check rules) world =
     each_parts (RuleFile (CheckGives limits) limits) (each_part (CheckGives limits) limits (both_files rule file limits).0) rules world
-each_answer rule file limits (Convert rules) world =
-    each_parts (RuleFile (ConvertGives limits) limits) (each_part (ConvertGives limits) limits (both_files rule file limits).1) rules world
+each_answer rule file limits (Convert schema rules) world = each_converted (both_files rule file) limits schema rules world
 
 pub one_documents : OneRule → OfBoth OneDocument
-one_documents rule limits = (one_document (CheckGives limits) (one_checks rule limits), one_document (ConvertGives limits) (one_converts rule limits))
+one_documents rule limits = (
+  one_document (CheckGives limits) (one_checks rule limits),
+  λ given. one_document (ConvertGives limits given) (one_converts rule limits given),
+)
 
 pub one_files : OneRule → yaml.NeverBoth → yaml.OneList → yaml.OneRefusal → OfBoth OneFile
-one_files rule never list cause limits =
-    (one_file (CheckGives limits) (one_checks rule limits) never list cause, one_file (ConvertGives limits) (one_converts rule limits) never list cause)
+one_files rule never list cause limits = (
+  one_file (CheckGives limits) (one_checks rule limits) never list cause,
+  λ given. one_file (ConvertGives limits given) (one_converts rule limits given) never list cause,
+)
+
+one_under : OfBoth OneFile → (limits : Limits) (given : Option Schema) (rules : List (List ℕ)) (world : World) (a b : List Part)
+    → FilesUnder limits given rules world a → FilesUnder limits given rules world b → a ≡ b
+one_under file limits given rules world a b first second =
+    parts_one (RuleFile (ConvertGives limits given) limits) (one_part (ConvertGives limits given) limits ((file limits).1 given)) rules world a b first second
+
+-- ---- one answer to `convert`
+
+none_some : {A : Type 0} (o : Option A) (x : A) → o ≡ None → o ≡ Some x → ⊥
+none_some o x none some = apart (sym none ∙ some)
+  where
+    apart : None ≡ Some x → ⊥
+    apart same = cc
+
+some_is : {A : Type 0} (o : Option A) (x y : A) → o ≡ Some x → o ≡ Some y → x ≡ y
+some_is o x y first second = by (sym first ∙ second)
+  where
+    by : Some x ≡ Some y → x ≡ y
+    by same = cc
+
+abbrev taken : Schema → Result Schema ℕ
+taken schema = Ok schema
+
+abbrev coded : ℕ → Result Schema ℕ
+coded code = Err code
+
+ok_is : (r : Result Schema ℕ) (a b : Schema) → r ≡ Ok a → r ≡ Ok b → a ≡ b
+ok_is r a b first second = by (sym first ∙ second)
+  where
+    by : taken a ≡ taken b → a ≡ b
+    by same = cc
+
+err_is : (r : Result Schema ℕ) (a b : ℕ) → r ≡ Err a → r ≡ Err b → a ≡ b
+err_is r a b first second = by (sym first ∙ second)
+  where
+    by : coded a ≡ coded b → a ≡ b
+    by same = cc
+
+not_both : (r : Result Schema ℕ) (a : Schema) (code : ℕ) → r ≡ Ok a → r ≡ Err code → ⊥
+not_both r a code first second = apart (sym first ∙ second)
+  where
+    apart : Ok a ≡ Err code → ⊥
+    apart same = cc
+
+module _ (file : OfBoth OneFile) (limits : Limits) (schema : Option (List ℕ)) (rules : List (List ℕ)) (world : World) where
+  -- what the file of this name is as a schema, also said of the same name written otherwise
+  moved : (name other : List ℕ) → schema ≡ Some name → schema ≡ Some other → (r : Result Schema ℕ)
+      → schema_of limits (contents world.files other) ≡ r → schema_of limits (contents world.files name) ≡ r
+  moved name other is too r so = ap (λ (n : List ℕ). schema_of limits (contents world.files n)) (some_is schema name other is too) ∙ so
+
+  pub one_converted : (a b : List Part) → Converted (ConvertGives limits) limits schema rules world a → Converted (ConvertGives limits) limits schema rules world b → a ≡ b
+  one_converted a b (without is each) (without too each_too) = one_under file limits None rules world a b each each_too
+  one_converted a b (without is each) (under other too given so others each_too same) = absurd (none_some schema other is too)
+  one_converted a b (without is each) (refused other too code so same) = absurd (none_some schema other is too)
+  one_converted a b (under name is given so others each same) (without too each_too) = absurd (none_some schema name too is)
+  one_converted a b (under name is given so others each same) (under other too given_too so_too others_too each_too same_too) =
+      let one : given_too ≡ given = ok_is (schema_of limits (contents world.files name)) given_too given (moved name other is too (Ok given_too) so_too) so in
+      let rest : others ≡ others_too = one_under file limits (Some given) rules world others others_too each
+          (subst (λ (g : Schema). FilesUnder limits (Some g) rules world others_too) one each_too) in
+      same ∙ (ap (λ (n : List ℕ). schema_part n no_share ∷ others) (some_is schema name other is too)
+      ∙ (ap (λ (ps : List Part). schema_part other no_share ∷ ps) rest ∙ sym same_too))
+  one_converted a b (under name is given so others each same) (refused other too code so_too same_too) =
+      absurd (not_both (schema_of limits (contents world.files name)) given code so (moved name other is too (Err code) so_too))
+  one_converted a b (refused name is code so same) (without too each_too) = absurd (none_some schema name too is)
+  one_converted a b (refused name is code so same) (under other too given so_too others each_too same_too) =
+      absurd (not_both (schema_of limits (contents world.files name)) given code (moved name other is too (Ok given) so_too) so)
+  one_converted a b (refused name is code so same) (refused other too code_too so_too same_too) =
+      same ∙ (ap (λ (c : ℕ). schema_part name (refusal_share name (refused_at c file_start)) ∷ []) (err_is (schema_of limits (contents world.files name)) code code_too so (moved name other is too (Err code_too) so_too))
+      ∙ (ap (λ (n : List ℕ). schema_part n (refusal_share n (refused_at code_too file_start)) ∷ []) (some_is schema name other is too) ∙ sym same_too))
 
 pub one_answer : OfBoth OneFile → OneAnswer
 one_answer file limits (Check rules) world a b first second = parts_one (RuleFile (CheckGives limits) limits) (one_part (CheckGives limits) limits (file limits).0) rules world a b first second
-one_answer file limits (Convert rules) world a b first second = parts_one (RuleFile (ConvertGives limits) limits) (one_part (ConvertGives limits) limits (file limits).1) rules world a b first second
+one_answer file limits (Convert schema rules) world a b first second = one_converted file limits schema rules world a b first second
+
+-- ---- what queries mean
 
 abbrev pub RuleMeans : Type 0
-RuleMeans = (limits : Limits) (t : Tree) (rule : PlainRule) → HasScalarTexts t → IsConverted limits t rule → Converts limits rule (query_of rule)
+RuleMeans =
+    (limits : Limits) (given : Option Schema) (t : Tree) (rule : PlainRule) → IfSome given IsSchema → HasScalarTexts t → IsConverted limits given t rule
+    → Converts limits given rule (query_of given rule)
 
-module _ (means : RuleMeans) (limits : Limits) (name : List ℕ) where
-  tree_means : (t : Tree) (share : Share) → HasScalarTexts t → ConvertGives limits name t share → ConvertMeans limits name t share
-  tree_means t share texts (has_query rule is share_is) = means_rule rule is (means limits t rule texts is) share_is
+module _ (means : RuleMeans) (limits : Limits) (given : Option Schema) (kept : IfSome given IsSchema) (name : List ℕ) where
+  tree_means : (t : Tree) (share : Share) → HasScalarTexts t → ConvertGives limits given name t share → ConvertMeans limits given name t share
+  tree_means t share texts (has_query rule is share_is) = means_rule rule is (means limits given t rule kept texts is) share_is
   tree_means t share texts (no_query r is share_is) = means_none r is share_is
 
-  document_means : (d : Answer) (share : Share) → AnswerHas d → DocumentGives (ConvertGives limits) name d share → DocumentGives (ConvertMeans limits) name d share
+  document_means : (d : Answer) (share : Share) → AnswerHas d → DocumentGives (ConvertGives limits given) name d share → DocumentGives (ConvertMeans limits given) name d share
   document_means (tree t) share texts gives = tree_means t share texts gives
   document_means (refusal p) share texts gives = gives
 
-  documents_mean : (ds : List Answer) (shares : List Share) → AllByRecursion AnswerHas ds → EachShare (DocumentGives (ConvertGives limits) name) ds shares
-      → EachShare (DocumentGives (ConvertMeans limits) name) ds shares
+  documents_mean : (ds : List Answer) (shares : List Share) → AllByRecursion AnswerHas ds → EachShare (DocumentGives (ConvertGives limits given) name) ds shares
+      → EachShare (DocumentGives (ConvertMeans limits given) name) ds shares
   documents_mean [] [] texts each = tt
   documents_mean [] (s ∷ shares) texts each = absurd each
   documents_mean (d ∷ ds) [] texts each = absurd each
   documents_mean (d ∷ ds) (s ∷ shares) texts each = (document_means d s texts.0 each.0, documents_mean ds shares texts.1 each.1)
 
 pub queries_mean : RuleMeans → TextsAreScalars → QueriesMean
-queries_mean means texts limits name bytes share (as_one p refused_so is) = as_one p refused_so is
-queries_mean means texts limits name bytes share (by_document ds taken (shares, each, is)) =
-    by_document ds taken (shares, documents_mean means limits name ds shares (texts limits.file_bytes limits.documents limits.yaml_depth bytes ds taken) each, is)
+queries_mean means texts limits given kept name bytes share (as_one p refused_so is) = as_one p refused_so is
+queries_mean means texts limits given kept name bytes share (by_document ds taken (shares, each, is)) =
+    by_document ds taken (shares, documents_mean means limits given kept name ds shares (texts limits.file_bytes limits.documents limits.yaml_depth bytes ds taken) each, is)
 
--- the parts of `convert`, said of what the queries mean
-pub parts_mean : QueriesMean → (limits : Limits) (rules : List (List ℕ)) (world : World) (parts : List Part) → EachPart (RuleFile (ConvertGives limits) limits) rules world parts
-    → EachPart (RuleFile (ConvertMeans limits) limits) rules world parts
-parts_mean means limits [] world [] each = tt
-parts_mean means limits [] world (p ∷ parts) each = absurd each
-parts_mean means limits (r ∷ rules) world [] each = absurd each
-parts_mean means limits (r ∷ rules) world (p ∷ parts) each =
-    (record { input = each.0.input; share = means limits r _ p.share each.0.share }, parts_mean means limits rules world parts each.1)
+-- the parts of rule files, said of what the queries mean
+parts_mean : QueriesMean → (limits : Limits) (given : Option Schema) → IfSome given IsSchema → (rules : List (List ℕ)) (world : World) (parts : List Part)
+    → FilesUnder limits given rules world parts → EachPart (RuleFile (ConvertMeans limits given) limits) rules world parts
+parts_mean means limits given kept [] world [] each = tt
+parts_mean means limits given kept [] world (p ∷ parts) each = absurd each
+parts_mean means limits given kept (r ∷ rules) world [] each = absurd each
+parts_mean means limits given kept (r ∷ rules) world (p ∷ parts) each =
+    (record { input = each.0.input; share = means limits given kept r _ p.share each.0.share }, parts_mean means limits given kept rules world parts each.1)
+
+-- bytes that are a schema keep what every schema keeps
+abbrev pub SchemasKept : Type 0
+SchemasKept = (limits : Limits) (bytes : List ℕ) (schema : Schema) → schema_of limits bytes ≡ Ok schema → IsSchema schema
+
+pub answers_mean : QueriesMean → SchemasKept → AnswersMean
+answers_mean means kept limits schema rules world parts (without is each) = without is (parts_mean means limits None tt rules world parts each)
+answers_mean means kept limits schema rules world parts (under name is given so others each same) =
+    under name is given so others (parts_mean means limits (Some given) (kept limits (contents world.files name) given so) rules world others each) same
+answers_mean means kept limits schema rules world parts (refused name is code so same) = refused name is code so same

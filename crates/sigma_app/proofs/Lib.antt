@@ -4,4 +4,5 @@ pub mod Judged
 pub mod Laws
 pub mod ReportLines
 pub mod Running
+pub mod Schemed
 pub mod Wording

@@ -3,7 +3,6 @@ use Rattle.std.proofs.Common.{◌≡◌, ℕ, Bool, true, false, List, [], ◌�
 use Rattle.std.specs.Prelude.{◌⊎◌}
 use Rattle.answer_parts.proofs.Shares.{cut_nothing}
 use Rattle.answer_parts.specs.Cut.{Cut}
-use Rattle.answer_parts.specs.Each.{EachPart}
 use Rattle.answer_parts.specs.Input.{Input, World, IsTold, WasUnread}
 use Rattle.answer_parts.specs.Parts.{Share, Part, share_of, Gains}
 use Rattle.answer_parts.specs.Stands.{Outcome, Cause, Stands, Ends, Writes}
@@ -11,13 +10,12 @@ use Rattle.answer_parts.specs.State.{State, Inputs, SomeWriteFailed}
 use Rattle.answer_parts.specs.declared.stop.Stop.{Stop}
 use Rattle.answer_parts.specs.declared.stop.Stop.TheVariants as stop
 use Rattle.sig_base.specs.declared.limits.Limits.{Limits}
-use Rattle.sigma_app.proofs.Laws.{parts_mean}
 use Rattle.sigma_app.proofs.Wording.{one_request, decided}
 use Rattle.sigma_app.specs.Answers.{Answers, needs_of}
 use Rattle.sigma_app.specs.Convert.{ConvertMeans}
-use Rattle.sigma_app.specs.Laws.{EachAnswer, QueriesMean}
+use Rattle.sigma_app.specs.Converted.{Converted}
+use Rattle.sigma_app.specs.Laws.{EachAnswer, AnswersMean}
 use Rattle.sigma_app.specs.Reports.{usage_share}
-use Rattle.sigma_app.specs.RuleFiles.{RuleFile}
 use Rattle.sigma_app.specs.Served.{accepted, unaccepted, status_of, Serves, Tells, StandsCut, StandsUnread, MayBeUnread, IsCutOff, IsRead, ReadsNoEvents, usage_part}
 use Rattle.sigma_app.specs.Words.{IsAccepted, IsUnaccepted}
 use Rattle.sigma_app.specs.declared.request.Request.{Request}
@@ -43,15 +41,15 @@ not_cut true is = is
 not_cut false is = is
 
 module _ (limits : Limits) (words : List (List ℕ)) (request : Request) (is_accepted : IsAccepted words request) (old new : State) where
-  converted : QueriesMean → (world : World) (parts : List Part) (rules : List (List ℕ)) → Answers limits request world parts → IsAccepted words (Convert rules)
-      → EachPart (RuleFile (ConvertMeans limits) limits) rules world parts
-  converted means world parts rules answers too =
-      parts_mean means limits rules world parts (subst (λ (r : Request). Answers limits r world parts) (one_request words request (Convert rules) is_accepted too) answers)
+  converted : AnswersMean → (world : World) (parts : List Part) (schema : Option (List ℕ)) (rules : List (List ℕ)) → Answers limits request world parts → IsAccepted words (Convert schema rules)
+      → Converted (ConvertMeans limits) limits schema rules world parts
+  converted means world parts schema rules answers too =
+      means limits schema rules world parts (subst (λ (r : Request). Answers limits r world parts) (one_request words request (Convert schema rules) is_accepted too) answers)
 
-  pub serves_whole : QueriesMean → (found : Bool) → Ends (needs_of request) (Answers limits request) (Ok found) old new → Serves limits words (status_of found) old.inputs new.inputs old.streams new.streams
+  pub serves_whole : AnswersMean → (found : Bool) → Ends (needs_of request) (Answers limits request) (Ok found) old new → Serves limits words (status_of found) old.inputs new.inputs old.streams new.streams
   serves_whole means found e = record {
     answer = λ _ world tells. let s = e.stands world (tells request is_accepted) in (s.0, accepted request is_accepted s.1 (ap status_of s.2.0), s.2.1);
-    headline = λ _ world tells rules too. let s = e.stands world (tells request is_accepted) in (s.0, converted means world s.0 rules s.1 too, s.2.1);
+    headline = λ _ world tells schema rules too. let s = e.stands world (tells request is_accepted) in (s.0, converted means world s.0 schema rules s.1 too, s.2.1);
     usage = λ _ other. absurd (other request is_accepted);
     unaccepted = λ is. absurd (not_usage found is);
     still = λ _. (e.cause.1, e.cause.2);
@@ -61,7 +59,7 @@ module _ (limits : Limits) (words : List (List ℕ)) (request : Request) (is_acc
     apart = λ quiet. e.apart (quiet request is_accepted);
   }
 
-  pub serves_as : QueriesMean → (found so : Bool) → found ≡ so → Ends (needs_of request) (Answers limits request) (Ok found) old new → Serves limits words (status_of so) old.inputs new.inputs old.streams new.streams
+  pub serves_as : AnswersMean → (found so : Bool) → found ≡ so → Ends (needs_of request) (Answers limits request) (Ok found) old new → Serves limits words (status_of so) old.inputs new.inputs old.streams new.streams
   serves_as means found so is e = subst (λ (f : Bool). Serves limits words (status_of f) old.inputs new.inputs old.streams new.streams) is (serves_whole means found e)
 
   unread_by : (unread : Option Input) → Cause (needs_of request) (Err stop.Unread) unread old new
@@ -180,7 +178,7 @@ module _ (limits : Limits) (words : List (List ℕ)) (other : IsUnaccepted words
   pub serves_usage : (found : Bool) → Writes IsUsage (Ok found) old new → Serves limits words Usage old.inputs new.inputs old.streams new.streams
   serves_usage found w = record {
     answer = λ _ world _. (usage_part ∷ [], unaccepted other refl refl, same_gains w.share w.is w.outcome.1);
-    headline = λ _ world _ rules too. absurd (other (Convert rules) too);
+    headline = λ _ world _ schema rules too. absurd (other (Convert schema rules) too);
     usage = λ _ _. refl;
     unaccepted = λ _. other;
     still = λ _. ((ap (λ (i : Inputs). i.failed) w.inputs, ap (λ (i : Inputs). i.faults) w.inputs), w.outcome.2);

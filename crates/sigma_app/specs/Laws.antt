@@ -1,7 +1,9 @@
 -- Laws of the answers: there is exactly one to each document, file and request, and the query of each rule means the rule.
-use Rattle.std.specs.Prelude.{◌≡◌, ℕ, List, None}
+use Rattle.std.specs.Prelude.{◌≡◌, ℕ, List, Option, None, IfSome}
 use Rattle.answer_parts.specs.Input.{World}
 use Rattle.answer_parts.specs.Parts.{Share, Part}
+use Rattle.event_schema.specs.Schemas.{IsSchema}
+use Rattle.event_schema.specs.declared.schema.Schema.{Schema}
 use Rattle.rule_model.specs.Plain.{PlainRule}
 use Rattle.rule_model.specs.Rules.{rule_refusal}
 use Rattle.rule_queries.specs.Verdicts.{IsChecked}
@@ -9,6 +11,7 @@ use Rattle.sig_base.specs.declared.limits.Limits.{Limits}
 use Rattle.sigma_app.specs.Answers.{Answers}
 use Rattle.sigma_app.specs.Check.{CheckGives}
 use Rattle.sigma_app.specs.Convert.{ConvertGives, ConvertMeans}
+use Rattle.sigma_app.specs.Converted.{Converted}
 use Rattle.sigma_app.specs.RuleFiles.{ByTree, DocumentGives, FileGives}
 use Rattle.sigma_app.specs.declared.request.Request.{Request}
 use Rattle.yaml_tree.specs.Tree.{Tree, Answer}
@@ -41,13 +44,19 @@ OneFile by = (limits : Limits) (name bytes : List ℕ) (a b : Share) → FileGiv
 abbrev pub OneAnswer : Type 0
 OneAnswer = (limits : Limits) (request : Request) (world : World) (a b : List Part) → Answers limits request world a → Answers limits request world b → a ≡ b
 
--- said of both commands that answer trees
+-- said of both commands that answer trees, under each schema
 abbrev pub OfBoth : (ByTree → Type 0) → Type 0
-OfBoth says = (limits : Limits) → says (CheckGives limits) × says (ConvertGives limits)
+OfBoth says = (limits : Limits) → says (CheckGives limits) × ((given : Option Schema) → says (ConvertGives limits given))
 
 -- the query of each rule that `convert` answers in a file means the rule
 abbrev pub QueriesMean : Type 0
-QueriesMean = (limits : Limits) (name bytes : List ℕ) (share : Share) → FileGives (ConvertGives limits) limits name bytes share → FileGives (ConvertMeans limits) limits name bytes share
+QueriesMean = (limits : Limits) (given : Option Schema) → IfSome given IsSchema → (name bytes : List ℕ) (share : Share)
+    → FileGives (ConvertGives limits given) limits name bytes share → FileGives (ConvertMeans limits given) limits name bytes share
+
+-- and so does that of each rule in its whole answer
+abbrev pub AnswersMean : Type 0
+AnswersMean = (limits : Limits) (schema : Option (List ℕ)) (rules : List (List ℕ)) (world : World) (parts : List Part)
+    → Converted (ConvertGives limits) limits schema rules world parts → Converted (ConvertMeans limits) limits schema rules world parts
 
 -- a tree that isn't refused is a rule, and one rule only
 abbrev pub EachRule : Type 0

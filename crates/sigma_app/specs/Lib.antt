@@ -2,6 +2,7 @@ pub mod Answers
 pub mod Check
 pub mod Codes
 pub mod Convert
+pub mod Converted
 pub mod Laws
 pub mod Reports
 pub mod RuleFiles

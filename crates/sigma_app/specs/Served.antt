@@ -1,7 +1,6 @@
 -- What a run of the program answers, and what it leaves behind.
 use Rattle.std.specs.Prelude.{◌≡◌, ℕ, Bool, if◌then◌else◌, ⊤, false, List, [], ◌∷◌, Option, None, Some}
 use Rattle.answer_parts.specs.Cut.{Cut}
-use Rattle.answer_parts.specs.Each.{EachPart}
 use Rattle.answer_parts.specs.Input.{Input, World, IsNeeded, IsTold, WasUnread}
 use Rattle.answer_parts.specs.Parts.{Part, share_of, Gains}
 use Rattle.answer_parts.specs.Stands.{StopsAt}
@@ -9,8 +8,8 @@ use Rattle.answer_parts.specs.State.{Inputs, Streams, NoWriteFailed, SomeWriteFa
 use Rattle.sig_base.specs.declared.limits.Limits.{Limits}
 use Rattle.sigma_app.specs.Answers.{Answers, needs_of}
 use Rattle.sigma_app.specs.Convert.{ConvertMeans}
+use Rattle.sigma_app.specs.Converted.{Converted}
 use Rattle.sigma_app.specs.Reports.{usage_share}
-use Rattle.sigma_app.specs.RuleFiles.{RuleFile}
 use Rattle.sigma_app.specs.Words.{IsAccepted, IsUnaccepted}
 use Rattle.sigma_app.specs.declared.request.Request.{Request}
 use Rattle.sigma_app.specs.declared.request.Request.TheVariants.{Convert}
@@ -66,11 +65,13 @@ Written limits words world status old new = (parts : List Part) × Answer limits
 
 -- The headline: what `convert` writes is, for each document that is a rule with a query, in order, the query and a line feed, and
 -- nothing else; the query's bytes are a text that is read as exactly one query within the reader's limits, which selects an
--- event exactly where the rule matches it; and each other document has its one diagnostic, with the first cause for which it has
--- no query.
+-- event of the given schema, or else of the one that is made of the rule, exactly where the rule matches it; and each other document
+-- has its one diagnostic, with the first cause for which it has no query. Where the file that is named as the schema is none, its
+-- one diagnostic is all that is written.
 abbrev pub Headline : Limits → List (List ℕ) → World → Streams → Streams → Type 0
 Headline limits words world old new =
-    (rules : List (List ℕ)) → IsAccepted words (Convert rules) → (parts : List Part) × EachPart (RuleFile (ConvertMeans limits) limits) rules world parts × Gains (share_of parts) old new
+    (schema : Option (List ℕ)) (rules : List (List ℕ)) → IsAccepted words (Convert schema rules)
+        → (parts : List Part) × Converted (ConvertMeans limits) limits schema rules world parts × Gains (share_of parts) old new
 
 -- What stands after a fault in writing or want of memory: a front of the answer's output, and of its diagnostics some whole ones
 -- and the beginning of at most one more, which may be the one about this input that couldn't be read.

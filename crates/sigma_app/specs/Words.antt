@@ -1,9 +1,9 @@
 -- The words that the program accepts, and the request that they are.
-use Rattle.std.specs.Prelude.{◌≡◌, ℕ, ◌^◌, ◌<◌, nat_lt, Bool, false, if◌then◌else◌, List, [], ◌∷◌, length, map, codes, Option, Some, None, option_and_then, encode_utf8_all}
+use Rattle.std.specs.Prelude.{◌≡◌, ℕ, ◌^◌, ◌<◌, nat_lt, Bool, false, if◌then◌else◌, List, [], ◌∷◌, length, map, codes, Option, Some, None, option_map, option_and_then, encode_utf8_all}
 use Rattle.std.specs.Str.{bytes_eq, chars}
 use Rattle.command_words.specs.Computed.{given}
 use Rattle.command_words.specs.Given.{Item, value_of, names_of}
-use Rattle.command_words.specs.Table.{row_of, backend, IsGiven}
+use Rattle.command_words.specs.Table.{row_of, backend, schema, IsGiven}
 use Rattle.command_words.specs.declared.command_name.CommandName.{CommandName}
 use Rattle.command_words.specs.declared.command_name.CommandName.TheVariants as commands
 use Rattle.sigma_app.specs.declared.request.Request.{Request}
@@ -17,6 +17,10 @@ in_utf8 words = map encode_utf8_all words
 abbrev pub files_of : List Item → List (List ℕ)
 files_of items = map chars (names_of items)
 
+-- the schema's file, if the items name one
+abbrev pub schema_in : List Item → Option (List ℕ)
+schema_in items = option_map chars (value_of schema items)
+
 -- queries are written for SQLite alone
 abbrev pub is_sqlite : Option (List ℕ) → Bool
 is_sqlite None = false
@@ -25,7 +29,7 @@ is_sqlite (Some name) = bytes_eq name (codes "sqlite")
 -- what a command with these items asks for
 abbrev pub request_with : CommandName → List Item → Option Request
 request_with commands.Check items = Some (Check (files_of items))
-request_with commands.Convert items = if is_sqlite (value_of backend items) then Some (Convert (files_of items)) else None
+request_with commands.Convert items = if is_sqlite (value_of backend items) then Some (Convert (schema_in items) (files_of items)) else None
 
 -- The first word is a command's name, and those behind it give items that ask for the request. There are fewer than 2^20 words.
 pub record IsAccepted (words : List (List ℕ)) (request : Request) : Type 0 where

@@ -1,7 +1,7 @@
 //! That words are one request at most, that each request has exactly one answer, and that each rule's query means the rule.
 
 ghost use Rattle.std.specs.Prelude.{◌≡◌, ◌↔◌, List, ℕ, Some};
-ghost use Rattle.sigma_app.specs.Laws.{EachDocument, EachFile, EachAnswer, OneDocument, OneFile, OneAnswer, OfBoth, QueriesMean};
+ghost use Rattle.sigma_app.specs.Laws.{EachDocument, EachFile, EachAnswer, OneDocument, OneFile, OneAnswer, OfBoth, QueriesMean, AnswersMean};
 ghost use Rattle.sigma_app.specs.Words.{IsAccepted, read};
 ghost use Rattle.sigma_app.specs.declared.request.Request.{Request};
 
@@ -33,8 +33,10 @@ pub fn one_answer()
 
 /// The query of each rule that `convert` answers means the rule.
 pub fn queries_mean_rules()
-    ensures { QueriesMean }
+    ensures file { QueriesMean }
+    ensures request { AnswersMean }
 {
+    event_reading::schemas_are_kept();
     rule_queries::queries_mean_rules();
     yaml_bounds::laws::texts_are_scalars();
 }

@@ -1,12 +1,12 @@
 //! What the words ask for.
 
-use sig_base::Texts;
+use sig_base::{Text, Texts};
 
 /// A command with its files.
 #[derive(Drop, Debug)]
 pub enum Request {
     /// Tell which documents are rules.
     Check { rules: Texts },
-    /// Write the query of each.
-    Convert { rules: Texts },
+    /// Write the query of each, under the schema of a file if one is named.
+    Convert { schema: Option<Text>, rules: Texts },
 }

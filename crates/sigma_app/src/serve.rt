@@ -9,7 +9,7 @@ ghost use Rattle.sigma_app.specs.Served.{Serves, IsAnswered, IsCutOff, Tells, Is
 ghost use Rattle.sigma_app.specs.Words.{IsUnaccepted};
 
 use crate::commands::check::Check;
-use crate::commands::convert::Convert;
+use crate::commands::convert::answer_convert;
 use crate::files::answer_files;
 use crate::law::{each_answer, queries_mean_rules};
 use crate::request::Request;
@@ -141,12 +141,8 @@ fn answer_request<W: Outside>(
             rules.as_slice(),
             outside,
         ),
-        Request::Convert { rules } => answer_files(
-            alloc,
-            &Convert { limits },
-            limits,
-            rules.as_slice(),
-            outside,
-        ),
+        Request::Convert { schema, rules } => {
+            answer_convert(alloc, limits, schema, rules.as_slice(), outside)
+        }
     }
 }

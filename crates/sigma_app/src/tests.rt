@@ -4,6 +4,7 @@ mod cuts;
 mod faults;
 mod rules;
 mod running;
+mod schemas;
 mod words;
 
 use crate::serve::serve;

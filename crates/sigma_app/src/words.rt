@@ -1,11 +1,12 @@
 //! The words of the command line.
 
-ghost use Rattle.std.specs.Prelude.{◌≡◌, List, [], map, unwrap_or, option_map, IfOk, IfSome, IfNone};
+ghost use Rattle.std.specs.Prelude.{◌≡◌, List, [], map, Some, unwrap_or, option_map, IfOk, IfSome, IfNone};
 ghost use Rattle.std.specs.Str.{chars};
 ghost use Rattle.command_words.specs.Given.{Item};
 ghost use Rattle.command_words.specs.Matched.{HasItems};
-ghost use Rattle.sigma_app.specs.Words.{IsAccepted, IsUnaccepted, request_with};
+ghost use Rattle.sigma_app.specs.Words.{IsAccepted, IsUnaccepted, files_of, request_with, schema_in};
 ghost use Rattle.sigma_app.specs.Words as accepted_words;
+ghost use Rattle.sigma_app.specs.declared.request.Request.TheVariants as requests;
 
 use crate::request::Request;
 use clap::ArgMatches;
@@ -64,6 +65,19 @@ fn copies_if_any(alloc: Global, names: Option<&[&str]>) -> Result<Texts, AllocEr
     }
 }
 
+/// A copy of the name, if there is one.
+fn copy_if_any(alloc: Global, name: Option<&str>) -> Result<Option<Text>, AllocError>
+    ensures { IfOk result (λ copy. copy ≡ option_map chars (option_map (λ s. s.now) name.entry)) }
+{
+    let Some(name) = name else {
+        return Ok(None);
+    };
+    match Text::copy(alloc, name) {
+        Ok(copy) => Ok(Some(copy)),
+        Err(_) => Err(AllocError),
+    }
+}
+
 /// Whether this is the backend that queries are written for.
 fn is_sqlite(backend: Option<&str>) -> bool
     ensures { result ≡ accepted_words.is_sqlite (option_map (λ s. s.now) backend.entry) }
@@ -71,6 +85,30 @@ fn is_sqlite(backend: Option<&str>) -> bool
     match backend {
         Some(name) => name.as_bytes() == b"sqlite".as_slice(),
         None => false,
+    }
+}
+
+/// What `check` asks for.
+fn check_request(alloc: Global, found: &ArgMatches) -> Result<Option<Request>, AllocError>
+    ensures { (items : List Item) → HasItems found.now items → IfOk result (λ r. r ≡ Some (requests.Check (files_of items))) }
+{
+    match copies_if_any(alloc, found.get_raw("FILE")) {
+        Ok(rules) => Ok(Some(Request::Check { rules })),
+        Err(error) => Err(error),
+    }
+}
+
+/// What `convert` asks for.
+fn convert_request(alloc: Global, found: &ArgMatches) -> Result<Option<Request>, AllocError>
+    ensures { (items : List Item) → HasItems found.now items → IfOk result (λ r. r ≡ Some (requests.Convert (schema_in items) (files_of items))) }
+{
+    let rules = match copies_if_any(alloc, found.get_raw("FILE")) {
+        Ok(rules) => rules,
+        Err(error) => return Err(error),
+    };
+    match copy_if_any(alloc, found.get_str("schema")) {
+        Ok(schema) => Ok(Some(Request::Convert { schema, rules })),
+        Err(error) => Err(error),
     }
 }
 
@@ -82,14 +120,13 @@ fn request_with(
 ) -> Result<Option<Request>, AllocError>
     ensures { (items : List Item) → HasItems found.now items → IfOk result (λ r. r ≡ request_with command items) }
 {
-    let rules = copies_if_any(alloc, found.get_raw("FILE"))?;
     match command {
-        CommandName::Check => Ok(Some(Request::Check { rules })),
+        CommandName::Check => check_request(alloc, found),
         CommandName::Convert => {
             if !is_sqlite(found.get_str("backend")) {
                 return Ok(None);
             }
-            Ok(Some(Request::Convert { rules }))
+            convert_request(alloc, found)
         }
     }
 }

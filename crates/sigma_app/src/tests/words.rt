@@ -11,7 +11,7 @@ use std::test::Fail;
 fn accepts_no_other_words(rt: HostRuntime) -> Result<(), Fail> {
     let limits = Limits::standard();
     let files: [(&str, &[u8]); 1] = [("b.yml", FOUR.as_bytes())];
-    let others: [&[&str]; 17] = [
+    let others: [&[&str]; 20] = [
         &[],
         &["check"],
         &["check", ""],
@@ -36,6 +36,9 @@ fn accepts_no_other_words(rt: HostRuntime) -> Result<(), Fail> {
         &["convert", "--backend=SQLITE", "b.yml"],
         &["check", "b.yml", "--", ""],
         &["--help"],
+        &["check", "--schema", "b.yml", "b.yml"],
+        &["convert", "--backend=sqlite", "--schema", "b.yml"],
+        &["convert", "--backend=sqlite", "b.yml", "--schema=", "b.yml"],
     ];
     for words in others {
         check(

@@ -1,10 +1,7 @@
-use Rattle.std.proofs.Common.{◌≡◌, ◌++◌, drop, true}
-use Rattle.std.specs.Str.{all_scalars}
+use Rattle.std.proofs.Common.{◌≡◌, ◌++◌, drop}
 use Rattle.event_reading.specs.SchemaOf.{fields_of}
-use Rattle.event_schema.specs.Lists.{EachOf}
 use Rattle.serde_json.specs.View.{items_view}
 use Rattle.event_reading.proofs.parts.fields_of.Given as goal
 
 abbrev pub invariant-loop-item : goal.invariant-loop-item
-invariant-loop-item l =
-    (l.fields ++ fields_of (items_view (drop l.item-index l.items)) ≡ fields_of (items_view l.items)) × EachOf (λ field. all_scalars field.name ≡ true) l.fields
+invariant-loop-item l = l.fields ++ fields_of (items_view (drop l.item-index l.items)) ≡ fields_of (items_view l.items)

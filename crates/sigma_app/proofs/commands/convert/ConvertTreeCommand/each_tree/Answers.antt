@@ -1,5 +1,6 @@
+use Rattle.std.specs.Prelude.{option_map}
 use Rattle.sigma_app.proofs.Judged.{each_converts}
 use Rattle.sigma_app.proofs.commands.convert.ConvertTreeCommand.each_tree.Goals as goal
 
 pub returns : goal.returns
-returns c = each_converts c.one_verdict.ensures.each c.args.self.now.limits.now
+returns c = each_converts c.one_verdict.ensures.each c.args.self.now.limits.now (option_map (λ s. s.now) c.args.self.now.schema)
