@@ -1,5 +1,5 @@
 -- The tree of a rule holds where the rule matches.
-use Rattle.std.proofs.Common.{ℕ, zero, suc, ◌≡◌, ◌↔◌, true, false, List, [], ◌∷◌, length, map, refl, sym, ap, subst, ◌∙◌}
+use Rattle.std.proofs.Common.{ℕ, zero, suc, ◌≡◌, ◌↔◌, true, false, List, [], ◌∷◌, length, map, refl, subst}
 use Rattle.std.specs.Prelude.{Option, Some, None, unwrap_or}
 use Rattle.backend_core.specs.Holds.{TreeHolds}
 use Rattle.backend_core.specs.Sound.{kind_at}
@@ -53,8 +53,8 @@ values_of_kind (f ∷ fs) (v ∷ vs) h (suc k) = values_of_kind fs vs h.1 k
 
 -- patterns of characters alone fit their own text, exactly or after folding
 module _
-  (plain_cased : (parts : List Part) (text : List ℕ) → has_wildcard parts ≡ false → Fits parts text true ↔ (text ≡ plain_text parts))
-  (plain_folded : (parts : List Part) (text : List ℕ) → has_wildcard parts ≡ false → Fits parts text false ↔ (folded text ≡ folded (plain_text parts))) where
+    (plain_cased : (parts : List Part) (text : List ℕ) → has_wildcard parts ≡ false → Fits parts text true ↔ (text ≡ plain_text parts))
+    (plain_folded : (parts : List Part) (text : List ℕ) → has_wildcard parts ≡ false → Fits parts text false ↔ (folded text ≡ folded (plain_text parts))) where
   module _ (fields : List Field) (row : List (List Value)) (event : IsEvent fields row) where
     abbrev kind : ℕ → FieldKind
     kind n = kind_at fields n

@@ -1,12 +1,12 @@
 -- What a leaf asks of a field holds where the test does, for each kind of field.
 use Rattle.std.proofs.Common.{ℕ, ◌≡◌, ◌↔◌, ℤ, Bool, true, false, if◌then◌else◌, List, [], ◌∷◌, inl, inr, refl, sym, ap, ◌∙◌}
-use Rattle.std.specs.Prelude.{Option, Some, None, option_map, ⊤}
+use Rattle.std.specs.Prelude.{Option, Some, None, option_map}
 use Rattle.std.specs.Fmt.{signed_decimal}
 use Rattle.std.specs.List.{list_all}
 use Rattle.backend_core.specs.Holds.{TestHolds, TreeHolds}
 use Rattle.backend_core.specs.declared.tree.LeafTest.{LeafTest}
 use Rattle.backend_core.specs.declared.tree.LeafTest.TheVariants as leaf_tests
-use Rattle.event_schema.specs.Events.{IsWholeNumber, IsOfKind}
+use Rattle.event_schema.specs.Events.{IsOfKind}
 use Rattle.event_schema.specs.Lists.{EachOf, SomeOf}
 use Rattle.event_schema.specs.Rows.{field_values, value_text}
 use Rattle.event_schema.specs.declared.schema.FieldKind.{FieldKind}
@@ -22,10 +22,10 @@ use Rattle.sig_strings.specs.Edits.{has_wildcard, plain_text}
 use Rattle.sig_strings.specs.Fits.{Fits}
 use Rattle.sig_strings.specs.declared.part.Part.{Part}
 use Rattle.rule_lowering.specs.TreeOf.{text_test, whole_test, leaf_test, leaf_if_any}
-use Rattle.rule_lowering.specs.WholeNumbers.{is_whole, if_whole, written_number}
+use Rattle.rule_lowering.specs.WholeNumbers.{is_whole, written_number}
 use Rattle.rule_lowering.proofs.Decimals.{is_low, characters, no_wildcard, own_text, low_decimal, low_text}
 use Rattle.rule_lowering.proofs.JoiningLemmas.{iff_same, iff_then, iff_back, iff_either, some_same}
-use Rattle.rule_lowering.proofs.Written.{whole_holds, whole_tests, same_number, written_is, written_gives}
+use Rattle.rule_lowering.proofs.Written.{whole_tests, same_number, written_is, written_gives}
 
 -- ---- lists whose elements are known
 
@@ -52,8 +52,8 @@ leaf_holds row place field None = iff_same
 leaf_holds row place field (Some test) = iff_same
 
 module _
-  (plain_cased : (parts : List Part) (text : List ℕ) → has_wildcard parts ≡ false → Fits parts text true ↔ (text ≡ plain_text parts))
-  (plain_folded : (parts : List Part) (text : List ℕ) → has_wildcard parts ≡ false → Fits parts text false ↔ (folded text ≡ folded (plain_text parts))) where
+    (plain_cased : (parts : List Part) (text : List ℕ) → has_wildcard parts ≡ false → Fits parts text true ↔ (text ≡ plain_text parts))
+    (plain_folded : (parts : List Part) (text : List ℕ) → has_wildcard parts ≡ false → Fits parts text false ↔ (folded text ≡ folded (plain_text parts))) where
   -- ---- fields of texts and addresses
 
   -- where a pattern of characters alone fits, without regard to case, the texts that are its own after folding

@@ -67,11 +67,7 @@ fn equals(number: Option<i64>) -> Option<LeafTest>
 }
 
 /// What a pattern asks of a field of whole numbers.
-fn whole_pattern(
-    alloc: Global,
-    pattern: &Pattern,
-    cased: bool,
-) -> Result<Option<LeafTest>, Fault>
+fn whole_pattern(alloc: Global, pattern: &Pattern, cased: bool) -> Result<Option<LeafTest>, Fault>
     ensures ok { IfOk result (λ t. t ≡ (if has_wildcard pattern.now then Some (leaf_tests.Fits pattern.now cased)
         else option_map leaf_tests.Equals (written_number (plain_text pattern.now)))) }
     ensures err { IfErr result (λ e. e ≡ Fault.Memory) }

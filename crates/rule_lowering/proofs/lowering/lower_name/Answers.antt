@@ -1,6 +1,5 @@
 use Rattle.std.proofs.Common.{ℕ, ◌≡◌, subst, List}
 use Rattle.std.specs.Prelude.{IfOk}
-use Rattle.backend_core.specs.Sound.{kind_at}
 use Rattle.backend_core.specs.View.{tree_view}
 use Rattle.event_schema.specs.declared.schema.FieldKind.{FieldKind}
 use Rattle.sig_modifiers.specs.declared.test.Test.{Test}

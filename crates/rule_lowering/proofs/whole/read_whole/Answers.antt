@@ -1,4 +1,4 @@
-use Rattle.std.proofs.Common.{◌≡◌, ℤ, true, false, List, ℕ, sym, ap, ◌∙◌, subst, FitsSigned, w64, to_z, of_z, to_z-of_z}
+use Rattle.std.proofs.Common.{◌≡◌, ℤ, true, false, ℕ, sym, ap, ◌∙◌, subst, FitsSigned, w64, to_z, of_z, to_z-of_z}
 use Rattle.std.specs.Fmt.{signed_decimal}
 use Rattle.std.specs.Str.{chars}
 use Rattle.rule_lowering.specs.WholeNumbers.{if_whole}
