@@ -2,7 +2,7 @@
 use Rattle.std.proofs.Common.{◌≡◌, ◌↔◌, ◌⊎◌, Bool, true, false, List, [], ◌∷◌, ◌++◌, map, filter, inl, inr, refl}
 use Rattle.std.specs.List.{flat_map}
 use Rattle.backend_core.specs.Holds.{TreeHolds, EachHolds, OneHolds}
-use Rattle.backend_core.specs.Trees.{Plain, all, any, negated, leaf, Plains, no_parts, a_part}
+use Rattle.backend_core.specs.Trees.{Plain, all, any, negated, leaf, never, Plains, no_parts, a_part}
 use Rattle.event_schema.specs.declared.value.Value.{Value}
 use Rattle.event_schema.specs.Lists.{EachOf, SomeOf}
 use Rattle.sig_modifiers.specs.declared.modifier.Joined.{Joined}
@@ -134,10 +134,12 @@ module _ (row : List (List Value)) where
   parts_hold All (any ts) = one_part All (any ts)
   parts_hold All (negated t) = one_part All (negated t)
   parts_hold All (leaf l) = one_part All (leaf l)
+  parts_hold All never = one_part All never
   parts_hold Any (all ts) = one_part Any (all ts)
   parts_hold Any (any ts) = listed_holds Any ts
   parts_hold Any (negated t) = one_part Any (negated t)
   parts_hold Any (leaf l) = one_part Any (leaf l)
+  parts_hold Any never = one_part Any never
 
   tree_with_holds : (j : Joined) (ts : Plains) → TreeHolds row (tree_with j ts) ↔ PartsHold j ts
   tree_with_holds All ts = iff_same

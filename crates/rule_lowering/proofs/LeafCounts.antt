@@ -1,10 +1,14 @@
 -- The code's count is the number of a tree's tests, up to the greatest number.
 use Rattle.std.proofs.Common.{ℕ, zero, suc, ◌≡◌, ◌+◌, ◌*◌, ◌≤◌, min, refl, sym, ap, ◌∙◌, List, [], ◌∷◌, length, map, sum_by, slice_index, arith}
+use Rattle.std.specs.Prelude.{Option, Some, None}
 use Rattle.std.specs.List.{flat_map}
 use Rattle.std.proofs.Math.Nat.{mul-suc, add-mul}
 use Rattle.std.proofs.lemmas.List.Sums.{sum_by-cons, sum_by-append}
-use Rattle.backend_core.specs.Trees.{Plain, all, any, negated, leaf, Plains, no_parts, a_part}
+use Rattle.backend_core.specs.Sound.{kind_at}
+use Rattle.backend_core.specs.Trees.{Plain, all, any, negated, leaf, never, Plains, no_parts, a_part}
+use Rattle.backend_core.specs.declared.tree.LeafTest.{LeafTest}
 use Rattle.event_schema.specs.declared.schema.Field.{Field}
+use Rattle.event_schema.specs.declared.schema.FieldKind.{FieldKind}
 use Rattle.event_schema.specs.declared.schema.Schema.{Schema}
 use Rattle.rule_model.specs.Plain.{PlainRule}
 use Rattle.rule_items.specs.declared.detection.Detection.{Detection}
@@ -20,7 +24,7 @@ use Rattle.sig_modifiers.specs.declared.test.Test.{Test}
 use Rattle.rule_lowering.specs.Counts.{values_count, width, item_count, alternative_count, alternatives_count, detection_counts, form_count, forms_count, rule_count}
 use Rattle.rule_lowering.specs.Joining.{plains, listed, parts_of, tree_with, closed, join}
 use Rattle.rule_lowering.specs.Leaves.{leaves, leaves_in}
-use Rattle.rule_lowering.specs.TreeOf.{test_tree, value_tree, values_tree, number_of, searched, keyword_tree, fields_tree, item_tree, alternative_tree, detection_tree, numbered_tree, form_tree, form_trees, tree_of}
+use Rattle.rule_lowering.specs.TreeOf.{leaf_test, leaf_if_any, test_tree, value_tree, values_tree, number_of, searched, keyword_tree, number_tree, fields_tree, item_tree, alternative_tree, detection_tree, numbered_tree, form_tree, form_trees, tree_of}
 
 pub forms_within : (most : ℕ) (counts : List ℕ) (fs : PlainFormulas) → forms_count most counts fs ≤ most
 forms_within most counts no_forms = omega arith
@@ -47,10 +51,12 @@ total_parts All (all ts) = total_listed ts
 total_parts All (any ts) = one_total (any ts)
 total_parts All (negated t) = one_total (negated t)
 total_parts All (leaf l) = one_total (leaf l)
+total_parts All never = one_total never
 total_parts Any (all ts) = one_total (all ts)
 total_parts Any (any ts) = total_listed ts
 total_parts Any (negated t) = one_total (negated t)
 total_parts Any (leaf l) = one_total (leaf l)
+total_parts Any never = one_total never
 
 total_flat : (j : Joined) (ts : List Plain) → sum_by leaves (flat_map (parts_of j) ts) ≡ sum_by leaves ts
 total_flat j [] = refl
@@ -105,16 +111,21 @@ added a b x y z most e f g = omega arith
 
 -- ---- each level
 
-value_leaves : (place : Place) (n : ℕ) (ts : List Test) → leaves (value_tree place n ts) ≡ length ts
-value_leaves place n ts = join_map_leaves Any (test_tree place n) (λ t. 1) (λ t. refl) ts ∙ sum_ones ts
+one_leaf : (place : Place) (n : ℕ) (test : Option LeafTest) → leaves (leaf_if_any place n test) ≡ 1
+one_leaf place n None = refl
+one_leaf place n (Some test) = refl
 
-values_leaves : (place : Place) (j : Joined) (values : List (List Test)) (n : ℕ) → leaves (values_tree place j values n) ≡ values_count values
-values_leaves place j values n = join_map_leaves j (value_tree place n) (λ ts. length ts) (value_leaves place n) values
+value_leaves : (place : Place) (kind : FieldKind) (n : ℕ) (ts : List Test) → leaves (value_tree place kind n ts) ≡ length ts
+value_leaves place kind n ts = join_map_leaves Any (test_tree place kind n) (λ t. 1) (λ t. one_leaf place n (leaf_test kind t)) ts ∙ sum_ones ts
+
+values_leaves : (place : Place) (j : Joined) (values : List (List Test)) (kind : FieldKind) (n : ℕ)
+    → leaves (values_tree place j values kind n) ≡ values_count values
+values_leaves place j values kind n = join_map_leaves j (value_tree place kind n) (λ ts. length ts) (value_leaves place kind n) values
 
 module _ (fields : List Field) where
   keyword_leaves : (place : Place) (ts : List Test) → leaves (keyword_tree fields place ts) ≡ length ts * length (searched fields)
   keyword_leaves place ts =
-      join_map_leaves Any (λ n. value_tree place n ts) (λ n. length ts) (λ n. value_leaves place n ts) (searched fields)
+      join_map_leaves Any (λ n. value_tree place (kind_at fields n) n ts) (λ n. length ts) (λ n. value_leaves place (kind_at fields n) n ts) (searched fields)
       ∙ sum_same (length ts) (searched fields)
 
   fields_leaves : (place : Place) (j : Joined) (values : List (List Test)) (fs : Fields)
@@ -123,8 +134,8 @@ module _ (fields : List Field) where
       join_map_leaves j (keyword_tree fields place) (λ ts. length ts * length (searched fields)) (keyword_leaves place) values
       ∙ sum_times (λ ts. length ts) (length (searched fields)) values
   fields_leaves place j values (Names names) =
-      join_map_leaves Any (λ name. values_tree place j values (number_of fields name)) (λ name. values_count values)
-      (λ name. values_leaves place j values (number_of fields name)) names
+      join_map_leaves Any (λ name. number_tree fields place j values (number_of fields name)) (λ name. values_count values)
+      (λ name. values_leaves place j values (kind_at fields (number_of fields name)) (number_of fields name)) names
       ∙ sum_same (values_count values) names
 
   item_leaves : (i : Item) → leaves (item_tree fields i) ≡ item_count (length (searched fields)) i

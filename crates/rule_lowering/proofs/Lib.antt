@@ -1,5 +1,7 @@
 pub mod JoiningLemmas
 pub mod Decimals
+pub mod Written
+pub mod TestMeaning
 pub mod Meaning
 pub mod Found
 pub mod Soundness

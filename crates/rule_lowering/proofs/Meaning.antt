@@ -1,13 +1,13 @@
 -- The tree of a rule holds where the rule matches.
-use Rattle.std.proofs.Common.{ℕ, zero, suc, ◌≡◌, ◌↔◌, true, false, List, [], ◌∷◌, length, map, refl, sym, ap, subst, ◌∙◌}
+use Rattle.std.proofs.Common.{ℕ, zero, suc, ◌≡◌, ◌↔◌, true, false, List, [], ◌∷◌, length, map, refl, subst}
 use Rattle.std.specs.Prelude.{Option, Some, None, unwrap_or}
-use Rattle.std.specs.Fmt.{signed_decimal}
-use Rattle.std.specs.List.{list_all}
-use Rattle.backend_core.specs.Holds.{TestHolds, TreeHolds}
+use Rattle.backend_core.specs.Holds.{TreeHolds}
+use Rattle.backend_core.specs.Sound.{kind_at}
 use Rattle.backend_core.specs.Trees.{Plain}
-use Rattle.event_schema.specs.Events.{IsEvent}
-use Rattle.event_schema.specs.Rows.{field_number, field_values, values_if_any, value_text}
+use Rattle.event_schema.specs.Events.{IsOfKind, IsEvent}
+use Rattle.event_schema.specs.Rows.{field_number, field_values, values_if_any}
 use Rattle.event_schema.specs.declared.schema.Field.{Field}
+use Rattle.event_schema.specs.declared.schema.FieldKind.{FieldKind}
 use Rattle.event_schema.specs.declared.schema.Schema.{Schema}
 use Rattle.event_schema.specs.declared.value.Value.{Value}
 use Rattle.event_schema.specs.Lists.{EachOf, SomeOf}
@@ -24,14 +24,13 @@ use Rattle.sig_modifiers.specs.Holds.{Holds}
 use Rattle.sig_modifiers.specs.declared.modifier.Joined.{Joined}
 use Rattle.sig_modifiers.specs.declared.modifier.Joined.TheVariants.{All, Any}
 use Rattle.sig_modifiers.specs.declared.test.Test.{Test}
-use Rattle.sig_modifiers.specs.declared.test.Test.TheVariants as tests
 use Rattle.sig_strings.specs.Edits.{has_wildcard, plain_text}
 use Rattle.sig_strings.specs.Fits.{Fits}
 use Rattle.sig_strings.specs.declared.part.Part.{Part}
 use Rattle.rule_lowering.specs.Joining.{join}
-use Rattle.rule_lowering.specs.TreeOf.{leaf_test, test_tree, value_tree, number_of, searched, keyword_tree, fields_tree, item_tree, alternative_tree, detection_tree, numbered_tree, form_tree, form_trees, tree_of}
-use Rattle.rule_lowering.proofs.Decimals.{is_low, characters, no_wildcard, own_text, low_decimal, low_text}
-use Rattle.rule_lowering.proofs.JoiningLemmas.{some_same, iff_same, iff_then, iff_not, iff_both, iff_either, some_filtered, join_holds, join_map}
+use Rattle.rule_lowering.specs.TreeOf.{leaf_test, test_tree, value_tree, number_of, searched, keyword_tree, number_tree, fields_tree, item_tree, alternative_tree, detection_tree, numbered_tree, form_tree, form_trees, tree_of}
+use Rattle.rule_lowering.proofs.JoiningLemmas.{iff_same, iff_then, iff_not, iff_both, iff_either, some_filtered, join_holds, join_map}
+use Rattle.rule_lowering.proofs.TestMeaning.{Passes, leaf_holds, test_means}
 
 -- where there is no value behind the last field's
 behind_last : (fields : List Field) (row : List (List Value)) → IsEvent fields row → field_values row (length fields) ≡ []
@@ -45,41 +44,36 @@ numbered_values : (fields : List Field) (row : List (List Value)) → IsEvent fi
 numbered_values fields row h None = behind_last fields row h
 numbered_values fields row h (Some k) = refl
 
--- where a pattern of characters alone fits, without regard to case, the texts that are its own after folding
-module _ (plain : (parts : List Part) (text : List ℕ) → has_wildcard parts ≡ false → Fits parts text false ↔ (folded text ≡ folded (plain_text parts))) where
-  decimal_fits : (low text : List ℕ) → folded text ≡ folded low → Fits (characters low) text false
-  decimal_fits low text e =
-      (plain (characters low) text (no_wildcard low)).1 (e ∙ ap folded (sym (own_text low)))
+values_of_kind : (fields : List Field) (row : List (List Value)) → IsEvent fields row → (k : ℕ) → EachOf (IsOfKind (kind_at fields k)) (field_values row k)
+values_of_kind [] [] h k = tt
+values_of_kind [] (v ∷ vs) h k = absurd h
+values_of_kind (f ∷ fs) [] h k = absurd h
+values_of_kind (f ∷ fs) (v ∷ vs) h zero = h.0.kinds
+values_of_kind (f ∷ fs) (v ∷ vs) h (suc k) = values_of_kind fs vs h.1 k
 
-  fits_decimal : (low text : List ℕ) → Fits (characters low) text false → folded text ≡ folded low
-  fits_decimal low text h = (plain (characters low) text (no_wildcard low)).0 h ∙ ap folded (own_text low)
-
-  decimal_means : (low text : List ℕ) → list_all is_low low ≡ true → Fits (characters low) text false ↔ (text ≡ low)
-  decimal_means low text lows = (
-    (λ h. low_text text low lows (fits_decimal low text h)),
-    (λ h. decimal_fits low text (ap folded h)),
-  )
-
-  test_means : (test : Test) (values : List Value) → TestHolds (leaf_test test) values ↔ Holds test values
-  test_means tests.Absent values = iff_same
-  test_means (tests.Exists true) values = iff_same
-  test_means (tests.Exists false) values = iff_same
-  test_means (tests.Fits parts cased) values = iff_same
-  test_means (tests.Equals n) values =
-      some_same (λ v. Fits (characters (signed_decimal n)) (value_text v) false) (λ v. value_text v ≡ signed_decimal n)
-      (λ v. decimal_means (signed_decimal n) (value_text v) (low_decimal n)) values
-
+-- patterns of characters alone fit their own text, exactly or after folding
+module _
+    (plain_cased : (parts : List Part) (text : List ℕ) → has_wildcard parts ≡ false → Fits parts text true ↔ (text ≡ plain_text parts))
+    (plain_folded : (parts : List Part) (text : List ℕ) → has_wildcard parts ≡ false → Fits parts text false ↔ (folded text ≡ folded (plain_text parts))) where
   module _ (fields : List Field) (row : List (List Value)) (event : IsEvent fields row) where
+    abbrev kind : ℕ → FieldKind
+    kind n = kind_at fields n
+
     leaf_means : (place : Place) (name : List ℕ) (test : Test)
-        → TreeHolds row (test_tree place (number_of fields name) test) ↔ Holds test (values_if_any row (field_number fields name))
+        → TreeHolds row (test_tree place (kind (number_of fields name)) (number_of fields name) test) ↔ Holds test (values_if_any row (field_number fields name))
     leaf_means place name test =
-        subst (λ (values : List Value). TestHolds (leaf_test test) (field_values row (number_of fields name)) ↔ Holds test values)
-        (numbered_values fields row event (field_number fields name)) (test_means test (field_values row (number_of fields name)))
+        let n = number_of fields name in
+        let there : Passes (leaf_test (kind n) test) (field_values row n) ↔ Holds test (values_if_any row (field_number fields name)) =
+        subst (λ (values : List Value). Passes (leaf_test (kind n) test) (field_values row n) ↔ Holds test values)
+        (numbered_values fields row event (field_number fields name))
+        (test_means plain_cased plain_folded (kind n) test (field_values row n) (values_of_kind fields row event n)) in
+        iff_then (leaf_holds row place n (leaf_test (kind n) test)) there
 
     value_means : (place : Place) (name : List ℕ) (ts : List Test)
-        → TreeHolds row (value_tree place (number_of fields name) ts) ↔ FieldSatisfies fields row name ts
+        → TreeHolds row (value_tree place (kind (number_of fields name)) (number_of fields name) ts) ↔ FieldSatisfies fields row name ts
     value_means place name ts =
-        join_map row Any (test_tree place (number_of fields name)) (λ t. Holds t (values_if_any row (field_number fields name))) (leaf_means place name) ts
+        join_map row Any (test_tree place (kind (number_of fields name)) (number_of fields name))
+        (λ t. Holds t (values_if_any row (field_number fields name))) (leaf_means place name) ts
 
     joined_means : (j : Joined) (f : List Test → Plain) (Q : List Test → Type 0) → ((ts : List Test) → TreeHolds row (f ts) ↔ Q ts)
         → (values : List (List Test)) → TreeHolds row (join j (map f values)) ↔ JoinedHolds j Q values
@@ -89,8 +83,8 @@ module _ (plain : (parts : List Part) (text : List ℕ) → has_wildcard parts �
     keyword_means : (place : Place) (ts : List Test) → TreeHolds row (keyword_tree fields place ts) ↔ KeywordSatisfied fields row ts
     keyword_means place ts =
         iff_then
-        (join_map row Any (λ n. value_tree place n ts) (λ n. TreeHolds row (value_tree place n ts)) (λ n. iff_same) (searched fields))
-        (some_filtered (λ f. f.search) (λ f. number_of fields f.name) (λ n. TreeHolds row (value_tree place n ts))
+        (join_map row Any (λ n. value_tree place (kind n) n ts) (λ n. TreeHolds row (value_tree place (kind n) n ts)) (λ n. iff_same) (searched fields))
+        (some_filtered (λ f. f.search) (λ f. number_of fields f.name) (λ n. TreeHolds row (value_tree place (kind n) n ts))
         (λ f. FieldSatisfies fields row f.name ts) (λ f. value_means place f.name ts) fields)
 
     fields_mean : (place : Place) (j : Joined) (values : List (List Test)) (fs : Fields)
@@ -98,8 +92,9 @@ module _ (plain : (parts : List Part) (text : List ℕ) → has_wildcard parts �
     fields_mean place j values Keyword =
         joined_means j (keyword_tree fields place) (KeywordSatisfied fields row) (keyword_means place) values
     fields_mean place j values (Names names) =
-        join_map row Any (λ name. join j (map (value_tree place (number_of fields name)) values)) (λ name. JoinedHolds j (FieldSatisfies fields row name) values)
-        (λ name. joined_means j (value_tree place (number_of fields name)) (FieldSatisfies fields row name) (value_means place name) values) names
+        join_map row Any (λ name. number_tree fields place j values (number_of fields name)) (λ name. JoinedHolds j (FieldSatisfies fields row name) values)
+        (λ name. joined_means j (value_tree place (kind (number_of fields name)) (number_of fields name)) (FieldSatisfies fields row name) (value_means place name) values)
+        names
 
     item_means : (i : Item) → TreeHolds row (item_tree fields i) ↔ ItemHolds fields row i
     item_means i = fields_mean i.place i.joined i.tests i.fields

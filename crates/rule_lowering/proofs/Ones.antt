@@ -1,11 +1,14 @@
 -- A list of one joined tree is joined to that tree: no joined tree has one part alone.
 use Rattle.std.proofs.Common.{ℕ, ◌≡◌, ◌<◌, ◌≤◌, refl, sym, ap, ◌∙◌, List, [], ◌∷◌, ◌++◌, length, get_or, map, append-nil, subst, arith}
-use Rattle.std.specs.Prelude.{⊤, IfOk, Result}
+use Rattle.std.specs.Prelude.{⊤, Option, Some, None, IfOk, Result}
 use Rattle.std.specs.List.{flat_map}
-use Rattle.backend_core.specs.Trees.{Plain, all, any, negated, leaf, Plains, no_parts, a_part}
+use Rattle.backend_core.specs.Sound.{kind_at}
+use Rattle.backend_core.specs.Trees.{Plain, all, any, negated, leaf, never, Plains, no_parts, a_part}
 use Rattle.backend_core.specs.View.{tree_view}
+use Rattle.backend_core.specs.declared.tree.LeafTest.{LeafTest}
 use Rattle.backend_core.specs.declared.tree.Tree.{Tree}
 use Rattle.event_schema.specs.declared.schema.Field.{Field}
+use Rattle.event_schema.specs.declared.schema.FieldKind.{FieldKind}
 use Rattle.rule_items.specs.declared.detection.Detection.{Detection}
 use Rattle.rule_items.specs.declared.item.Fields.{Fields}
 use Rattle.rule_items.specs.declared.item.Fields.TheVariants.{Keyword, Names}
@@ -15,7 +18,7 @@ use Rattle.sig_modifiers.specs.declared.modifier.Joined.{Joined}
 use Rattle.sig_modifiers.specs.declared.modifier.Joined.TheVariants.{All, Any}
 use Rattle.sig_modifiers.specs.declared.test.Test.{Test}
 use Rattle.rule_lowering.specs.Joining.{plains, listed, parts_of, closed, join}
-use Rattle.rule_lowering.specs.TreeOf.{test_tree, value_tree, values_tree, number_of, searched, keyword_tree, fields_tree, item_tree, alternative_tree, detection_tree}
+use Rattle.rule_lowering.specs.TreeOf.{leaf_test, leaf_if_any, test_tree, value_tree, values_tree, number_of, searched, keyword_tree, number_tree, fields_tree, item_tree, alternative_tree, detection_tree}
 
 abbrev AreNotOne : Plains → Type 0
 AreNotOne no_parts = ⊤
@@ -28,6 +31,7 @@ IsClosed (all ts) = AreNotOne ts
 IsClosed (any ts) = AreNotOne ts
 IsClosed (negated t) = ⊤
 IsClosed (leaf l) = ⊤
+IsClosed never = ⊤
 
 -- where there is one tree, it is such a tree
 abbrev OneIsClosed : List Plain → Type 0
@@ -46,12 +50,14 @@ one_closed All (all (a_part t (a_part u ts))) h = ap (λ (us : Plains). all (a_p
 one_closed All (any ts) h = refl
 one_closed All (negated t) h = refl
 one_closed All (leaf l) h = refl
+one_closed All never h = refl
 one_closed Any (all ts) h = refl
 one_closed Any (any no_parts) h = refl
 one_closed Any (any (a_part t no_parts)) h = absurd h
 one_closed Any (any (a_part t (a_part u ts))) h = ap (λ (us : Plains). any (a_part t (a_part u us))) (listed_plains ts)
 one_closed Any (negated t) h = refl
 one_closed Any (leaf l) h = refl
+one_closed Any never h = refl
 
 pub join_one : (j : Joined) (t : Plain) → IsClosed t → join j (t ∷ []) ≡ t
 unfolding join
@@ -66,12 +72,14 @@ parts_closed All (all (a_part t (a_part u ts))) h = tt
 parts_closed All (any ts) h = h
 parts_closed All (negated t) h = tt
 parts_closed All (leaf l) h = tt
+parts_closed All never h = tt
 parts_closed Any (all ts) h = h
 parts_closed Any (any no_parts) h = tt
 parts_closed Any (any (a_part t no_parts)) h = absurd h
 parts_closed Any (any (a_part t (a_part u ts))) h = tt
 parts_closed Any (negated t) h = tt
 parts_closed Any (leaf l) h = tt
+parts_closed Any never h = tt
 
 append_closed : (ts us : List Plain) → OneIsClosed ts → OneIsClosed us → OneIsClosed (ts ++ us)
 append_closed [] us h k = k
@@ -97,22 +105,34 @@ join_closed j f each xs = closed_closed j (flat_map (parts_of j) (map f xs)) (al
 
 -- ---- the trees of a rule
 
-pub value_closed : (place : Place) (field : ℕ) (tests : List Test) → IsClosed (value_tree place field tests)
-value_closed place field tests = join_closed Any (test_tree place field) (λ test. tt) tests
+leaf_closed : (place : Place) (field : ℕ) (test : Option LeafTest) → IsClosed (leaf_if_any place field test)
+leaf_closed place field None = tt
+leaf_closed place field (Some test) = tt
 
-pub values_closed : (place : Place) (joined : Joined) (values : List (List Test)) (field : ℕ) → IsClosed (values_tree place joined values field)
-values_closed place joined values field = join_closed joined (value_tree place field) (value_closed place field) values
+pub test_closed : (place : Place) (kind : FieldKind) (field : ℕ) (test : Test) → IsClosed (test_tree place kind field test)
+test_closed place kind field test = leaf_closed place field (leaf_test kind test)
+
+pub value_closed : (place : Place) (kind : FieldKind) (field : ℕ) (tests : List Test) → IsClosed (value_tree place kind field tests)
+value_closed place kind field tests = join_closed Any (test_tree place kind field) (test_closed place kind field) tests
+
+pub values_closed : (place : Place) (joined : Joined) (values : List (List Test)) (kind : FieldKind) (field : ℕ)
+    → IsClosed (values_tree place joined values kind field)
+values_closed place joined values kind field = join_closed joined (value_tree place kind field) (value_closed place kind field) values
 
 module _ (fields : List Field) where
   keyword_closed : (place : Place) (tests : List Test) → IsClosed (keyword_tree fields place tests)
   keyword_closed place tests =
-      join_closed Any (λ (field : ℕ). value_tree place field tests) (λ field. value_closed place field tests) (searched fields)
+      join_closed Any (λ (field : ℕ). value_tree place (kind_at fields field) field tests)
+      (λ field. value_closed place (kind_at fields field) field tests) (searched fields)
+
+  pub number_closed : (place : Place) (joined : Joined) (values : List (List Test)) (field : ℕ) → IsClosed (number_tree fields place joined values field)
+  number_closed place joined values field = values_closed place joined values (kind_at fields field) field
 
   fields_closed : (place : Place) (joined : Joined) (values : List (List Test)) (asked : Fields) → IsClosed (fields_tree fields place joined values asked)
   fields_closed place joined values Keyword = join_closed joined (keyword_tree fields place) (keyword_closed place) values
   fields_closed place joined values (Names names) =
-      join_closed Any (λ (name : List ℕ). values_tree place joined values (number_of fields name))
-      (λ name. values_closed place joined values (number_of fields name)) names
+      join_closed Any (λ (name : List ℕ). number_tree fields place joined values (number_of fields name))
+      (λ name. number_closed place joined values (number_of fields name)) names
 
   pub item_closed : (i : Item) → IsClosed (item_tree fields i)
   item_closed i = fields_closed i.place i.joined i.tests i.fields

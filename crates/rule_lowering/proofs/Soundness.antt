@@ -1,17 +1,21 @@
 -- The tree of a whole rule that fits the schema is sound.
-use Rattle.std.proofs.Common.{ℕ, zero, suc, ◌≡◌, ◌<◌, true, false, List, [], ◌∷◌, ◌++◌, length, map, sym, subst, arith}
-use Rattle.std.specs.Prelude.{None}
+use Rattle.std.proofs.Common.{ℕ, zero, suc, ◌≡◌, ◌<◌, ℤ, Bool, true, false, if◌then◌else◌, List, [], ◌∷◌, ◌++◌, length, map, refl, sym, subst, arith}
+use Rattle.std.specs.Prelude.{Option, Some, None, option_map, ⊤}
 use Rattle.std.specs.Fmt.{signed_decimal}
 use Rattle.std.specs.List.{flat_map}
-use Rattle.backend_core.specs.Sound.{IsSoundPattern, IsSoundTest, AreTwo, IsSound, AreSound}
-use Rattle.backend_core.specs.Trees.{Plain, all, any, negated, leaf, Plains, no_parts, a_part}
-use Rattle.event_schema.specs.Events.{IsPlainText}
+use Rattle.backend_core.specs.Sound.{IsSoundPattern, kind_at, IsSoundTest, AreTwo, IsSound, AreSound}
+use Rattle.backend_core.specs.Trees.{Plain, all, any, negated, leaf, never, Plains, no_parts, a_part}
+use Rattle.backend_core.specs.declared.tree.LeafTest.{LeafTest}
+use Rattle.backend_core.specs.declared.tree.LeafTest.TheVariants as leaf_tests
+use Rattle.event_schema.specs.Events.{IsPlainText, IsWholeNumber}
 use Rattle.event_schema.specs.declared.schema.Field.{Field}
+use Rattle.event_schema.specs.declared.schema.FieldKind.{FieldKind}
+use Rattle.event_schema.specs.declared.schema.FieldKind.TheVariants as kinds
 use Rattle.event_schema.specs.declared.schema.Schema.{Schema}
 use Rattle.rule_schema.specs.Inferred.{fields_refusal, fit_refusal, items_of}
 use Rattle.event_schema.specs.Lists.{EachOf, HasElement}
 use Rattle.rule_model.specs.Plain.{PlainRule}
-use Rattle.sig_modifiers.specs.PlainTests.{IsPlainTest}
+use Rattle.sig_modifiers.specs.PlainTests.{IsPlainPattern, IsPlainTest}
 use Rattle.rule_items.specs.Whole.{IsWholeValue, AreWholeFields, IsWholeItem, IsWholeAlternative, IsWholeDetection}
 use Rattle.rule_model.specs.Whole.{IsWholeForm, AreSomeForms, AreWholeForms, IsWhole}
 use Rattle.rule_items.specs.declared.detection.Detection.{Detection}
@@ -24,11 +28,15 @@ use Rattle.sig_modifiers.specs.declared.modifier.Joined.{Joined}
 use Rattle.sig_modifiers.specs.declared.modifier.Joined.TheVariants.{All, Any}
 use Rattle.sig_modifiers.specs.declared.test.Test.{Test}
 use Rattle.sig_modifiers.specs.declared.test.Test.TheVariants as tests
+use Rattle.sig_strings.specs.Edits.{has_wildcard, plain_text}
+use Rattle.sig_strings.specs.declared.part.Part.{Part}
 use Rattle.rule_lowering.specs.Joining.{plains, listed, parts_of, tree_with, closed, join}
-use Rattle.rule_lowering.specs.TreeOf.{leaf_test, test_tree, value_tree, values_tree, number_of, searched, keyword_tree, fields_tree, item_tree, alternative_tree, detection_tree, numbered_tree, form_tree, form_trees, tree_of}
+use Rattle.rule_lowering.specs.TreeOf.{text_test, whole_test, leaf_test, leaf_if_any, test_tree, value_tree, number_of, searched, keyword_tree, number_tree, fields_tree, item_tree, alternative_tree, detection_tree, numbered_tree, form_tree, form_trees, tree_of}
+use Rattle.rule_lowering.specs.WholeNumbers.{is_whole, written_number}
 use Rattle.rule_lowering.proofs.Decimals.{characters, own_text, characters_written, low_decimal, low_plain}
 use Rattle.rule_lowering.proofs.Found.{field_within, searched_within, some_searched, must_holds, each_name, each_passes}
 use Rattle.rule_lowering.proofs.JoiningLemmas.{each_append, over_flat, iff_same}
+use Rattle.rule_lowering.proofs.Written.{whole_holds, written_is}
 
 -- ---- lists
 
@@ -68,10 +76,12 @@ module _ (fields : List Field) where
   parts_sound All (any ts) h = (tt, (h, tt))
   parts_sound All (negated t) h = (tt, (h, tt))
   parts_sound All (leaf l) h = (tt, (h, tt))
+  parts_sound All never h = (tt, (h, tt))
   parts_sound Any (all ts) h = (tt, (h, tt))
   parts_sound Any (any ts) h = (some_listed ts h.0, listed_sound ts h.1)
   parts_sound Any (negated t) h = (tt, (h, tt))
   parts_sound Any (leaf l) h = (tt, (h, tt))
+  parts_sound Any never h = (tt, (h, tt))
 
   flat_sound : (j : Joined) (ts : List Plain) → EachOf (IsSound fields) ts → EachOf (IsSound fields) (flat_map (parts_of j) ts)
   flat_sound j [] h = tt
@@ -104,24 +114,68 @@ module _ (fields : List Field) where
   decimal_sound : (low : List ℕ) → IsPlainText low → IsSoundPattern (characters low)
   decimal_sound low h = record { written = characters_written low; plain = subst IsPlainText (sym (own_text low)) h }
 
-  test_sound : (test : Test) → IsPlainTest test → IsSoundTest (leaf_test test)
-  test_sound tests.Absent h = tt
-  test_sound (tests.Exists true) h = tt
-  test_sound (tests.Exists false) h = tt
-  test_sound (tests.Fits parts cased) h = record { written = h.written; plain = h.plain }
-  test_sound (tests.Equals n) h = decimal_sound (signed_decimal n) (low_plain (signed_decimal n) (low_decimal n))
+  -- of a field that isn't one of whole numbers
+  text_sound : (kind : FieldKind) → (kind ≡ kinds.Whole → ⊥) → (test : Test) → IsPlainTest test → IsSoundTest kind (text_test test)
+  text_sound kind other tests.Absent h = tt
+  text_sound kind other (tests.Exists true) h = tt
+  text_sound kind other (tests.Exists false) h = tt
+  text_sound kind other (tests.Fits parts cased) h = (record { written = h.written; plain = h.plain }, (λ is. absurd (other is)))
+  text_sound kind other (tests.Equals n) h =
+      (decimal_sound (signed_decimal n) (low_plain (signed_decimal n) (low_decimal n)), (λ is. absurd (other is)))
 
-  value_sound : (place : Place) (n : ℕ) → n < length fields → (ts : List Test) → IsWholeValue ts → IsSound fields (value_tree place n ts)
+  abbrev IsSoundIfAny : FieldKind → Option LeafTest → Type 0
+  IsSoundIfAny kind None = ⊤
+  IsSoundIfAny kind (Some test) = IsSoundTest kind test
+
+  written_sound : (number : Option ℤ) → ((n : ℤ) → number ≡ Some n → IsWholeNumber n) → IsSoundIfAny kinds.Whole (option_map leaf_tests.Equals number)
+  written_sound None whole = tt
+  written_sound (Some n) whole = (refl, whole n refl)
+
+  pattern_sound : (parts : List Part) (cased : Bool) → IsPlainPattern parts → IsSoundIfAny kinds.Whole (whole_test (tests.Fits parts cased))
+  pattern_sound parts cased h = by (has_wildcard parts) refl where
+    by : (b : Bool) → has_wildcard parts ≡ b
+        → IsSoundIfAny kinds.Whole (if b then Some (leaf_tests.Fits parts cased) else option_map leaf_tests.Equals (written_number (plain_text parts)))
+    by true is = (record { written = h.written; plain = h.plain }, (λ same. is))
+    by false is = written_sound (written_number (plain_text parts)) (λ n e. (written_is (plain_text parts) n e).1)
+
+  number_sound : (n : ℤ) → IsSoundIfAny kinds.Whole (whole_test (tests.Equals n))
+  number_sound n = by (is_whole n) refl where
+    by : (b : Bool) → is_whole n ≡ b → IsSoundIfAny kinds.Whole (option_map leaf_tests.Equals (if b then Some n else None))
+    by true is = (refl, whole_holds n is)
+    by false is = tt
+
+  whole_sound : (test : Test) → IsPlainTest test → IsSoundIfAny kinds.Whole (whole_test test)
+  whole_sound tests.Absent h = tt
+  whole_sound (tests.Exists true) h = tt
+  whole_sound (tests.Exists false) h = tt
+  whole_sound (tests.Fits parts cased) h = pattern_sound parts cased h
+  whole_sound (tests.Equals n) h = number_sound n
+
+  test_sound : (kind : FieldKind) (test : Test) → IsPlainTest test → IsSoundIfAny kind (leaf_test kind test)
+  test_sound kinds.Text test h = text_sound kinds.Text (λ is. absurd (cc)) test h
+  test_sound kinds.Whole test h = whole_sound test h
+  test_sound kinds.Address test h = text_sound kinds.Address (λ is. absurd (cc)) test h
+
+  leaf_sound : (place : Place) (n : ℕ) → n < length fields → (test : Option LeafTest) → IsSoundIfAny (kind_at fields n) test
+      → IsSound fields (leaf_if_any place n test)
+  leaf_sound place n within None h = tt
+  leaf_sound place n within (Some test) h = (within, h)
+
+  abbrev kind : ℕ → FieldKind
+  kind n = kind_at fields n
+
+  value_sound : (place : Place) (n : ℕ) → n < length fields → (ts : List Test) → IsWholeValue ts → IsSound fields (value_tree place (kind n) n ts)
   value_sound place n within ts h =
-      join_map_sound IsPlainTest Any (test_tree place n) (λ t whole. (within, test_sound t whole)) ts h.some h.each
+      join_map_sound IsPlainTest Any (test_tree place (kind n) n)
+      (λ t whole. leaf_sound place n within (leaf_test (kind n) t) (test_sound (kind n) t whole)) ts h.some h.each
 
   values_sound : (place : Place) (j : Joined) (values : List (List Test)) → HasElement values → EachOf IsWholeValue values
-      → (n : ℕ) → n < length fields → IsSound fields (values_tree place j values n)
-  values_sound place j values s h n within = join_map_sound IsWholeValue j (value_tree place n) (value_sound place n within) values s h
+      → (n : ℕ) → n < length fields → IsSound fields (number_tree fields place j values n)
+  values_sound place j values s h n within = join_map_sound IsWholeValue j (value_tree place (kind n) n) (value_sound place n within) values s h
 
   keyword_sound : (place : Place) → HasElement (searched fields) → (ts : List Test) → IsWholeValue ts → IsSound fields (keyword_tree fields place ts)
   keyword_sound place s ts h =
-      join_map_sound (λ n. n < length fields) Any (λ n. value_tree place n ts) (λ n within. value_sound place n within ts h)
+      join_map_sound (λ n. n < length fields) Any (λ n. value_tree place (kind n) n ts) (λ n within. value_sound place n within ts h)
       (searched fields) s (searched_within fields)
 
   -- ---- items
@@ -131,7 +185,7 @@ module _ (fields : List Field) where
   fields_sound place j values Keyword w s h fits =
       join_map_sound IsWholeValue j (keyword_tree fields place) (keyword_sound place (some_searched fields (must_holds 83 place _ fits))) values s h
   fields_sound place j values (Names names) w s h fits =
-      join_map_sound (λ name. number_of fields name < length fields) Any (λ name. values_tree place j values (number_of fields name))
+      join_map_sound (λ name. number_of fields name < length fields) Any (λ name. number_tree fields place j values (number_of fields name))
       (λ name within. values_sound place j values s h (number_of fields name) within)
       names w.0 (each_name _ (field_within fields) names (must_holds 81 place _ fits))
 

@@ -1,7 +1,7 @@
 -- Trees joined to one: no list has one part alone, and none is of the kind of the list that it stands in.
 use Rattle.std.specs.Prelude.{List, [], ◌∷◌}
 use Rattle.std.specs.List.{flat_map}
-use Rattle.backend_core.specs.Trees.{Plain, all, any, negated, leaf, Plains, no_parts, a_part}
+use Rattle.backend_core.specs.Trees.{Plain, all, any, negated, leaf, never, Plains, no_parts, a_part}
 use Rattle.sig_modifiers.specs.declared.modifier.Joined.{Joined}
 use Rattle.sig_modifiers.specs.declared.modifier.Joined.TheVariants.{All, Any}
 
@@ -19,10 +19,12 @@ parts_of All (all ts) = listed ts
 parts_of All (any ts) = any ts ∷ []
 parts_of All (negated t) = negated t ∷ []
 parts_of All (leaf l) = leaf l ∷ []
+parts_of All never = never ∷ []
 parts_of Any (all ts) = all ts ∷ []
 parts_of Any (any ts) = listed ts
 parts_of Any (negated t) = negated t ∷ []
 parts_of Any (leaf l) = leaf l ∷ []
+parts_of Any never = never ∷ []
 
 abbrev pub tree_with : Joined → Plains → Plain
 tree_with All ts = all ts

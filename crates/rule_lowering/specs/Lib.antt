@@ -4,3 +4,4 @@ pub mod Leaves
 pub mod Numbered
 pub mod Refused
 pub mod TreeOf
+pub mod WholeNumbers

@@ -1,12 +1,15 @@
--- The tree of tests that a rule is under a schema (Sigma specification 2.0, detection and condition), each field of which is
--- tested as a text.
-use Rattle.std.specs.Prelude.{ℕ, zero, suc, true, false, List, [], ◌∷◌, length, map, filter, unwrap_or}
+-- The tree of tests that a rule is under a schema (Sigma specification 2.0, detection and condition). What a test asks goes by
+-- the kind of its field.
+use Rattle.std.specs.Prelude.{ℕ, zero, suc, true, false, if◌then◌else◌, List, [], ◌∷◌, length, map, filter, Option, Some, None, option_map, unwrap_or}
 use Rattle.std.specs.Fmt.{signed_decimal}
-use Rattle.backend_core.specs.Trees.{Plain, any, negated, leaf, no_parts}
+use Rattle.backend_core.specs.Sound.{kind_at}
+use Rattle.backend_core.specs.Trees.{Plain, any, negated, leaf, never, no_parts}
 use Rattle.backend_core.specs.declared.tree.LeafTest.{LeafTest}
 use Rattle.backend_core.specs.declared.tree.LeafTest.TheVariants as leaf_tests
 use Rattle.event_schema.specs.Rows.{field_number}
 use Rattle.event_schema.specs.declared.schema.Field.{Field}
+use Rattle.event_schema.specs.declared.schema.FieldKind.{FieldKind}
+use Rattle.event_schema.specs.declared.schema.FieldKind.TheVariants as kinds
 use Rattle.event_schema.specs.declared.schema.Schema.{Schema}
 use Rattle.rule_model.specs.Plain.{PlainRule}
 use Rattle.rule_items.specs.declared.detection.Detection.{Detection}
@@ -19,26 +22,49 @@ use Rattle.sig_modifiers.specs.declared.modifier.Joined.{Joined}
 use Rattle.sig_modifiers.specs.declared.modifier.Joined.TheVariants.{All, Any}
 use Rattle.sig_modifiers.specs.declared.test.Test.{Test}
 use Rattle.sig_modifiers.specs.declared.test.Test.TheVariants as tests
+use Rattle.sig_strings.specs.Edits.{has_wildcard, plain_text}
 use Rattle.sig_strings.specs.declared.part.Part.TheVariants.{Char}
 use Rattle.rule_lowering.specs.Joining.{join}
+use Rattle.rule_lowering.specs.WholeNumbers.{if_whole, written_number}
 
--- what a leaf asks for a test: a value, none, or a text; a number's text is its decimal
-abbrev pub leaf_test : Test → LeafTest
-leaf_test tests.Absent = leaf_tests.Absent
-leaf_test (tests.Exists true) = leaf_tests.Has
-leaf_test (tests.Exists false) = leaf_tests.Absent
-leaf_test (tests.Fits pattern cased) = leaf_tests.Fits pattern cased
-leaf_test (tests.Equals n) = leaf_tests.Fits (map Char (signed_decimal n)) false
+-- what a leaf asks of a field of texts or addresses: a value, none, or a text; a number's text is its decimal
+abbrev pub text_test : Test → LeafTest
+text_test tests.Absent = leaf_tests.Absent
+text_test (tests.Exists true) = leaf_tests.Has
+text_test (tests.Exists false) = leaf_tests.Absent
+text_test (tests.Fits pattern cased) = leaf_tests.Fits pattern cased
+text_test (tests.Equals n) = leaf_tests.Fits (map Char (signed_decimal n)) false
 
-abbrev pub test_tree : Place → ℕ → Test → Plain
-test_tree place field test = leaf (record { field = field; test = leaf_test test; place = place })
+-- What a leaf asks of a field of whole numbers, if a value can pass the test: a value, none, a number, or that a number's
+-- decimal fits a pattern with a wildcard. A pattern without one asks for the number whose decimal it is.
+abbrev pub whole_test : Test → Option LeafTest
+whole_test tests.Absent = Some leaf_tests.Absent
+whole_test (tests.Exists true) = Some leaf_tests.Has
+whole_test (tests.Exists false) = Some leaf_tests.Absent
+whole_test (tests.Fits pattern cased) =
+    if has_wildcard pattern then Some (leaf_tests.Fits pattern cased) else option_map leaf_tests.Equals (written_number (plain_text pattern))
+whole_test (tests.Equals n) = option_map leaf_tests.Equals (if_whole n)
+
+abbrev pub leaf_test : FieldKind → Test → Option LeafTest
+leaf_test kinds.Text test = Some (text_test test)
+leaf_test kinds.Whole test = whole_test test
+leaf_test kinds.Address test = Some (text_test test)
+
+-- where no value can pass, what never holds
+abbrev pub leaf_if_any : Place → ℕ → Option LeafTest → Plain
+leaf_if_any place field None = never
+leaf_if_any place field (Some test) = leaf (record { field = field; test = test; place = place })
+
+-- a test at the field of this number, which is of this kind
+abbrev pub test_tree : Place → FieldKind → ℕ → Test → Plain
+test_tree place kind field test = leaf_if_any place field (leaf_test kind test)
 
 -- a value is any of its tests
-abbrev pub value_tree : Place → ℕ → List Test → Plain
-value_tree place field tests = join Any (map (test_tree place field) tests)
+abbrev pub value_tree : Place → FieldKind → ℕ → List Test → Plain
+value_tree place kind field tests = join Any (map (test_tree place kind field) tests)
 
-abbrev pub values_tree : Place → Joined → List (List Test) → ℕ → Plain
-values_tree place joined values field = join joined (map (value_tree place field) values)
+abbrev pub values_tree : Place → Joined → List (List Test) → FieldKind → ℕ → Plain
+values_tree place joined values kind field = join joined (map (value_tree place kind field) values)
 
 module _ (fields : List Field) where
   -- the number of the field of this name; where there is none, the number behind the last field's
@@ -51,12 +77,16 @@ module _ (fields : List Field) where
 
   -- a keyword is any of those fields
   abbrev pub keyword_tree : Place → List Test → Plain
-  keyword_tree place tests = join Any (map (λ field. value_tree place field tests) searched)
+  keyword_tree place tests = join Any (map (λ field. value_tree place (kind_at fields field) field tests) searched)
+
+  -- the values of an item at the field of this number
+  abbrev pub number_tree : Place → Joined → List (List Test) → ℕ → Plain
+  number_tree place joined values field = values_tree place joined values (kind_at fields field) field
 
   -- an item over names is any of the names
   abbrev pub fields_tree : Place → Joined → List (List Test) → Fields → Plain
   fields_tree place joined values Keyword = join joined (map (keyword_tree place) values)
-  fields_tree place joined values (Names names) = join Any (map (λ name. values_tree place joined values (number_of name)) names)
+  fields_tree place joined values (Names names) = join Any (map (λ name. number_tree place joined values (number_of name)) names)
 
   abbrev pub item_tree : Item → Plain
   item_tree i = fields_tree i.place i.joined i.tests i.fields

@@ -26,6 +26,9 @@ fn add_to_all(parts: &mut Vec<Tree>, tree: Tree) -> Result<(), AllocError>
         Tree::Leaf(leaf) => {
             parts.push(Tree::Leaf(leaf))?;
         }
+        Tree::Never => {
+            parts.push(Tree::Never)?;
+        }
     }
     Ok(())
 }
@@ -45,6 +48,9 @@ fn add_to_any(parts: &mut Vec<Tree>, tree: Tree) -> Result<(), AllocError>
         }
         Tree::Leaf(leaf) => {
             parts.push(Tree::Leaf(leaf))?;
+        }
+        Tree::Never => {
+            parts.push(Tree::Never)?;
         }
     }
     Ok(())

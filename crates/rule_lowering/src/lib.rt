@@ -8,8 +8,10 @@ mod counting;
 mod formula;
 mod joining;
 mod law;
+mod leaf_tests;
 mod lowering;
 mod numbers;
 mod rule;
 #[cfg(test)]
 mod tests;
+mod whole;

@@ -2,85 +2,65 @@
 #![tactic(auto, using(crate::proofs::Levels::level_ends))]
 
 ghost use Rattle.std.specs.Prelude.{◌≡◌, map, IfOk, IfErr};
-ghost use Rattle.std.specs.Fmt.{signed_decimal};
+ghost use Rattle.backend_core.specs.Sound.{kind_at};
 ghost use Rattle.backend_core.specs.View.{tree_view};
 ghost use Rattle.rule_lowering.specs.Joining.{join};
 ghost use Rattle.rule_lowering.specs.Numbered.{AreNumbered};
 ghost use Rattle.rule_lowering.specs.TreeOf as spec;
 ghost use Rattle.rule_items.specs.declared.item.Fields.TheVariants.{Keyword, Names};
 ghost use Rattle.sig_modifiers.specs.declared.modifier.Joined.TheVariants.{Any};
-ghost use Rattle.sig_strings.specs.declared.part.Part.TheVariants.{Char};
 
 use crate::joining::{add_part, close_parts};
-use crate::numbers::FieldNumbers;
+use crate::leaf_tests::leaf_test;
+use crate::numbers::{FieldNumbers, kind_of};
 use backend_core::{Leaf, LeafTest, Tree};
-use event_schema::{Field, decimal_in};
-use itoa::Buffer;
+use event_schema::{Field, FieldKind};
 use rule_items::{Detection, Fields, Item};
-use sig_base::{Fault, Place, Text, first_char};
+use sig_base::{Fault, Place, Text};
 use sig_modifiers::{Joined, Test, Tests};
-use sig_strings::{Part, Pattern};
 use std::alloc::Global;
 
-/// The pattern of a number's decimal.
-fn decimal_pattern(alloc: Global, number: i64) -> Result<Pattern, Fault>
-    ensures ok { IfOk result (λ pattern. pattern ≡ map Char (signed_decimal number)) }
-    ensures err { IfErr result (λ e. e ≡ Fault.Memory) }
-{
-    let mut buffer = Buffer::new();
-    let mut left = decimal_in(&mut buffer, number);
-    let mut parts = Vec::with_capacity(alloc, left.len())?;
-    while let Some((c, rest)) = first_char(left) {
-        parts.push(Part::Char(c))?;
-        left = rest;
-    }
-    Pattern::of_parts(parts)
-}
-
-/// What a leaf asks for a test.
-fn lower_test(alloc: Global, test: &Test) -> Result<LeafTest, Fault>
-    ensures ok { IfOk result (λ t. t ≡ spec.leaf_test test.now) }
-    ensures err { IfErr result (λ e. e ≡ Fault.Memory) }
+fn leaf_if_any(place: Place, field: u32, test: Option<LeafTest>) -> Tree
+    ensures { tree_view result ≡ spec.leaf_if_any place field test }
 {
     match test {
-        Test::Absent | Test::Exists(false) => Ok(LeafTest::Absent),
-        Test::Exists(true) => Ok(LeafTest::Has),
-        Test::Fits { pattern, cased } => {
-            let pattern = pattern.copy()?;
-            Ok(LeafTest::Fits {
-                pattern,
-                cased: *cased,
-            })
-        }
-        Test::Equals(number) => {
-            let pattern = decimal_pattern(alloc, *number)?;
-            Ok(LeafTest::Fits {
-                pattern,
-                cased: false,
-            })
-        }
+        Some(test) => Tree::Leaf(Leaf { field, test, place }),
+        None => Tree::Never,
     }
 }
 
-fn lower_leaf(alloc: Global, place: Place, field: u32, test: &Test) -> Result<Tree, Fault>
-    ensures ok { IfOk result (λ t. tree_view t ≡ spec.test_tree place field test.now) }
+/// A test at a field of this kind.
+fn lower_leaf(
+    alloc: Global,
+    place: Place,
+    kind: FieldKind,
+    field: u32,
+    test: &Test,
+) -> Result<Tree, Fault>
+    ensures ok { IfOk result (λ t. tree_view t ≡ spec.test_tree place kind field test.now) }
     ensures err { IfErr result (λ e. e ≡ Fault.Memory) }
 {
-    let test = lower_test(alloc, test)?;
-    Ok(Tree::Leaf(Leaf { field, test, place }))
+    let test = leaf_test(alloc, kind, test)?;
+    Ok(leaf_if_any(place, field, test))
 }
 
 /// A value at a field.
-fn lower_value(alloc: Global, place: Place, field: u32, tests: &[Test]) -> Result<Tree, Fault>
-    ensures ok { IfOk result (λ t. tree_view t ≡ spec.value_tree place field tests.now) }
+fn lower_value(
+    alloc: Global,
+    place: Place,
+    kind: FieldKind,
+    field: u32,
+    tests: &[Test],
+) -> Result<Tree, Fault>
+    ensures ok { IfOk result (λ t. tree_view t ≡ spec.value_tree place kind field tests.now) }
     ensures err { IfErr result (λ e. e ≡ Fault.Memory) }
 {
     if let [test] = tests {
-        return lower_leaf(alloc, place, field, test);
+        return lower_leaf(alloc, place, kind, field, test);
     }
     let mut parts = Vec::new(alloc);
     for test in tests {
-        let part = lower_leaf(alloc, place, field, test)?;
+        let part = lower_leaf(alloc, place, kind, field, test)?;
         add_part(Joined::Any, &mut parts, part)?;
     }
     Ok(close_parts(Joined::Any, parts))
@@ -92,35 +72,53 @@ fn lower_values(
     place: Place,
     joined: Joined,
     values: &[Tests],
+    kind: FieldKind,
     field: u32,
 ) -> Result<Tree, Fault>
-    ensures ok { IfOk result (λ t. tree_view t ≡ spec.values_tree place joined values.now field) }
+    ensures ok { IfOk result (λ t. tree_view t ≡ spec.values_tree place joined values.now kind field) }
     ensures err { IfErr result (λ e. e ≡ Fault.Memory) }
 {
     if let [value] = values {
-        return lower_value(alloc, place, field, value.as_slice());
+        return lower_value(alloc, place, kind, field, value.as_slice());
     }
     let mut parts = Vec::new(alloc);
     for value in values {
-        let part = lower_value(alloc, place, field, value.as_slice())?;
+        let part = lower_value(alloc, place, kind, field, value.as_slice())?;
         add_part(joined, &mut parts, part)?;
     }
     Ok(close_parts(joined, parts))
 }
 
+/// A value at the field of this number.
+fn lower_at(
+    alloc: Global,
+    fields: &[Field],
+    place: Place,
+    field: u32,
+    tests: &[Test],
+) -> Result<Tree, Fault>
+    ensures ok { IfOk result (λ t. tree_view t ≡ spec.value_tree place (kind_at fields.now field) field tests.now) }
+    ensures err { IfErr result (λ e. e ≡ Fault.Memory) }
+{
+    let kind = kind_of(fields, field);
+    lower_value(alloc, place, kind, field, tests)
+}
+
 /// A value at some one of these fields.
 fn lower_keyword(
     alloc: Global,
+    fields: &[Field],
     place: Place,
     searched: &[u32],
     tests: &[Test],
 ) -> Result<Tree, Fault>
-    ensures ok { IfOk result (λ t. tree_view t ≡ join Any (map (λ field. spec.value_tree place field tests.now) searched.now)) }
+    ensures ok { IfOk result (λ t. tree_view t
+        ≡ join Any (map (λ field. spec.value_tree place (kind_at fields.now field) field tests.now) searched.now)) }
     ensures err { IfErr result (λ e. e ≡ Fault.Memory) }
 {
     let mut parts = Vec::new(alloc);
     for field in searched {
-        let part = lower_value(alloc, place, *field, tests)?;
+        let part = lower_at(alloc, fields, place, *field, tests)?;
         add_part(Joined::Any, &mut parts, part)?;
     }
     Ok(close_parts(Joined::Any, parts))
@@ -135,11 +133,20 @@ fn lower_name(
     name: &Text,
 ) -> Result<Tree, Fault>
     requires { AreNumbered fields.now numbers.now }
-    ensures ok { IfOk result (λ t. tree_view t ≡ spec.values_tree item.now.place item.now.joined item.now.tests (spec.number_of fields.now name.now)) }
+    ensures ok { IfOk result (λ t. tree_view t
+        ≡ spec.number_tree fields.now item.now.place item.now.joined item.now.tests (spec.number_of fields.now name.now)) }
     ensures err { IfErr result (λ e. e ≡ Fault.Memory) }
 {
     let field = numbers.find(fields, name);
-    lower_values(alloc, item.place, item.joined, item.tests.as_slice(), field)
+    let kind = kind_of(fields, field);
+    lower_values(
+        alloc,
+        item.place,
+        item.joined,
+        item.tests.as_slice(),
+        kind,
+        field,
+    )
 }
 
 /// The values of an item at some one of these names' fields.
@@ -178,7 +185,13 @@ fn lower_keywords(
 {
     let mut parts = Vec::new(alloc);
     for value in item.tests.as_slice() {
-        let part = lower_keyword(alloc, item.place, numbers.searched(), value.as_slice())?;
+        let part = lower_keyword(
+            alloc,
+            fields,
+            item.place,
+            numbers.searched(),
+            value.as_slice(),
+        )?;
         add_part(item.joined, &mut parts, part)?;
     }
     Ok(close_parts(item.joined, parts))

@@ -1,11 +1,12 @@
 //! The numbers of a schema's fields.
 
 ghost use Rattle.std.specs.Prelude.{◌≡◌, ◌<◌, ◌^◌, length, IfOk, IfErr, IfSome};
+ghost use Rattle.backend_core.specs.Sound.{kind_at};
 ghost use Rattle.event_schema.specs.Rows.{field_number};
 ghost use Rattle.rule_lowering.specs.Numbered.{AreIndexed, AreNumbered, names_of};
 ghost use Rattle.rule_lowering.specs.TreeOf.{number_of, searched};
 
-use event_schema::Field;
+use event_schema::{Field, FieldKind};
 use sig_base::{Fault, Text, Texts};
 use std::alloc::Global;
 use text_index::TextIndex;
@@ -112,6 +113,16 @@ fn search_fields(
         }
     }
     Ok(numbers)
+}
+
+/// The kind of the field of this number; behind the last field it's that of texts.
+pub fn kind_of(fields: &[Field], number: u32) -> FieldKind
+    ensures { result ≡ kind_at fields.now number }
+{
+    match fields.get(number as usize) {
+        Some(field) => field.kind,
+        None => FieldKind::Text,
+    }
 }
 
 impl FieldNumbers {

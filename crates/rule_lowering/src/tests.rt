@@ -4,7 +4,7 @@ ghost use Rattle.std.specs.Prelude.{◌≤◌};
 
 use crate::lower;
 use backend_core::{Leaf, LeafTest, Tree};
-use event_schema::{Field, FieldKind, Schema};
+use event_schema::{Field, FieldKind, FieldList, Schema};
 use rule_head::{Head, LogSource};
 use rule_items::{Alternative, Alternatives, Detection, Detections, Fields, Item, Values};
 use rule_model::Rule;
@@ -19,26 +19,34 @@ const RULE: Place = Place { line: 1, column: 1 };
 
 const KEY: Place = Place { line: 9, column: 5 };
 
-/// Texts of these names, each with whether keywords search it.
-fn schema(alloc: Global, names: &[(&str, bool)]) -> Result<Schema, Fail> {
-    let mut fields = event_schema::FieldList::new(alloc);
-    for (name, search) in names {
-        let mut at = Texts::new(alloc);
-        at.push(Text::copy(alloc, name)?)?;
-        fields.push(Field {
-            name: Text::copy(alloc, name)?,
-            kind: FieldKind::Text,
-            at,
-            search: *search,
-            cased: false,
-            many: false,
-        })?;
-    }
+fn field(alloc: Global, name: &str, kind: FieldKind, search: bool) -> Result<Field, Fail> {
+    let mut at = Texts::new(alloc);
+    at.push(Text::copy(alloc, name)?)?;
+    Ok(Field {
+        name: Text::copy(alloc, name)?,
+        kind,
+        at,
+        search,
+        cased: false,
+        many: false,
+    })
+}
+
+fn schema_of(alloc: Global, fields: FieldList) -> Result<Schema, Fail> {
     Ok(Schema {
         table: Text::copy(alloc, "events")?,
         fields,
         time: None,
     })
+}
+
+/// Texts of these names, each with whether keywords search it.
+fn schema(alloc: Global, names: &[(&str, bool)]) -> Result<Schema, Fail> {
+    let mut fields = FieldList::new(alloc);
+    for (name, search) in names {
+        fields.push(field(alloc, name, FieldKind::Text, *search)?)?;
+    }
+    schema_of(alloc, fields)
 }
 
 fn fits(alloc: Global, text: &str) -> Result<Tests, Fail> {
@@ -116,11 +124,15 @@ fn show_leaf(alloc: Global, shown: &mut String, leaf: &Leaf) -> Result<(), Fail>
                 shown.push_str(pattern.write_sigma(alloc)?.as_str())?;
             }
         }
+        LeafTest::Equals(number) => {
+            let number = *number;
+            shown.push_str(&format!(in alloc; "#{number}")?)?;
+        }
     }
     Ok(())
 }
 
-/// `(a & b)`, `(a | b)`, `!a`, and a leaf as its field, `+`, `-`, `~` or `=`, and its pattern.
+/// `(a & b)`, `(a | b)`, `!a`, `never`, and a leaf as its field, `+`, `-`, `~` or `=` with its pattern, or `#` with its number.
 fn show(alloc: Global, shown: &mut String, tree: &Tree) -> Result<(), Fail> {
     match tree {
         Tree::All(parts) => {
@@ -144,6 +156,7 @@ fn show(alloc: Global, shown: &mut String, tree: &Tree) -> Result<(), Fail> {
             show(alloc, shown, part)?;
         }
         Tree::Leaf(leaf) => show_leaf(alloc, shown, leaf)?,
+        Tree::Never => shown.push_str("never")?,
     }
     Ok(())
 }
@@ -155,18 +168,20 @@ fn shown(alloc: Global, schema: &Schema, rule: &Rule) -> Result<String, Fail> {
     Ok(shown)
 }
 
-/// The tree of a rule that has one item, with field A as number 0, B as 1 and C as 2; keywords search A and C.
-fn shown_item(alloc: Global, item: Item) -> Result<String, Fail> {
+/// The tree of a rule that has one item.
+fn shown_under(alloc: Global, schema: &Schema, item: Item) -> Result<String, Fail> {
     let mut detections = Detections::new(alloc);
     detections.push(detection(alloc, item)?)?;
     let mut conditions = Vec::new(alloc);
     conditions.push(Formula::Detection(0))?;
     let rule = rule(alloc, detections, conditions)?;
-    shown(
-        alloc,
-        &schema(alloc, &[("A", true), ("B", false), ("C", true)])?,
-        &rule,
-    )
+    shown(alloc, schema, &rule)
+}
+
+/// The tree of a rule that has one item, with field A as number 0, B as 1 and C as 2; keywords search A and C.
+fn shown_item(alloc: Global, item: Item) -> Result<String, Fail> {
+    let schema = schema(alloc, &[("A", true), ("B", false), ("C", true)])?;
+    shown_under(alloc, &schema, item)
 }
 
 #[test]
@@ -230,6 +245,89 @@ fn tests_of_one_value(rt: HostRuntime) -> Result<(), Fail> {
     let mut all = item(alloc, ["B"].as_slice(), Joined::Any, [].as_slice())?;
     all.tests.push(tests)?;
     assert_eq!(rt; shown_item(alloc, all)?.as_str(), "(1+|1-|1-|1~-70|)");
+    Ok(())
+}
+
+/// The tree of one value of field A, which is of this kind.
+fn shown_value(alloc: Global, kind: FieldKind, tests: Tests) -> Result<String, Fail> {
+    let mut fields = FieldList::new(alloc);
+    fields.push(field(alloc, "A", kind, false)?)?;
+    let mut one = item(alloc, ["A"].as_slice(), Joined::Any, [].as_slice())?;
+    one.tests.push(tests)?;
+    shown_under(alloc, &schema_of(alloc, fields)?, one)
+}
+
+fn shown_test(alloc: Global, kind: FieldKind, test: Test) -> Result<String, Fail> {
+    let mut tests = Tests::new(alloc);
+    tests.push(test)?;
+    shown_value(alloc, kind, tests)
+}
+
+/// A text, `=`, and the tree that it gives on a field of whole numbers.
+const WHOLE: &str = "4624=0#4624
+0=0#0
+-7=0#-7
+9223372036854775807=0#9223372036854775807
+-9223372036854775807=0#-9223372036854775807
+46*=0~46*
+?=0~?
+0042=never
++5=never
+-0=never
+5 =never
+x=never
+-=never
+9223372036854775808=never
+-9223372036854775808=never
+=never";
+
+#[test]
+fn texts_of_whole_numbers(rt: HostRuntime) -> Result<(), Fail> {
+    let alloc = rt.alloc();
+    for line in WHOLE.lines() {
+        let Some((text, want)) = line.split_once('=') else {
+            continue;
+        };
+        let tree = shown_value(alloc, FieldKind::Whole, fits(alloc, text)?)?;
+        assert_eq!(rt; tree.as_str(), want);
+    }
+    Ok(())
+}
+
+#[test]
+fn numbers(rt: HostRuntime) -> Result<(), Fail> {
+    let alloc = rt.alloc();
+    for (kind, number, want) in [
+        (FieldKind::Whole, 4624, "0#4624"),
+        (FieldKind::Whole, i64::MIN, "never"),
+        (FieldKind::Whole, i64::MIN + 1, "0#-9223372036854775807"),
+        (FieldKind::Text, 7, "0~7"),
+        (FieldKind::Text, i64::MIN, "0~-9223372036854775808"),
+        (FieldKind::Address, 7, "0~7"),
+    ] {
+        let tree = shown_test(alloc, kind, Test::Equals(number))?;
+        assert_eq!(rt; tree.as_str(), want);
+    }
+    let there = shown_test(alloc, FieldKind::Whole, Test::Exists(true))?;
+    assert_eq!(rt; there.as_str(), "0+");
+    let absent = shown_test(alloc, FieldKind::Whole, Test::Absent)?;
+    assert_eq!(rt; absent.as_str(), "0-");
+    Ok(())
+}
+
+#[test]
+fn keywords_by_kind(rt: HostRuntime) -> Result<(), Fail> {
+    let alloc = rt.alloc();
+    let mut fields = FieldList::new(alloc);
+    fields.push(field(alloc, "A", FieldKind::Text, true)?)?;
+    fields.push(field(alloc, "B", FieldKind::Whole, false)?)?;
+    fields.push(field(alloc, "C", FieldKind::Address, true)?)?;
+    let mut tests = Tests::new(alloc);
+    tests.push(Test::Equals(7))?;
+    let mut keyword = item(alloc, [].as_slice(), Joined::Any, ["7*"].as_slice())?;
+    keyword.tests.push(tests)?;
+    let tree = shown_under(alloc, &schema_of(alloc, fields)?, keyword)?;
+    assert_eq!(rt; tree.as_str(), "(0~7*|2~7*|0~7|2~7|)");
     Ok(())
 }
 

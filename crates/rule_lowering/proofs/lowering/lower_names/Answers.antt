@@ -1,8 +1,8 @@
 use Rattle.std.proofs.Common.{List, ℕ, map}
 use Rattle.backend_core.specs.View.{tree_view}
 use Rattle.sig_modifiers.specs.declared.modifier.Joined.TheVariants.{Any}
-use Rattle.rule_lowering.specs.TreeOf.{number_of, values_tree}
-use Rattle.rule_lowering.proofs.Ones.{level_one, values_closed}
+use Rattle.rule_lowering.specs.TreeOf.{number_of, number_tree}
+use Rattle.rule_lowering.proofs.Ones.{level_one, number_closed}
 use Rattle.rule_lowering.proofs.Levels.{level_goes}
 use Rattle.rule_lowering.proofs.lowering.lower_names.Goals as goal
 
@@ -10,12 +10,12 @@ pub returns-in-len1-clause-ok : goal.returns-in-len1-clause-ok
 returns-in-len1-clause-ok c =
     let item = c.args.item.now in
     let number = number_of c.args.fields.now in
-    level_one c.lower_name.result Any (λ (name : List ℕ). values_tree item.place item.joined item.tests (number name)) c.args.names.now c.name-item.result
-    c.in-len1.len_at_least c.in-len1.len_below c.name-item.is (values_closed item.place item.joined item.tests (number c.name-item.result)) c.lower_name.ensures.ok
+    level_one c.lower_name.result Any (λ (name : List ℕ). number_tree c.args.fields.now item.place item.joined item.tests (number name)) c.args.names.now c.name-item.result
+    c.in-len1.len_at_least c.in-len1.len_below c.name-item.is (number_closed c.args.fields.now item.place item.joined item.tests (number c.name-item.result)) c.lower_name.ensures.ok
 
 pub loop-name-preserved : goal.loop-name-preserved
 loop-name-preserved c =
     let item = c.args.item.now in
-    level_goes Any (λ (name : List ℕ). values_tree item.place item.joined item.tests (number_of c.args.fields.now name))
+    level_goes Any (λ (name : List ℕ). number_tree c.args.fields.now item.place item.joined item.tests (number_of c.args.fields.now name))
     c.loop-name.name-index c.args.names.now c.name-item-in-loop-name.result (map tree_view c.loop-name.parts.items) (map tree_view c.add_part.new.parts.items)
     (tree_view c.in_ok-part.part) _ c.loop-name-test.true c.name-item-in-loop-name.is c.loop-name.invariant c.in_ok-part.ensures.ok c.in_ok-add_part.ensures

@@ -8,5 +8,5 @@ use Rattle.rule_lowering.proofs.lowering.lower_value.Given as goal
 
 abbrev pub invariant-loop-test : goal.invariant-loop-test
 invariant-loop-test l =
-    map tree_view l.parts.items ++ flat_map (parts_of Any) (map (test_tree l.place l.field) (drop l.test-index l.tests))
-    ≡ flat_map (parts_of Any) (map (test_tree l.place l.field) l.tests)
+    map tree_view l.parts.items ++ flat_map (parts_of Any) (map (test_tree l.place l.kind l.field) (drop l.test-index l.tests))
+    ≡ flat_map (parts_of Any) (map (test_tree l.place l.kind l.field) l.tests)

@@ -8,6 +8,6 @@ use Rattle.rule_lowering.proofs.lowering.lower_values.Goals as goal
 
 pub returns-in-len1-clause-ok : goal.returns-in-len1-clause-ok
 returns-in-len1-clause-ok c =
-    level_one c.lower_value.result c.args.joined (value_tree c.args.place c.args.field) c.args.values.now c.value-item.result c.in-len1.len_at_least c.in-len1.len_below c.value-item.is
-    (value_closed c.args.place c.args.field c.value-item.result)
-    (subst (λ (tests : List Test). IfOk c.lower_value.result (λ t. tree_view t ≡ value_tree c.args.place c.args.field tests)) c.as_slice.ensures c.lower_value.ensures.ok)
+    level_one c.lower_value.result c.args.joined (value_tree c.args.place c.args.kind c.args.field) c.args.values.now c.value-item.result c.in-len1.len_at_least c.in-len1.len_below c.value-item.is
+    (value_closed c.args.place c.args.kind c.args.field c.value-item.result)
+    (subst (λ (tests : List Test). IfOk c.lower_value.result (λ t. tree_view t ≡ value_tree c.args.place c.args.kind c.args.field tests)) c.as_slice.ensures c.lower_value.ensures.ok)

@@ -7,5 +7,5 @@ use Rattle.rule_lowering.proofs.lowering.lower_values.Given as goal
 
 abbrev pub invariant-loop-value : goal.invariant-loop-value
 invariant-loop-value l =
-    map tree_view l.parts.items ++ flat_map (parts_of l.joined) (map (value_tree l.place l.field) (drop l.value-index l.values))
-    ≡ flat_map (parts_of l.joined) (map (value_tree l.place l.field) l.values)
+    map tree_view l.parts.items ++ flat_map (parts_of l.joined) (map (value_tree l.place l.kind l.field) (drop l.value-index l.values))
+    ≡ flat_map (parts_of l.joined) (map (value_tree l.place l.kind l.field) l.values)

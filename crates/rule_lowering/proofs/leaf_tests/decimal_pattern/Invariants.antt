@@ -4,7 +4,7 @@ use denote.Shadow.{shadow}
 use Rattle.std.specs.Fmt.{signed_decimal}
 use Rattle.std.specs.Str.{chars}
 use Rattle.sig_strings.specs.declared.part.Part.TheVariants.{Char}
-use Rattle.rule_lowering.proofs.lowering.decimal_pattern.Given as goal
+use Rattle.rule_lowering.proofs.leaf_tests.decimal_pattern.Given as goal
 
 abbrev pub invariant-loop-c : goal.invariant-loop-c
 invariant-loop-c l = record {

@@ -1,0 +1,143 @@
+-- What a leaf asks of a field holds where the test does, for each kind of field.
+use Rattle.std.proofs.Common.{ℕ, ◌≡◌, ◌↔◌, ℤ, Bool, true, false, if◌then◌else◌, List, [], ◌∷◌, inl, inr, refl, sym, ap, ◌∙◌}
+use Rattle.std.specs.Prelude.{Option, Some, None, option_map}
+use Rattle.std.specs.Fmt.{signed_decimal}
+use Rattle.std.specs.List.{list_all}
+use Rattle.backend_core.specs.Holds.{TestHolds, TreeHolds}
+use Rattle.backend_core.specs.declared.tree.LeafTest.{LeafTest}
+use Rattle.backend_core.specs.declared.tree.LeafTest.TheVariants as leaf_tests
+use Rattle.event_schema.specs.Events.{IsOfKind}
+use Rattle.event_schema.specs.Lists.{EachOf, SomeOf}
+use Rattle.event_schema.specs.Rows.{field_values, value_text}
+use Rattle.event_schema.specs.declared.schema.FieldKind.{FieldKind}
+use Rattle.event_schema.specs.declared.schema.FieldKind.TheVariants as kinds
+use Rattle.event_schema.specs.declared.value.Value.{Value}
+use Rattle.event_schema.specs.declared.value.Value.TheVariants as values
+use Rattle.sig_base.specs.Folding.{folded}
+use Rattle.sig_base.specs.declared.refusal.Place.{Place}
+use Rattle.sig_modifiers.specs.Holds.{Holds}
+use Rattle.sig_modifiers.specs.declared.test.Test.{Test}
+use Rattle.sig_modifiers.specs.declared.test.Test.TheVariants as tests
+use Rattle.sig_strings.specs.Edits.{has_wildcard, plain_text}
+use Rattle.sig_strings.specs.Fits.{Fits}
+use Rattle.sig_strings.specs.declared.part.Part.{Part}
+use Rattle.rule_lowering.specs.TreeOf.{text_test, whole_test, leaf_test, leaf_if_any}
+use Rattle.rule_lowering.specs.WholeNumbers.{is_whole, written_number}
+use Rattle.rule_lowering.proofs.Decimals.{is_low, characters, no_wildcard, own_text, low_decimal, low_text}
+use Rattle.rule_lowering.proofs.JoiningLemmas.{iff_same, iff_then, iff_back, iff_either, some_same}
+use Rattle.rule_lowering.proofs.Written.{whole_tests, same_number, written_is, written_gives}
+
+-- ---- lists whose elements are known
+
+some_each : {A : Type 0} (K P Q : A → Type 0) → ((x : A) → K x → P x ↔ Q x) → (xs : List A) → EachOf K xs → SomeOf P xs ↔ SomeOf Q xs
+some_each K P Q same [] known = iff_same
+some_each K P Q same (x ∷ xs) known = iff_either (same x known.0) (some_each K P Q same xs known.1)
+
+none_of : {A : Type 0} (K P : A → Type 0) → ((x : A) → K x → P x → ⊥) → (xs : List A) → EachOf K xs → SomeOf P xs → ⊥
+none_of K P no_such [] known h = h
+none_of K P no_such (x ∷ xs) known h = elim h [ inl e ↦ no_such x known.0 e | inr e ↦ none_of K P no_such xs known.1 e ]
+
+nothing : {A : Type 0} → (A → ⊥) → ⊥ ↔ A
+nothing h = ((λ e. absurd e), h)
+
+-- ---- a leaf that may be missing
+
+abbrev pub Passes : Option LeafTest → List Value → Type 0
+Passes None all = ⊥
+Passes (Some test) all = TestHolds test all
+
+pub leaf_holds : (row : List (List Value)) (place : Place) (field : ℕ) (test : Option LeafTest)
+    → TreeHolds row (leaf_if_any place field test) ↔ Passes test (field_values row field)
+leaf_holds row place field None = iff_same
+leaf_holds row place field (Some test) = iff_same
+
+module _
+    (plain_cased : (parts : List Part) (text : List ℕ) → has_wildcard parts ≡ false → Fits parts text true ↔ (text ≡ plain_text parts))
+    (plain_folded : (parts : List Part) (text : List ℕ) → has_wildcard parts ≡ false → Fits parts text false ↔ (folded text ≡ folded (plain_text parts))) where
+  -- ---- fields of texts and addresses
+
+  -- where a pattern of characters alone fits, without regard to case, the texts that are its own after folding
+  decimal_means : (low text : List ℕ) → list_all is_low low ≡ true → Fits (characters low) text false ↔ (text ≡ low)
+  decimal_means low text lows =
+      let own = plain_folded (characters low) text (no_wildcard low) in (
+        (λ h. low_text text low lows (own.0 h ∙ ap folded (own_text low))),
+        (λ h. own.1 (ap folded h ∙ ap folded (sym (own_text low)))),
+      )
+
+  text_means : (test : Test) (all : List Value) → TestHolds (text_test test) all ↔ Holds test all
+  text_means tests.Absent all = iff_same
+  text_means (tests.Exists true) all = iff_same
+  text_means (tests.Exists false) all = iff_same
+  text_means (tests.Fits parts cased) all = iff_same
+  text_means (tests.Equals n) all =
+      some_same (λ v. Fits (characters (signed_decimal n)) (value_text v) false) (λ v. value_text v ≡ signed_decimal n)
+      (λ v. decimal_means (signed_decimal n) (value_text v) (low_decimal n)) all
+
+  -- ---- fields of whole numbers
+
+  abbrev AreWhole : List Value → Type 0
+  AreWhole all = EachOf (IsOfKind kinds.Whole) all
+
+  -- a pattern without a wildcard fits the decimals that are its text, with or without regard to case
+  pattern_fits : (parts : List Part) (cased : Bool) (low : List ℕ) → list_all is_low low ≡ true → has_wildcard parts ≡ false
+      → Fits parts low cased ↔ (low ≡ plain_text parts)
+  pattern_fits parts true low lows plain = plain_cased parts low plain
+  pattern_fits parts false low lows plain =
+      iff_then (plain_folded parts low plain) ((λ e. sym (low_text (plain_text parts) low lows (sym e))), (λ e. ap folded e))
+
+  value_fits : (parts : List Part) (cased : Bool) (n : ℤ) → has_wildcard parts ≡ false → plain_text parts ≡ signed_decimal n
+      → (v : Value) → IsOfKind kinds.Whole v → (value_text v ≡ signed_decimal n) ↔ Fits parts (value_text v) cased
+  value_fits parts cased n plain is (values.Text text) whole = absurd whole
+  value_fits parts cased n plain is (values.Whole m) whole =
+      iff_then ((λ e. e ∙ sym is), (λ e. e ∙ is)) (iff_back (pattern_fits parts cased (signed_decimal m) (low_decimal m) plain))
+
+  no_value_fits : (parts : List Part) (cased : Bool) → has_wildcard parts ≡ false → written_number (plain_text parts) ≡ None
+      → (v : Value) → IsOfKind kinds.Whole v → Fits parts (value_text v) cased → ⊥
+  no_value_fits parts cased plain none (values.Text text) whole fits = whole
+  no_value_fits parts cased plain none (values.Whole m) whole fits =
+      let is : signed_decimal m ≡ plain_text parts = (pattern_fits parts cased (signed_decimal m) (low_decimal m) plain).0 fits in
+      let some = written_gives (plain_text parts) m (sym is) whole in
+      absurd (cc)
+
+  number_means : (parts : List Part) (cased : Bool) (number : Option ℤ) → has_wildcard parts ≡ false → written_number (plain_text parts) ≡ number
+      → (all : List Value) → AreWhole all → Passes (option_map leaf_tests.Equals number) all ↔ SomeOf (λ v. Fits parts (value_text v) cased) all
+  number_means parts cased None plain is all whole =
+      nothing (none_of (IsOfKind kinds.Whole) (λ v. Fits parts (value_text v) cased) (no_value_fits parts cased plain is) all whole)
+  number_means parts cased (Some n) plain is all whole =
+      some_each (IsOfKind kinds.Whole) (λ v. value_text v ≡ signed_decimal n) (λ v. Fits parts (value_text v) cased)
+      (value_fits parts cased n plain (written_is (plain_text parts) n is).0) all whole
+
+  fits_means : (parts : List Part) (cased : Bool) (all : List Value) → AreWhole all
+      → Passes (whole_test (tests.Fits parts cased)) all ↔ SomeOf (λ v. Fits parts (value_text v) cased) all
+  fits_means parts cased all whole = by (has_wildcard parts) refl where
+    by : (b : Bool) → has_wildcard parts ≡ b
+        → Passes (if b then Some (leaf_tests.Fits parts cased) else option_map leaf_tests.Equals (written_number (plain_text parts))) all
+        ↔ SomeOf (λ v. Fits parts (value_text v) cased) all
+    by true is = iff_same
+    by false is = number_means parts cased (written_number (plain_text parts)) is refl all whole
+
+  no_value_is : (n : ℤ) → is_whole n ≡ false → (v : Value) → IsOfKind kinds.Whole v → value_text v ≡ signed_decimal n → ⊥
+  no_value_is n out (values.Text text) whole e = whole
+  no_value_is n out (values.Whole m) whole e =
+      let same = same_number m n whole e in
+      let fits = whole_tests m whole in
+      let test : is_whole n ≡ true = ap is_whole (sym same) ∙ fits in
+      absurd (cc)
+
+  equals_means : (n : ℤ) (all : List Value) → AreWhole all → Passes (whole_test (tests.Equals n)) all ↔ SomeOf (λ v. value_text v ≡ signed_decimal n) all
+  equals_means n all whole = by (is_whole n) refl where
+    by : (b : Bool) → is_whole n ≡ b → Passes (option_map leaf_tests.Equals (if b then Some n else None)) all ↔ SomeOf (λ v. value_text v ≡ signed_decimal n) all
+    by true is = iff_same
+    by false is = nothing (none_of (IsOfKind kinds.Whole) (λ v. value_text v ≡ signed_decimal n) (no_value_is n is) all whole)
+
+  whole_means : (test : Test) (all : List Value) → AreWhole all → Passes (whole_test test) all ↔ Holds test all
+  whole_means tests.Absent all whole = iff_same
+  whole_means (tests.Exists true) all whole = iff_same
+  whole_means (tests.Exists false) all whole = iff_same
+  whole_means (tests.Fits parts cased) all whole = fits_means parts cased all whole
+  whole_means (tests.Equals n) all whole = equals_means n all whole
+
+  pub test_means : (kind : FieldKind) (test : Test) (all : List Value) → EachOf (IsOfKind kind) all → Passes (leaf_test kind test) all ↔ Holds test all
+  test_means kinds.Text test all known = text_means test all
+  test_means kinds.Whole test all known = whole_means test all known
+  test_means kinds.Address test all known = text_means test all

@@ -1,0 +1,104 @@
+//! What leaves ask of fields.
+
+ghost use Rattle.std.specs.Prelude.{◌≡◌, if◌then◌else◌, map, Option, Some, option_map, IfOk, IfErr};
+ghost use Rattle.std.specs.Fmt.{signed_decimal};
+ghost use Rattle.backend_core.specs.declared.tree.LeafTest.TheVariants as leaf_tests;
+ghost use Rattle.rule_lowering.specs.TreeOf as spec;
+ghost use Rattle.rule_lowering.specs.WholeNumbers.{written_number};
+ghost use Rattle.sig_strings.specs.Edits.{has_wildcard, plain_text};
+ghost use Rattle.sig_strings.specs.declared.part.Part.TheVariants.{Char};
+
+use crate::whole::{read_whole, whole_number};
+use backend_core::LeafTest;
+use event_schema::{FieldKind, decimal_in};
+use itoa::Buffer;
+use sig_base::{Fault, first_char};
+use sig_modifiers::Test;
+use sig_strings::{Part, Pattern};
+use std::alloc::Global;
+
+/// The pattern of a number's decimal.
+fn decimal_pattern(alloc: Global, number: i64) -> Result<Pattern, Fault>
+    ensures ok { IfOk result (λ pattern. pattern ≡ map Char (signed_decimal number)) }
+    ensures err { IfErr result (λ e. e ≡ Fault.Memory) }
+{
+    let mut buffer = Buffer::new();
+    let mut left = decimal_in(&mut buffer, number);
+    let mut parts = Vec::with_capacity(alloc, left.len())?;
+    while let Some((c, rest)) = first_char(left) {
+        parts.push(Part::Char(c))?;
+        left = rest;
+    }
+    Pattern::of_parts(parts)
+}
+
+/// What a leaf asks of a field of texts or addresses.
+fn text_test(alloc: Global, test: &Test) -> Result<LeafTest, Fault>
+    ensures ok { IfOk result (λ t. t ≡ spec.text_test test.now) }
+    ensures err { IfErr result (λ e. e ≡ Fault.Memory) }
+{
+    match test {
+        Test::Absent | Test::Exists(false) => Ok(LeafTest::Absent),
+        Test::Exists(true) => Ok(LeafTest::Has),
+        Test::Fits { pattern, cased } => {
+            let pattern = pattern.copy()?;
+            Ok(LeafTest::Fits {
+                pattern,
+                cased: *cased,
+            })
+        }
+        Test::Equals(number) => {
+            let pattern = decimal_pattern(alloc, *number)?;
+            Ok(LeafTest::Fits {
+                pattern,
+                cased: false,
+            })
+        }
+    }
+}
+
+fn equals(number: Option<i64>) -> Option<LeafTest>
+    ensures { result ≡ option_map leaf_tests.Equals number }
+{
+    match number {
+        Some(number) => Some(LeafTest::Equals(number)),
+        None => None,
+    }
+}
+
+/// What a pattern asks of a field of whole numbers.
+fn whole_pattern(alloc: Global, pattern: &Pattern, cased: bool) -> Result<Option<LeafTest>, Fault>
+    ensures ok { IfOk result (λ t. t ≡ (if has_wildcard pattern.now then Some (leaf_tests.Fits pattern.now cased)
+        else option_map leaf_tests.Equals (written_number (plain_text pattern.now)))) }
+    ensures err { IfErr result (λ e. e ≡ Fault.Memory) }
+{
+    let Some(text) = pattern.plain_text(alloc)? else {
+        let pattern = pattern.copy()?;
+        return Ok(Some(LeafTest::Fits { pattern, cased }));
+    };
+    Ok(equals(read_whole(text.as_str())))
+}
+
+/// What a leaf asks of a field of whole numbers, if a value can pass the test.
+fn whole_test(alloc: Global, test: &Test) -> Result<Option<LeafTest>, Fault>
+    ensures ok { IfOk result (λ t. t ≡ spec.whole_test test.now) }
+    ensures err { IfErr result (λ e. e ≡ Fault.Memory) }
+{
+    match test {
+        Test::Absent | Test::Exists(false) => Ok(Some(LeafTest::Absent)),
+        Test::Exists(true) => Ok(Some(LeafTest::Has)),
+        Test::Fits { pattern, cased } => whole_pattern(alloc, pattern, *cased),
+        Test::Equals(number) => Ok(equals(whole_number(*number))),
+    }
+}
+
+/// What a leaf asks of a field of this kind, if a value can pass the test.
+pub fn leaf_test(alloc: Global, kind: FieldKind, test: &Test) -> Result<Option<LeafTest>, Fault>
+    ensures ok { IfOk result (λ t. t ≡ spec.leaf_test kind test.now) }
+    ensures err { IfErr result (λ e. e ≡ Fault.Memory) }
+{
+    match kind {
+        FieldKind::Text | FieldKind::Address => Ok(Some(text_test(alloc, test)?)),
+        FieldKind::Whole => whole_test(alloc, test),
+    }
+}
