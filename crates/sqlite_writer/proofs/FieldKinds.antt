@@ -1,5 +1,5 @@
 -- The kind of a field, as a query finds it by the field's name, and as an event has it.
-use Rattle.std.proofs.Common.{ℕ, zero, suc, ◌≡◌, refl, ap, Bool, true, false, if◌then◌else◌, List, [], ◌∷◌}
+use Rattle.std.proofs.Common.{ℕ, zero, suc, ◌≡◌, refl, Bool, true, false, if◌then◌else◌, List, [], ◌∷◌}
 use Rattle.std.specs.Prelude.{ℤ, Option, Some, None, ⊤}
 use Rattle.std.specs.Str.{all_scalars}
 use Rattle.event_schema.specs.Events.{IsEvent, IsOfKind}

@@ -10,7 +10,7 @@ use Rattle.event_schema.specs.declared.schema.FieldKind.{FieldKind}
 use Rattle.event_schema.specs.declared.schema.FieldKind.TheVariants as kinds
 use Rattle.event_schema.specs.declared.value.Value.{Value}
 use Rattle.event_schema.specs.declared.value.Value.TheVariants as values
-use Rattle.event_schema.specs.Events.{IsEvent, IsOfKind, IsWholeNumber}
+use Rattle.event_schema.specs.Events.{IsEvent, IsWholeNumber}
 use Rattle.event_schema.specs.Lists.{SomeOf}
 use Rattle.sig_strings.specs.Edits.{all_written, has_wildcard, plain_text}
 use Rattle.sig_strings.specs.Fits.{Fits}

@@ -1,5 +1,5 @@
 -- What is lacking: nothing for fields of one value; and whether a field may have several.
-use Rattle.std.proofs.Common.{ℕ, zero, suc, ◌≡◌, ◌<◌, ◌≤◌, ◌∙◌, refl, sym, ap, Bool, true, false, cond, List, [], ◌∷◌, length, map, get_or, arith}
+use Rattle.std.proofs.Common.{ℕ, zero, suc, ◌≡◌, ◌<◌, ◌≤◌, refl, sym, ap, Bool, false, cond, List, [], ◌∷◌, length, map, get_or, arith}
 use Rattle.std.specs.Prelude.{Option, Some, None}
 use Rattle.event_schema.specs.Inferred.{text_field}
 use Rattle.event_schema.specs.declared.schema.Field.{Field}
@@ -7,7 +7,6 @@ use Rattle.sig_base.specs.Judged.{first}
 use Rattle.sig_base.specs.declared.refusal.Refusal.{Refusal}
 use Rattle.backend_core.specs.Lacks.{leaf_refusal, lack_refusal, lacks_refusal}
 use Rattle.backend_core.specs.Trees.{Plain, Plains, no_parts, a_part, all, any, negated, leaf, never}
-use Rattle.backend_core.specs.declared.lack.Lack.{Lack}
 use Rattle.backend_core.specs.declared.lack.Lack.TheVariants.{Many}
 use Rattle.backend_core.specs.declared.tree.Leaf.{Leaf}
 use Rattle.sqlite_writer.specs.Lacking.{is_many, sqlite_lacks}

@@ -1,6 +1,6 @@
 -- Whole numbers are compared as their decimals are.
-use Rattle.std.proofs.Common.{ℕ, ◌≡◌, ◌<◌, ◌^◌, refl, sym, ap, subst, true, ◌&&◌, arith}
-use Rattle.std.specs.Prelude.{ℤ, pos, negsuc, int_le, ◌↔◌}
+use Rattle.std.proofs.Common.{◌≡◌, ap, subst, true, arith}
+use Rattle.std.specs.Prelude.{ℤ, pos, negsuc, ◌↔◌}
 use Rattle.std.specs.Fmt.{signed_decimal}
 use Rattle.std.proofs.lemmas.Fmt.{signed_decimal_injective}
 use Rattle.std.proofs.lemmas.Int.{ints}

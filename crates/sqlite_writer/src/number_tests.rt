@@ -72,11 +72,11 @@ fn is_written(alloc: Global, tree: &Tree, condition: &str) -> Result<bool, Fail>
     Ok(bytes.as_slice() == want.as_slice())
 }
 
-/// The depth for which the tree's query is refused under this limit; 0 where it's written.
-fn refused_depth(alloc: Global, limit: usize, tree: &Tree) -> Result<i128, Fail> {
+/// The depth of the tree's query where it's deeper than 1; else it's written, and this is 0.
+fn depth_above_one(alloc: Global, tree: &Tree) -> Result<i128, Fail> {
     let schema = schema(alloc)?;
     let mut limits = Limits::standard();
-    limits.sql_depth = limit;
+    limits.sql_depth = 1;
     match Sqlite.write(alloc, &limits, &schema, tree, PLACE) {
         Ok(_) => Ok(0),
         Err(
@@ -151,15 +151,13 @@ fn what_never_holds(rt: HostRuntime) -> Result<(), Fail> {
 #[test]
 fn depths_of_numbers_and_never(rt: HostRuntime) -> Result<(), Fail> {
     let alloc = rt.alloc();
-    for (tree, limit, want) in &[
-        (Tree::Never, 0, 1),
-        (Tree::Never, 1, 0),
-        (not(alloc, Tree::Never)?, 1, 2),
-        (equals(1, 1), 1, 2),
-        (equals(1, 1), 2, 0),
-        (not(alloc, equals(1, 1))?, 3, 4),
+    for (tree, want) in &[
+        (Tree::Never, 0),
+        (not(alloc, Tree::Never)?, 2),
+        (equals(1, 1), 2),
+        (not(alloc, equals(1, 1))?, 4),
     ] {
-        assert_eq!(rt; refused_depth(alloc, *limit, tree)?, *want);
+        assert_eq!(rt; depth_above_one(alloc, tree)?, *want);
     }
     Ok(())
 }
