@@ -1,7 +1,7 @@
 #!/usr/bin/env python3
 """Tries converted rules in a real SQLite. Run by hand; it needs Python 3 with its `sqlite3` and a built program.
 
-    python3 bench/against_sqlite.py PROGRAM [--rules N] [--seed S] [--indexes]
+    python3 bench/against_sqlite.py PROGRAM [--rules N] [--seed S] [--indexes] [--schema]
 
 PROGRAM is the built program, as crates/sigma_app/out/sigma_app. It makes N small rules of odd values (wildcards, escapes, quotes,
 signs of LIKE and GLOB, letters beyond ASCII, numbers, null, lists, each modifier, conditions that nest; one in 200 has a list of
@@ -13,8 +13,12 @@ numbers of rules last; the exit status is 1 where one differs.
 With --indexes each query runs on two more tables with the same events: with indexes COLLATE NOCASE on its columns, where the same
 rows are wanted, and with ordinary indexes, where SQLite 3.40.1 selects too few rows for a list of plain values; how many
 queries it gets wrong there is printed, and isn't counted as a difference.
+
+With --schema the rules are converted under a schema that has a field of whole numbers besides, in an INTEGER column, and fields that
+keywords search: rules then ask it for numbers, for texts that are decimals and for texts that are none, and by patterns, and have keywords.
 """
 import argparse
+import json
 import os
 import random
 import re
@@ -29,6 +33,8 @@ CHAINS = [[], [], ["contains"], ["startswith"], ["endswith"], ["contains", "all"
           ["endswith", "cased"]]
 PLACES = {"contains", "startswith", "endswith"}
 NAMES = ["sel", "sel_a", "sel_b", "filter", "_h"]
+WHOLE, SEARCHED = [], []  # the fields of whole numbers and those that keywords search: none without a schema
+NUMBERS = ["007", "+5", "-0", "1e1", "5 ", "9223372036854775808", "-9223372036854775808", "9223372036854775807", "-9223372036854775807", "*", "?", "1*", "-*", "*0", "?1"]
 RUN, ONE = "run", "one"
 
 # ---- what is made
@@ -38,8 +44,14 @@ def some_text(rng):
     return "".join(rng.choice(SIGNS) for _ in range(rng.randrange(5)))
 
 
-def some_value(rng, chain):
+def some_number(rng):
+    return rng.choice([rng.randrange(-20, 20), rng.randrange(-20, 20), 10 ** rng.randrange(18), 2 ** 63 - 1, 1 - 2 ** 63])
+
+
+def some_value(rng, chain, whole=False):
     kind = rng.randrange(10)
+    if whole and kind > 1:
+        return rng.choice([some_number(rng), str(some_number(rng)), rng.choice(NUMBERS)])
     if kind == 0 and not PLACES & set(chain):
         return None
     if kind == 1:
@@ -55,7 +67,13 @@ def some_item(rng):
     if rng.randrange(12) == 0:
         return field, ["exists"], [rng.choice([True, False])]
     chain = rng.choice(CHAINS)
-    return field, chain, [some_value(rng, chain) for _ in range(rng.choice([1, 1, 1, 2, 3]))]
+    return field, chain, [some_value(rng, chain, field in WHOLE) for _ in range(rng.choice([1, 1, 1, 2, 3]))]
+
+
+def some_keyword(rng, chain):
+    """A keyword's values; null is none."""
+    values = [some_value(rng, chain) for _ in range(rng.choice([1, 1, 2]))]
+    return None, chain, ["" if value is None else value for value in values]
 
 
 def some_condition(rng, names, depth):
@@ -79,7 +97,7 @@ def some_event(rng):
             return str(rng.randrange(-20, 20))
         return rng.choice(["true", "False", ""]) if kind == 2 else some_text(rng)
 
-    return {field: value() for field in FIELDS}
+    return {field: rng.choice([None, some_number(rng)]) if field in WHOLE else value() for field in FIELDS}
 
 
 # ---- how it is written
@@ -99,7 +117,8 @@ def written(rng, value):
 
 def item_lines(rng, indent, item):
     field, chain, values = item
-    key = "|".join([field] + chain)
+    key = "|".join([field or ""] + chain)
+    key = key if field else f"'{key}'"
     if len(values) == 1 and rng.randrange(2):
         return [f"{indent}{key}: {written(rng, values[0])}"]
     if rng.randrange(2):
@@ -110,7 +129,8 @@ def item_lines(rng, indent, item):
 def some_map(rng, indent):
     """The lines of a map, and its items, no key twice."""
     lines, items = [], {}
-    for item in (some_item(rng) for _ in range(rng.randrange(1, 3))):
+    for item in (some_keyword(rng, rng.choice([["all"], ["contains"], ["startswith", "all"], ["cased"]])) if SEARCHED and rng.randrange(8) == 0 else some_item(rng)
+                 for _ in range(rng.randrange(1, 3))):
         if (item[0], *item[1]) not in items:
             items[(item[0], *item[1])] = item
             lines += item_lines(rng, indent, item)
@@ -124,6 +144,11 @@ def some_detection(rng, name):
         return [f"  {name}:"] + lines, [items]
     lines, alternatives = [f"  {name}:"], []
     for _ in range(rng.randrange(1, 3)):
+        if SEARCHED and rng.randrange(3) == 0:
+            _, _, values = some_keyword(rng, [])
+            lines.append(f"    - {written(rng, values[0])}")
+            alternatives.append([(None, [], values[:1])])
+            continue
         inner, items = some_map(rng, "      ")
         lines += ["    - " + inner[0].strip()] + inner[1:]
         alternatives.append(items)
@@ -185,6 +210,7 @@ def satisfied(chain, value, found):
     """Whether what an event has in a field satisfies one value."""
     if value is None or found is None:
         return value is None and found is None
+    found = str(found)
     if isinstance(value, int) and not isinstance(value, bool):
         parts = [(digit,) for digit in str(value)]
     else:
@@ -200,7 +226,9 @@ def holds(item, event):
     field, chain, values = item
     if chain == ["exists"]:
         return (event[field] is not None) == values[0]
-    return (all if "all" in chain else any)(satisfied(chain, value, event[field]) for value in values)
+    places = chain if field or PLACES & set(chain) else chain + ["contains"]
+    return (all if "all" in chain else any)(
+        any(satisfied(places, value, found) for found in ([event[name] for name in SEARCHED] if field is None else [event[field]])) for value in values)
 
 
 class Nothing(Exception):
@@ -249,13 +277,23 @@ def matches(condition, detections, event):
 # ---- the trial
 
 
+def schema_words(folder):
+    """The option for the schema's file, which is written here, if there is one."""
+    if not WHOLE:
+        return []
+    fields = [{"name": field, "kind": "whole" if field in WHOLE else "text", "search": field in SEARCHED} for field in FIELDS]
+    with open(os.path.join(folder, "schema.json"), "w", encoding="utf-8") as file:
+        json.dump({"fields": fields}, file)
+    return ["--schema", "schema.json"]
+
+
 def converted(program, folder, rules):
     """The query of each rule, or the line of its refusal."""
     names = [f"{number}.yml" for number in range(len(rules))]
     for name, (text, _, _) in zip(names, rules):
         with open(os.path.join(folder, name), "w", encoding="utf-8", newline="") as file:
             file.write(text)
-    ran = subprocess.run([program, "convert", "--backend", "sqlite", *names], cwd=folder, capture_output=True)
+    ran = subprocess.run([program, "convert", "--backend", "sqlite", *schema_words(folder), *names], cwd=folder, capture_output=True)
     lines = {line.split(":")[0]: line for line in ran.stderr.decode().splitlines()}
     queries = iter(ran.stdout.decode().split("\n"))
     return [(None, lines[name]) if name in lines else (next(queries), None) for name in names]
@@ -266,7 +304,8 @@ def tables(indexes):
     databases = []
     for collation in [None, " collate nocase", ""] if indexes else [None]:
         database = sqlite3.connect(":memory:")
-        database.execute(f"create table events (number integer, {', '.join(f'{chr(34)}{field}{chr(34)} text' for field in FIELDS)})")
+        columns = [f'"{field}" {"integer" if field in WHOLE else "text"}' for field in FIELDS]
+        database.execute(f"create table events (number integer, {', '.join(columns)})")
         if collation is not None:
             for number, field in enumerate(FIELDS):
                 database.execute(f'create index of_{number} on events ("{field}"{collation})')
@@ -284,7 +323,8 @@ def selected(database, events, query):
 def swapped(rng, detections):
     """An event whose values are values of the rule, in another case."""
     values = [value for alternatives in detections.values() for items in alternatives for _, _, values in items for value in values]
-    return {field: str(rng.choice(values + [""])).swapcase() for field in FIELDS}
+    numbers = [value for value in values if isinstance(value, int) and not isinstance(value, bool)]
+    return {field: rng.choice(numbers + [None]) if field in WHOLE else str(rng.choice(values + [""])).swapcase() for field in FIELDS}
 
 
 def tried(databases, rng, rule, query, line, wrong):
@@ -311,7 +351,12 @@ def main():
     parser.add_argument("--rules", type=int, default=5000, help="how many rules (5,000)")
     parser.add_argument("--seed", type=int, default=1, help="the seed of what is made (1)")
     parser.add_argument("--indexes", action="store_true", help="run the queries with indexes too")
+    parser.add_argument("--schema", action="store_true", help="convert under a schema with whole numbers and keywords")
     told = parser.parse_args()
+    if told.schema:
+        FIELDS.append("n")
+        WHOLE.append("n")
+        SEARCHED.extend(["Image", "Cmd"])
     rng, program = random.Random(told.seed), os.path.abspath(told.program)
     databases, wrong = tables(told.indexes), []
     counts = {True: 0, False: 0, None: 0}
