@@ -1,6 +1,6 @@
 -- What writing shares leaves, one behind the other.
 use Rattle.std.proofs.Common.{◌≡◌, ℕ, Bool, false, List, [], refl, ap, sym, ◌∙◌, subst, append-nil, inl, inr, true, Option, None, Result, Ok, Err}
-use Rattle.std.specs.Prelude.{◌||◌, ◌⊎◌, OnErr}
+use Rattle.std.specs.Prelude.{◌||◌, ◌⊎◌}
 use Rattle.std.specs.Io.KnownBytes.{Appends}
 use Rattle.sig_base.proofs.Puts.{Appends-nothing, front_nothing}
 use Rattle.answer_parts.specs.Lines.{ended}

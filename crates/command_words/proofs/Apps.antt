@@ -1,16 +1,14 @@
 -- The clap command of a row of the table.
-use Rattle.std.proofs.Common.{◌≡◌, ◌∙◌, ℕ, ◌==◌, Bool, true, false, not, ◌&&◌, ◌||◌, List, [], ◌∷◌, ◌++◌, map, Option, Some, None, codes, cond, refl, sym, ap, subst}
-use Rattle.std.specs.List.{list_any, list_all, AllByRecursion}
+use Rattle.std.proofs.Common.{◌≡◌, Bool, true, false, List, [], ◌∷◌, ◌++◌, map, refl, subst}
+use Rattle.std.specs.List.{list_all, AllByRecursion}
 use Rattle.std.specs.Str.{bytes_eq}
 use Rattle.std.proofs.lemmas.Slice.Eq.{bytes_eq-Decides}
-use Rattle.clap.specs.Walk.{Rule, has_row, is_empty}
+use Rattle.clap.specs.Walk.{Rule}
 use Rattle.clap.specs.Takes.{default_passes}
-use Rattle.clap.specs.Simple.{App, Shape, new_app, new_rule, with_rule, on_top, built, is_simple}
-use Rattle.clap.specs.Faults.{is_simple_and_free}
-use Rattle.clap.specs.declared.builder.action.ArgAction.TheVariants.{Set, Append}
+use Rattle.clap.specs.Simple.{built, is_simple}
 use Rattle.command_words.specs.Given.{Word, is_among}
 use Rattle.command_words.specs.declared.command_name.Count.{Count}
-use Rattle.command_words.specs.declared.command_name.Count.TheVariants.{NoName, OneName, SomeNames}
+use Rattle.command_words.specs.declared.command_name.Count.TheVariants.{NoName}
 use Rattle.command_words.specs.Table.{Row, takes_names, backend, schema, check, convert}
 use Rattle.command_words.proofs.Shapes.{file_id, option_rule, file_rule, shape_with, IsName, IsOption, HasFiles, Serves}
 use Rattle.command_words.specs.Apps.{app_with}

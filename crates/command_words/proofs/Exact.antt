@@ -1,9 +1,9 @@
 -- What clap's command of a row serves alone; and words that give items are clean.
-use Rattle.std.proofs.Common.{◌≡◌, ◌∙◌, ℕ, ◌==◌, Bool, true, false, not, ◌&&◌, ◌||◌, List, [], ◌∷◌, ◌++◌, map, Option, Some, None, Result, Ok, Err, cond, refl, sym, ap, subst}
-use Rattle.std.specs.Prelude.{IfOk, option_and_then, unwrap_or, option_map}
+use Rattle.std.proofs.Common.{◌≡◌, ◌∙◌, ◌==◌, Bool, true, false, not, ◌&&◌, List, [], ◌∷◌, ◌++◌, map, Option, Some, None, Result, Ok, Err, refl, sym, ap, subst}
+use Rattle.std.specs.Prelude.{IfOk, unwrap_or, option_map}
 use Rattle.std.specs.List.{list_all, list_any, after_first}
 use Rattle.std.specs.Str.{bytes_eq}
-use Rattle.clap.specs.Lexer.{strip_byte, long_of, name_and_value}
+use Rattle.clap.specs.Lexer.{name_and_value}
 use Rattle.clap.proofs.CutLemmas.{Lacks, list_any-Lacks, list_any-at, after_first-at}
 use Rattle.clap.specs.Walk.{Rule, arg_by_index, arg_by_long}
 use Rattle.clap.specs.Kinds.{Kinds, FailsBy}
@@ -15,13 +15,13 @@ use Rattle.clap.specs.declared.parser.matches.ArgMatches.{ArgMatches}
 use Rattle.command_words.specs.declared.command_name.Count.{Count}
 use Rattle.command_words.specs.declared.command_name.Count.TheVariants.{NoName, OneName, SomeNames}
 use Rattle.command_words.specs.declared.command_name.CommandName.{CommandName}
-use Rattle.command_words.specs.Given.{Word, Item, named, file, dashed, joined, is_among, is_value, is_nonempty, less, Reads, nothing, apart, together, placed, ended, names_of}
+use Rattle.command_words.specs.Given.{Word, Item, dashed, joined, is_among, is_value, is_nonempty, less, Reads, nothing, apart, together, placed, ended}
 use Rattle.command_words.specs.Table.{Row, row_of, takes_names, are_enough, IsGiven}
 use Rattle.command_words.specs.Matched.{IsRead}
 use Rattle.command_words.specs.Apps.{app_with, file_id}
 use Rattle.command_words.specs.Matched.{HasItems}
 use Rattle.command_words.specs.Clean.{behind_dashes, is_clean_option, is_option_or_value, is_last_dashes, clean_by, clean_from, are_clean}
-use Rattle.command_words.proofs.Shapes.{shape_with, option_rule, file_rule, IsOption, Serves}
+use Rattle.command_words.proofs.Shapes.{shape_with, option_rule, IsOption, Serves}
 use Rattle.command_words.proofs.Fresh.{or_left, or_right, and_left, and_right}
 use Rattle.command_words.proofs.Walks.{serves_less}
 use Rattle.command_words.proofs.Backward.{Only}

@@ -1,7 +1,7 @@
 -- Each command is served by its clap command, and what the matches have.
-use Rattle.std.proofs.Common.{◌≡◌, ◌∙◌, ℕ, Bool, true, false, List, [], ◌∷◌, ◌++◌, map, Option, Some, None, refl, sym, ap, subst}
+use Rattle.std.proofs.Common.{◌≡◌, ◌∙◌, true, List, [], ◌++◌, Option, Some, None, refl, sym, ap, subst}
 use Rattle.std.specs.Prelude.{option_map, option_and_then, slice_get, unwrap_or}
-use Rattle.clap.specs.Walk.{Row as Found, first_of, all_of, rows_of}
+use Rattle.clap.specs.Walk.{first_of, all_of, rows_of}
 use Rattle.clap.specs.Matches.{found_of}
 use Rattle.clap.specs.Simple.{App, HasMatchesOf, is_simple, matches_of}
 use Rattle.clap.specs.Takes.{takes}
@@ -9,11 +9,10 @@ use Rattle.clap.specs.declared.parser.matches.ArgMatches.{ArgMatches}
 use Rattle.clap.proofs.WalkLemmas.{first_value-rows, raw_values-rows}
 use Rattle.command_words.specs.declared.command_name.CommandName.{CommandName}
 use Rattle.command_words.specs.declared.command_name.CommandName.TheVariants as commands
-use Rattle.command_words.specs.Given.{Word, Item, Reads, value_of, names_of}
+use Rattle.command_words.specs.Given.{Word, Item, Reads, value_of}
 use Rattle.command_words.specs.Apps.{app_with, file_id}
 use Rattle.command_words.specs.Matched.{HasItems}
-use Rattle.command_words.specs.Table.{Row, row_of, takes_names, IsGiven}
-use Rattle.command_words.specs.Matched.{IsRead}
+use Rattle.command_words.specs.Table.{row_of, takes_names, IsGiven}
 use Rattle.command_words.proofs.Apps.{IsServed, check_served, convert_served}
 use Rattle.command_words.proofs.Fresh.{new_row}
 use Rattle.command_words.proofs.Taken.{read_by_clap, taken_by_clap}

@@ -1,11 +1,11 @@
 -- Words that a row of the table takes are words that its clap command takes, and the rows are the items'.
-use Rattle.std.proofs.Common.{◌≡◌, ◌∙◌, ℕ, ◌==◌, Bool, true, false, not, ◌&&◌, ◌||◌, List, [], ◌∷◌, ◌++◌, map, Option, Some, None, codes, cond, refl, sym, ap, subst, is_some}
-use Rattle.std.specs.Prelude.{option_map, unwrap_or, fold, drop}
+use Rattle.std.proofs.Common.{◌≡◌, ◌∙◌, Bool, true, false, not, ◌&&◌, ◌||◌, List, [], ◌∷◌, ◌++◌, map, Option, Some, None, cond, refl, sym, ap, subst, is_some}
+use Rattle.std.specs.Prelude.{option_map, unwrap_or, fold}
 use Rattle.std.specs.List.{list_any, list_all, AllByRecursion}
 use Rattle.std.specs.Str.{bytes_eq}
-use Rattle.clap.specs.Walk.{Held, Rule, idle, nothing_held, has_row, with_default, settled_rows, walked, finished, walk, settled}
+use Rattle.clap.specs.Walk.{Rule, idle, nothing_held, has_row, with_default, finished, walk, settled}
 use Rattle.clap.specs.Walk.{Row as Found}
-use Rattle.clap.specs.Takes.{built_takes, default_passes, is_given, level_passes, settle_passes, takes, walk_passes}
+use Rattle.clap.specs.Takes.{built_takes, is_given, level_passes, takes}
 use Rattle.clap.specs.Simple.{App, argument_words, built, is_simple, matches_of}
 use Rattle.clap.proofs.TakesLemmas.{leaf_takes}
 use Rattle.clap.proofs.FaultLemmas.{leaf_fault}
@@ -16,13 +16,13 @@ use Rattle.clap.specs.Faults.{built_fault, check_fault, default_fault, defaults_
 use Rattle.command_words.specs.Clean.{are_clean}
 use Rattle.command_words.proofs.Back.{none_both}
 use Rattle.command_words.proofs.Backward.{Only, back}
-use Rattle.command_words.specs.Given.{Word, Item, named, file, Reads, value_of, names_of}
+use Rattle.command_words.specs.Given.{Word, Item, Reads, value_of, names_of}
 use Rattle.command_words.specs.declared.command_name.Count.{Count}
 use Rattle.command_words.specs.declared.command_name.Count.TheVariants.{NoName, OneName, SomeNames}
 use Rattle.command_words.specs.Table.{Row, takes_names, are_enough, IsGiven}
 use Rattle.command_words.specs.Matched.{IsRead}
 use Rattle.command_words.specs.Apps.{app_with}
-use Rattle.command_words.proofs.Shapes.{file_id, option_rule, file_rule, shape_with, Serves, rows_from, at, is_idle}
+use Rattle.command_words.proofs.Shapes.{file_id, option_rule, shape_with, rows_from, at, is_idle}
 use Rattle.command_words.proofs.Turns.{Goes}
 use Rattle.command_words.proofs.Walks.{goes}
 use Rattle.command_words.proofs.Fresh.{and_left, and_right, or_left, or_right, or_both, new_row}

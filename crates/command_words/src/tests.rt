@@ -96,8 +96,14 @@ fn words_with_a_schema(rt: HostRuntime) -> Result<(), Fail> {
             "sqlite: r;--schema;s;",
         ),
         (["--schema", "s", "r"].as_slice(), "not taken"),
-        (["--backend=sqlite", "--schema", "s"].as_slice(), "not taken"),
-        (["--backend=sqlite", "r", "--schema"].as_slice(), "not taken"),
+        (
+            ["--backend=sqlite", "--schema", "s"].as_slice(),
+            "not taken",
+        ),
+        (
+            ["--backend=sqlite", "r", "--schema"].as_slice(),
+            "not taken",
+        ),
         (
             ["--backend=sqlite", "--schema", "s", "--schema", "s", "r"].as_slice(),
             "not taken",
@@ -110,7 +116,10 @@ fn words_with_a_schema(rt: HostRuntime) -> Result<(), Fail> {
             ["--backend=sqlite", "--schema", "", "r"].as_slice(),
             "not taken",
         ),
-        (["--backend=sqlite", "--schema=", "r"].as_slice(), "not taken"),
+        (
+            ["--backend=sqlite", "--schema=", "r"].as_slice(),
+            "not taken",
+        ),
         (
             ["--backend=sqlite", "--schema", "-s", "r"].as_slice(),
             "not taken",

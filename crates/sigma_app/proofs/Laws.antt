@@ -134,7 +134,7 @@ module _ (file : OfBoth OneFile) (limits : Limits) (schema : Option (List ℕ)) 
   one_converted a b (under name is given so others each same) (under other too given_too so_too others_too each_too same_too) =
       let one : given_too ≡ given = ok_is (schema_of limits (contents world.files name)) given_too given (moved name other is too (Ok given_too) so_too) so in
       let rest : others ≡ others_too = one_under file limits (Some given) rules world others others_too each
-          (subst (λ (g : Schema). FilesUnder limits (Some g) rules world others_too) one each_too) in
+      (subst (λ (g : Schema). FilesUnder limits (Some g) rules world others_too) one each_too) in
       same ∙ (ap (λ (n : List ℕ). schema_part n no_share ∷ others) (some_is schema name other is too)
       ∙ (ap (λ (ps : List Part). schema_part other no_share ∷ ps) rest ∙ sym same_too))
   one_converted a b (under name is given so others each same) (refused other too code so_too same_too) =

@@ -1,5 +1,5 @@
 -- What answering `convert` leaves, where a schema is named and where none is.
-use Rattle.std.proofs.Common.{◌≡◌, ℕ, suc, ◌+◌, ◌<◌, Bool, true, false, List, [], ◌∷◌, length, take, get_or, nat_lt, refl, ap, sym, ◌∙◌, subst, arith, Option, Some, None, Result, Ok, Err, inl, inr}
+use Rattle.std.proofs.Common.{◌≡◌, ℕ, suc, ◌+◌, ◌<◌, Bool, true, false, List, [], ◌∷◌, length, take, refl, ap, sym, ◌∙◌, subst, arith, Option, Some, None, Result, Ok, Err, inl, inr}
 use Rattle.std.specs.Prelude.{MatchOption, unwrap_or, Contains}
 use Rattle.std.proofs.lemmas.Bool.{cases_lt, lt-ltb}
 use Rattle.std.proofs.lemmas.List.{take_all, length-take-le}
@@ -10,7 +10,7 @@ use Rattle.answer_parts.specs.Each.{EachPart}
 use Rattle.answer_parts.specs.Input.{Input, World, Needs, File, Events, IsNeeded, IsTold}
 use Rattle.answer_parts.specs.Parts.{Share, Part, share_of, no_share}
 use Rattle.answer_parts.specs.Stands.{Writes, Cause, Stands, Ends, StopsBefore}
-use Rattle.answer_parts.specs.State.{State, Inputs}
+use Rattle.answer_parts.specs.State.{State}
 use Rattle.answer_parts.specs.declared.stop.Stop.{Stop}
 use Rattle.answer_parts.specs.declared.stop.Stop.TheVariants.{Unread, Unwritten, Memory}
 use Rattle.event_reading.specs.Answers.{Answers}
@@ -119,7 +119,7 @@ module _ (limits : Limits) (name : List ℕ) (rules : List (List ℕ)) where
         let cause = answered_refused file_start (schema_of limits bytes) r answers in
         ends_written needs Whole (λ share. share ≡ refusal_share name r) (Some (File name)) result old new
         (λ world told share is. refused name refl cause.0 (told_is world told ∙ cause.1)
-            (ap (λ (s : Share). schema_part name s ∷ []) (is ∙ ap (λ (x : Refusal). refusal_share name x) cause.2))) wrote
+        (ap (λ (s : Share). schema_part name s ∷ []) (is ∙ ap (λ (x : Refusal). refusal_share name x) cause.2))) wrote
 
     -- ---- the rule files were answered under it
 
@@ -163,10 +163,11 @@ module _ (limits : Limits) (name : List ℕ) (rules : List (List ℕ)) where
       unread = e.unread;
       cause = causes result e.unread e.cause;
       stands = λ world told.
-          let s = e.stands world (told_rules world told) in
-          (schema_part name no_share ∷ s.0,
-          under name refl given (told_is world told ∙ answered_ok file_start (schema_of limits bytes) given answers) s.0 s.1 refl,
-          behind (EachPart (RuleFile (ConvertGives limits (Some given)) limits) rules) world result e.unread s.0 e.cause s.2);
+          let s = e.stands world (told_rules world told) in (
+            schema_part name no_share ∷ s.0,
+            under name refl given (told_is world told ∙ answered_ok file_start (schema_of limits bytes) given answers) s.0 s.1 refl,
+            behind (EachPart (RuleFile (ConvertGives limits (Some given)) limits) rules) world result e.unread s.0 e.cause s.2,
+          );
       files = e.files;
       apart = e.apart;
       kept = e.kept;

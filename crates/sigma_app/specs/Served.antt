@@ -71,7 +71,7 @@ Written limits words world status old new = (parts : List Part) × Answer limits
 abbrev pub Headline : Limits → List (List ℕ) → World → Streams → Streams → Type 0
 Headline limits words world old new =
     (schema : Option (List ℕ)) (rules : List (List ℕ)) → IsAccepted words (Convert schema rules)
-        → (parts : List Part) × Converted (ConvertMeans limits) limits schema rules world parts × Gains (share_of parts) old new
+    → (parts : List Part) × Converted (ConvertMeans limits) limits schema rules world parts × Gains (share_of parts) old new
 
 -- What stands after a fault in writing or want of memory: a front of the answer's output, and of its diagnostics some whole ones
 -- and the beginning of at most one more, which may be the one about this input that couldn't be read.

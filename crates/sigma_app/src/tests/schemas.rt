@@ -68,7 +68,11 @@ fn converts_under_a_schema(rt: HostRuntime) -> Result<(), Fail> {
 fn refuses_what_does_not_fit(rt: HostRuntime) -> Result<(), Fail> {
     let cases: [(&str, &str, &str); 2] = [
         (IMAGE, "User: a", "r.yml:6:5: 81 UnknownField\n"),
-        (IMAGE, "'|all': [err, disk]", "r.yml:6:5: 83 NoSearchField\n"),
+        (
+            IMAGE,
+            "'|all': [err, disk]",
+            "r.yml:6:5: 83 NoSearchField\n",
+        ),
     ];
     for (schema, line, err) in cases {
         let rule = rule_of(rt.alloc(), line)?;
