@@ -87,40 +87,45 @@ fn lines_within_limits(rt: HostRuntime) -> Result<(), Fail> {
     Ok(())
 }
 
-/// The first call of the source whose failure is told otherwise; of three lines, what stands between `|` is wanted where the
-/// first call fails, the second, and so on.
-fn wrong_call(alloc: Global, most: usize, wants: &str) -> Result<Option<u64>, Fail> {
+/// Whether three lines are told as is wanted where the first call of the source fails, the second, and so on; what is wanted of
+/// each stands between `|`.
+fn each_is_told(alloc: Global, most: usize, wants: &str) -> Result<bool, Fail> {
     let mut call: u64 = 0;
     for want in wants.split('|') {
         call = call.saturating_add(1);
         let got = told(alloc, b"ab\ncd\nef\n", most, 8, 100, one(alloc, call)?)?;
         if got.as_str() != want {
-            return Ok(Some(call));
+            return Ok(false);
         }
     }
-    Ok(None)
+    Ok(true)
+}
+
+/// The first row, `most bytes of a piece~what is told`, that is told otherwise.
+fn wrong_row(alloc: Global, table: &str) -> Result<String, Fail> {
+    for row in table.lines() {
+        let Some((most, wants)) = row.split_once('~') else {
+            return Ok(String::from_str(alloc, row)?);
+        };
+        let Ok(most) = most.parse::<usize>() else {
+            return Ok(String::from_str(alloc, row)?);
+        };
+        if !each_is_told(alloc, most, wants)? {
+            return Ok(String::from_str(alloc, row)?);
+        }
+    }
+    Ok(String::new(alloc))
 }
 
 #[test]
 fn each_call_fails_once(rt: HostRuntime) -> Result<(), Fail> {
     let alloc = rt.alloc();
-    for (most, wants) in [
-        (
-            1,
-            "read end|read end|read end|1:2 read end|1:2 read end|1:2 read end|1:2 2:2 read end|1:2 2:2 read end|1:2 2:2 read end|1:2 2:2 3:2 read end|1:2 2:2 3:2 end",
-        ),
-        (
-            2,
-            "read end|read end|1:2 read end|1:2 2:2 read end|1:2 2:2 read end|1:2 2:2 3:2 read end|1:2 2:2 3:2 end",
-        ),
-        (
-            3,
-            "read end|1:2 read end|1:2 2:2 read end|1:2 2:2 3:2 read end|1:2 2:2 3:2 end",
-        ),
-        (65_536, "read end|1:2 2:2 3:2 read end|1:2 2:2 3:2 end"),
-    ] {
-        assert!(rt; wrong_call(alloc, most, wants)?.is_none());
-    }
+    let table =
+        r#"1~read end|read end|read end|1:2 read end|1:2 read end|1:2 read end|1:2 2:2 read end|1:2 2:2 read end|1:2 2:2 read end|1:2 2:2 3:2 read end|1:2 2:2 3:2 end
+2~read end|read end|1:2 read end|1:2 2:2 read end|1:2 2:2 read end|1:2 2:2 3:2 read end|1:2 2:2 3:2 end
+3~read end|1:2 read end|1:2 2:2 read end|1:2 2:2 3:2 read end|1:2 2:2 3:2 end
+65536~read end|1:2 2:2 3:2 read end|1:2 2:2 3:2 end"#;
+    assert_eq!(rt; wrong_row(alloc, table)?.as_str(), "");
     Ok(())
 }
 
