@@ -1,26 +1,19 @@
 -- Tables of texts with their verdicts, and of expressions with their depths and values, reckoned by hand from SQLite's pages on
 -- expressions: a row for each line of the definitions.
-use Rattle.std.proofs.Common.{ℕ, ◌≡◌, refl, true, false, List, [], ◌∷◌, ◌++◌, codes, subst, map}
-use Rattle.std.specs.Prelude.{Option, Some, None, Result, Ok, Err, pos, negsuc}
-use Rattle.event_schema.specs.declared.schema.Field.{Field}
-use Rattle.event_schema.specs.declared.schema.FieldKind.{FieldKind}
-use Rattle.event_schema.specs.declared.schema.FieldKind.TheVariants as kinds
-use Rattle.event_schema.specs.declared.schema.Schema.{Schema}
-use Rattle.event_schema.specs.declared.value.Value.{Value}
+use Rattle.std.proofs.Common.{ℕ, ◌≡◌, refl, true, false, List, [], ◌∷◌, ◌++◌, codes, map}
+use Rattle.std.specs.Prelude.{Some, None, Ok, pos, negsuc}
 use Rattle.event_schema.specs.declared.value.Value.TheVariants as values
 use Rattle.sql_lang.specs.Tokens.{Eq, Ne, Lt, Lte, Gt, Gte, scan, tokens, is_number, run_sort, text_sort}
-use Rattle.sql_lang.specs.Grammar.{Collate, Unsaid, NoCase, Binary}
-use Rattle.sql_lang.specs.Expression.{Operand, Side, ColumnAt, Text, Whole, Constant, IsNull, Compare, Like, Glob, OneOf, Between, Expr, Or, And, Not, Test, Exprs, no_exprs, an_expr, depth}
-use Rattle.text_places.specs.Places.{CodeAt, code_at}
+use Rattle.sql_lang.specs.Grammar.{Unsaid, NoCase, Binary}
+use Rattle.sql_lang.specs.Expression.{ColumnAt, Text, Whole, Constant, IsNull, Compare, Like, Glob, OneOf, Between, Or, And, Not, Test, no_exprs, an_expr, depth}
 use Rattle.sql_lang.specs.Faults.{is_bad_escape, is_bad_bracket}
 use Rattle.sql_lang.specs.Reading.{opens_too_far, nots_too_many}
 use Rattle.sql_lang.specs.Meaning.{Truth, Yes, No, Unknown, sql_value, like_from, glob_from, fits_parts}
 use Rattle.sql_lang.specs.ColumnTests.{column_side, value_test, no_value_test, text_test, number_test, column_test, like_test, glob_test}
 use Rattle.sql_lang.specs.Machine.{step, go_on}
-use Rattle.sql_lang.specs.Verdict.{verdict, IsVerdict}
-use Rattle.sql_lang.proofs.Judged.{verdict_is}
+use Rattle.sql_lang.specs.Verdict.{verdict}
 use Rattle.std.specs.Fmt.{digits}
-use Rattle.sql_lang.proofs.Examples.{schema, refused, Cases, where_text, side, computed, told, AreVerdicts, are_so, row, pair, unknown}
+use Rattle.sql_lang.proofs.Examples.{refused, Cases, where_text, side, computed, told, AreVerdicts, are_so, row, pair, unknown}
 
 -- texts behind WHERE that are queries: each sign, word, collation, kind of number, and the levels of the grammar
 abbrev read_cases : Cases
@@ -57,6 +50,12 @@ read_cases =
     ∷ (codes "NOT 0 AND 1", Ok (And (an_expr (Not (Test (Constant false))) (an_expr (Test (Constant true)) no_exprs))))
     ∷ (codes "\"n\" NOT BETWEEN 1 AND 2 OR 0", Ok (Or (an_expr (Test (Between (column_side 1) true (pos 1) (pos 2))) (an_expr (Test (Constant false)) no_exprs))))
     ∷ (codes "\"Image\" = ''''", Ok (text_test 0 (codes "'") Unsaid))
+    ∷ (codes "\"Image\" = " ++ 39 ∷ 1 ∷ 39 ∷ [], Ok (text_test 0 (1 ∷ []) Unsaid))
+    ∷ (codes "0 OR 1 OR \"n\" = 5", Ok (Or (an_expr (Test (Constant false)) (an_expr (Test (Constant true)) (an_expr (number_test 1 Eq (pos 5)) no_exprs)))))
+    ∷ (codes "0 AND 1 AND \"n\" = 5", Ok (And (an_expr (Test (Constant false)) (an_expr (Test (Constant true)) (an_expr (number_test 1 Eq (pos 5)) no_exprs)))))
+    ∷ (codes "\"Image\" LIKE 'a!!b' ESCAPE '!'", Ok (Test (Like 0 false (codes "a!!b") (Some 33))))
+    ∷ (codes "\"Image\" LIKE '!%!%' ESCAPE '!'", Ok (Test (Like 0 false (codes "!%!%") (Some 33))))
+    ∷ (codes "\"Image\" LIKE 'abc' ESCAPE '!'", Ok (Test (Like 0 false (codes "abc") (Some 33))))
     ∷ []
 
 read_cases_hold : computed 1000 where_text read_cases ≡ told read_cases
@@ -83,6 +82,11 @@ other_cases =
     ∷ (codes "\"n\" = 5 -- a", refused 121 1 38)
     ∷ (codes "0 || 1", refused 121 1 32)
     ∷ (codes "true", refused 121 1 30)
+    ∷ (codes "\"n\" = 1_0", refused 121 1 36)
+    ∷ (codes "\"n\" = 1`", refused 121 1 37)
+    ∷ (codes "\"n\" = 5^", refused 121 1 37)
+    ∷ (codes "\"n\" =! 5", refused 121 1 35)
+    ∷ (codes "\"n\" !", refused 121 1 34)
     ∷ []
 
 other_cases_hold : computed 1000 where_text other_cases ≡ told other_cases
@@ -149,6 +153,22 @@ stop_cases =
     ∷ (codes "; 0", refused 120 1 30)
     ∷ (codes "\"Image\" = 'a", refused 120 1 40)
     ∷ (codes "\"Image\" = \"a", refused 120 1 40)
+    ∷ (codes "(= 5", refused 120 1 31)
+    ∷ (codes "\"n\" => 5", refused 120 1 35)
+    ∷ (codes "\"n\" >> 5", refused 120 1 35)
+    ∷ (codes "\"n\" =< 5", refused 120 1 35)
+    ∷ (codes "\"Image\"7", refused 120 1 37)
+    ∷ (codes "\"n\" =NULL", refused 120 1 35)
+    ∷ (codes "\"n\" <>NULL", refused 120 1 36)
+    ∷ (codes "(0 'a", refused 120 1 33)
+    ∷ (codes "\"Image\" IN ('a' 'b", refused 120 1 46)
+    ∷ (codes "0 'a", refused 120 1 32)
+    ∷ (codes "0 <", refused 120 1 32)
+    ∷ (codes "\"n\" >", refused 120 1 35)
+    ∷ (codes "0 REGEXP 1", refused 120 1 32)
+    ∷ (codes "\"Image\" IS REGEXP", refused 120 1 41)
+    ∷ (codes "\"Image\" LIKE 'a' REGEXP 'b'", refused 120 1 47)
+    ∷ (codes "\"Image\" COLLATE REGEXP = 'a'", refused 120 1 46)
     ∷ []
 
 stop_cases_hold : computed 1000 where_text stop_cases ≡ told stop_cases
@@ -211,6 +231,11 @@ fault_cases =
     ∷ (codes "\"n\" = 'x' AND \"zz\" IS NULL", refused 123 1 30)
     ∷ (codes "\"Image\" GLOB '[' AND \"zz\" IS NULL", refused 125 1 43)
     ∷ (codes "((\"n\" = 'x'))", refused 123 1 32)
+    ∷ (codes "\"zz\" = 5 COLLATE NOCASE", refused 122 1 30)
+    ∷ (codes "\"n\" COLLATE NOCASE = \"zz\"", refused 123 1 30)
+    ∷ (codes "\"n\" = \"zz\" COLLATE NOCASE", refused 122 1 36)
+    ∷ (codes "\"Image\" COLLATE NOCASE = \"zz\"", refused 122 1 55)
+    ∷ (codes "\"Image\" = \"zz\" COLLATE NOCASE", refused 122 1 40)
     ∷ []
 
 fault_cases_hold : computed 1000 where_text fault_cases ≡ told fault_cases
@@ -305,6 +330,14 @@ truth_cases =
     ∷ (sql_value (number_test 1 Gte (pos 6)) row, No)
     ∷ (sql_value (number_test 1 Gte (negsuc 4)) row, Yes)
     ∷ (sql_value (Test (Compare (column_side 1) Gte (column_side 9))) row, Unknown)
+    ∷ (sql_value (Or (an_expr (Test (Constant false)) (an_expr (Test (Constant true)) (an_expr (Test (Constant false)) no_exprs)))) row, Yes)
+    ∷ (sql_value (Or (an_expr (Test (Constant false)) (an_expr (Test (Constant false)) (an_expr (Test (Constant true)) no_exprs)))) row, Yes)
+    ∷ (sql_value (Or (an_expr (Test (Constant false)) (an_expr (Test (Constant false)) (an_expr (Test (Constant false)) no_exprs)))) row, No)
+    ∷ (sql_value (And (an_expr (Test (Constant true)) (an_expr (Test (Constant false)) (an_expr (Test (Constant true)) no_exprs)))) row, No)
+    ∷ (sql_value (And (an_expr (Test (Constant true)) (an_expr (Test (Constant true)) (an_expr (Test (Constant false)) no_exprs)))) row, No)
+    ∷ (sql_value (And (an_expr (Test (Constant true)) (an_expr (Test (Constant true)) (an_expr (Test (Constant true)) no_exprs)))) row, Yes)
+    ∷ (sql_value (Or (an_expr (Test (Constant false)) (an_expr unknown (an_expr (Test (Constant false)) no_exprs)))) row, Unknown)
+    ∷ (sql_value (And (an_expr (Test (Constant true)) (an_expr unknown (an_expr (Test (Constant true)) no_exprs)))) row, Unknown)
     ∷ []
 
 truth_cases_hold : map (λ c. c.0) truth_cases ≡ map (λ c. c.1) truth_cases
@@ -361,6 +394,14 @@ test_cases =
     ∷ (sql_value (Test (Between (column_side 1) false (pos 6) (pos 4))) row, No)
     ∷ (sql_value (Test (Between (column_side 1) true (pos 6) (pos 4))) row, Yes)
     ∷ (sql_value (Test (Between (column_side 2) true (pos 1) (pos 2))) row, Unknown)
+    ∷ (sql_value (text_test 0 (codes "a") NoCase) (Some (values.Text (codes "A")) ∷ []), Yes)
+    ∷ (sql_value (text_test 0 (codes "z") NoCase) (Some (values.Text (codes "Z")) ∷ []), Yes)
+    ∷ (sql_value (text_test 0 (codes "`") NoCase) (Some (values.Text (codes "@")) ∷ []), No)
+    ∷ (sql_value (text_test 0 (codes "{") NoCase) (Some (values.Text (codes "[")) ∷ []), No)
+    ∷ (sql_value (number_test 0 Eq (pos 5)) row, No)
+    ∷ (sql_value (text_test 1 (codes "5") Unsaid) row, No)
+    ∷ (sql_value (Test (Compare (column_side 0) Lt (side Unsaid (Text (codes "A"))))) row, No)
+    ∷ (sql_value (Test (Compare (column_side 0) Gt (side Unsaid (Text (codes "z"))))) row, No)
     ∷ []
 
 test_cases_hold : map (λ c. c.0) test_cases ≡ map (λ c. c.1) test_cases
@@ -416,6 +457,11 @@ pattern_cases =
     ∷ (sql_value (glob_test 0 (codes "]")) (Some (values.Text (codes "]")) ∷ []), Yes)
     ∷ (sql_value (glob_test 0 (codes "*a")) (Some (values.Text (codes "bA")) ∷ []), No)
     ∷ (sql_value (glob_test 0 (codes "?")) (Some (values.Text (codes "é")) ∷ []), Yes)
+    ∷ (sql_value (Test (Like 0 false (codes "A") None)) (Some (values.Text (codes "a")) ∷ []), Yes)
+    ∷ (sql_value (Test (Like 0 false (codes "z") None)) (Some (values.Text (codes "Z")) ∷ []), Yes)
+    ∷ (sql_value (Test (Like 0 false (codes "{") None)) (Some (values.Text (codes "[")) ∷ []), No)
+    ∷ (sql_value (glob_test 0 (codes "a")) (Some (values.Text (codes "ab")) ∷ []), No)
+    ∷ (sql_value (glob_test 0 (codes "[*]")) (Some (values.Text (codes "*b")) ∷ []), No)
     ∷ []
 
 pattern_cases_hold : map (λ c. c.0) pattern_cases ≡ map (λ c. c.1) pattern_cases

@@ -10,7 +10,7 @@ use Rattle.event_schema.specs.declared.value.Value.TheVariants as values
 use Rattle.sql_lang.specs.Tokens.{Eq, Ne, Lt, Gte, scan, tokens, is_number, run_sort, text_sort}
 use Rattle.sql_lang.specs.Grammar.{Collate, Unsaid, NoCase, Binary}
 use Rattle.sql_lang.specs.Expression.{Operand, Side, ColumnAt, Text, Whole, Constant, Compare, Like, Glob, OneOf, Between, Expr, Or, And, Not, Test, Exprs, no_exprs, an_expr}
-use Rattle.text_places.specs.Places.{CodeAt, code_at}
+use Rattle.text_places.specs.Places.{CodeAt}
 use Rattle.sql_lang.specs.Faults.{is_bad_escape, is_bad_bracket}
 use Rattle.sql_lang.specs.Reading.{opens_too_far, nots_too_many}
 use Rattle.sql_lang.specs.Meaning.{Truth, Yes, No, Unknown, sql_value, like_from, glob_from, fits_parts}
@@ -30,7 +30,7 @@ schema = record {
 }
 
 abbrev pub refused : ℕ → ℕ → ℕ → Result Expr CodeAt
-refused code line column = Err (code_at code (record { line = line; column = column }))
+refused code line column = Err (record { code = code; place = record { line = line; column = column } })
 
 abbrev pub Cases : Type 0
 Cases = List (List ℕ × Result Expr CodeAt)
@@ -52,6 +52,12 @@ texts =
     ∷ (codes "SELECT * FROM \"other\" WHERE \"zz\" IS NULL", refused 122 1 15)
     ∷ (codes "! SELECT", refused 121 1 1)
     ∷ (codes "select\t*\rfrom \"EVENTS\" Where \"IMAGE\" is Null ; ", Ok (no_value_test 0))
+    ∷ (codes "SELECT \"", refused 120 1 8)
+    ∷ (codes "SELECT\n", refused 120 2 1)
+    ∷ (codes "SELECT\r\n\t", refused 120 2 2)
+    ∷ (codes "REGEXP * FROM \"events\" WHERE 0", refused 120 1 1)
+    ∷ (codes "SELECT * REGEXP \"events\" WHERE 0", refused 120 1 10)
+    ∷ (codes "SELECT * FROM \"events\" REGEXP 0", refused 120 1 24)
     ∷ []
 
 -- ---- texts behind WHERE
@@ -151,6 +157,12 @@ depth_cases =
     ∷ (codes "0 OR 0 OR \"zz\" IS NULL", refused 124 1 1)
     ∷ (codes "\"Image\" = 'x' COLLATE NOCASE", refused 124 1 1)
     ∷ (codes "\"Image\" NOT LIKE 'x'", Ok (Test (Like 0 true (codes "x") None)))
+    ∷ (codes "(0) (0) (0)", refused 120 1 34)
+    ∷ (codes "(0) (((0", refused 124 1 1)
+    ∷ (codes ")) ((((", refused 120 1 30)
+    ∷ (codes ")) (((((", refused 124 1 1)
+    ∷ (codes "NOT NOT 7", refused 120 1 38)
+    ∷ (codes "0 NOT NOT 0 NOT NOT", refused 120 1 32)
     ∷ []
 
 abbrev pub computed : ℕ → (List ℕ → List ℕ) → Cases → List (Result Expr CodeAt)

@@ -8,3 +8,4 @@ mod Judged
 mod Told
 mod Examples
 mod ExampleTables
+mod ExampleEdges
