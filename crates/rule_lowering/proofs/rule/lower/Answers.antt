@@ -1,5 +1,4 @@
 use Rattle.std.proofs.Common.{◌≡◌, ◌↔◌, ◌∙◌, ◌-◌, ◌^◌, List, length, min, refl}
-use Rattle.std.specs.Prelude.{Option}
 use Rattle.backend_core.specs.Holds.{TreeHolds}
 use Rattle.backend_core.specs.Sound.{IsSound}
 use Rattle.backend_core.specs.View.{tree_view}
