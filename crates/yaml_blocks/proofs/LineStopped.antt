@@ -4,7 +4,7 @@ use Rattle.std.proofs.lemmas.Bool.Decides.{nat_tests}
 use Rattle.std.specs.Str.{bytes_eq}
 use Rattle.yaml_tree.specs.Tree.{At, Tree, null, text, scalar, list, Elements, no_elements, element, Members, no_members, member, Member}
 use Rattle.yaml_lines.specs.File.{Line, begins, blank_or_end, skip_blanks, ends_line}
-use Rattle.yaml_lines.specs.Line.{spot, Stop, refused, unclosed, syntax, Read, starts_plain, plain_front, plain_rest, is_left_out}
+use Rattle.yaml_lines.specs.Line.{spot, Stop, refused, syntax, Read, starts_plain, plain_front, plain_rest, is_left_out}
 use Rattle.yaml_lines.specs.Scalar.{resolved, Quoted, closed, open_ended, bad_escape, single, double}
 use Rattle.yaml_lines.specs.Flow.{Front, front_map, opened, inside_open, runs_out, quoted_as, is_quote, quoted, merge, behind_colon, flow_key, is_seen, fresh_key, after_element, is_bracket, flow_element, flow_elements, flow_value, flow_entry, flow_members, flow_scalar, map_from, flow_node}
 use Rattle.yaml_lines.specs.Key.{key_stop, colon_then, quoted_key, key_at}

@@ -1,10 +1,10 @@
 -- The nodes of flow collections are paid by the characters that they're read from: two for each.
-use Rattle.std.proofs.Common.{◌≡◌, ℕ, zero, suc, ◌+◌, ◌*◌, ◌≤◌, true, false, not, ◌&&◌, ◌||◌, inl, inr, List, [], ◌∷◌, ◌++◌, length, drop, Ok, Err, refl, ap, arith}
+use Rattle.std.proofs.Common.{◌≡◌, ℕ, zero, suc, ◌+◌, ◌*◌, ◌≤◌, true, false, not, ◌&&◌, ◌||◌, inl, inr, List, [], ◌∷◌, ◌++◌, length, drop, Ok, refl, ap, arith}
 use Rattle.yaml_tree.specs.Tree.{At, null, text, Tree, scalar, list, Elements, no_elements, element, Members, no_members, member, Member}
 use Rattle.yaml_lines.specs.File.{Line, begins, blank_or_end, skip_blanks, ends_line}
-use Rattle.yaml_lines.specs.Line.{spot, refused, unclosed, Read, starts_plain, plain_front, plain_rest, is_left_out}
+use Rattle.yaml_lines.specs.Line.{spot, starts_plain, plain_front, plain_rest, is_left_out}
 use Rattle.yaml_lines.specs.Scalar.{resolved}
-use Rattle.yaml_lines.specs.Flow.{Front, front_map, inside_open, is_quote, fresh_key, after_element, is_bracket, flow_element, flow_elements, flow_value, flow_entry, flow_members, flow_scalar, map_from, flow_node}
+use Rattle.yaml_lines.specs.Flow.{Front, front_map, is_quote, fresh_key, after_element, is_bracket, flow_element, flow_elements, flow_value, flow_entry, flow_members, flow_scalar, map_from, flow_node}
 use Rattle.yaml_lines.proofs.Flows.{length-tail}
 use Rattle.yaml_lines.proofs.Nexts.{next_is, plain_rest_shorter}
 use Rattle.yaml_blocks.proofs.Tools.{choose, allowed, bind_ok, inside_ok, ok_same}
