@@ -29,7 +29,12 @@ fn write_rule(alloc: Global, limits: &Limits, rule: &Rule, schema: &Schema) -> R
 }
 
 /// The query of a rule under a schema. In this order it is refused 81 or 83, 110, 111, 112 and 114.
-fn convert_under(alloc: Global, limits: &Limits, rule: &Rule, schema: &Schema) -> Result<Bytes, Fault>
+fn convert_under(
+    alloc: Global,
+    limits: &Limits,
+    rule: &Rule,
+    schema: &Schema,
+) -> Result<Bytes, Fault>
     requires { IsWhole (rule_view rule.now) }
     ensures { Judged (λ bytes. bytes ≡ query_under schema.now (rule_view rule.now)) (first (checks_under limits.now schema.now (rule_view rule.now))) result }
 {
