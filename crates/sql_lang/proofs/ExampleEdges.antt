@@ -1,14 +1,15 @@
 -- Examples at the edges of the definitions, reckoned by hand: what is a number, the collation that is chosen, sides that don't stand
--- beside a column, limits at the front of a text, and bytes.
+-- beside a column, limits at the front of a text, values that are chosen, and bytes.
 use Rattle.std.proofs.Common.{ℕ, ◌≡◌, ◌<◌, ◌≤◌, refl, Bool, true, false, List, [], ◌∷◌, ◌++◌, codes, subst, map, take, arith}
-use Rattle.std.specs.Prelude.{Option, Some, None, Ok}
+use Rattle.std.specs.Prelude.{Option, Some, None, Ok, pos}
 use Rattle.std.specs.Str.{chars, is_utf8, IsUtf8, IsValidUpTo}
 use Rattle.std.proofs.lemmas.List.{take_all}
 use Rattle.std.proofs.lemmas.Str.{IsUtf8-from_is_utf8, is_utf8-from_IsUtf8}
-use Rattle.text_places.specs.Places.{IsText, IsBadAt}
+use Rattle.text_places.specs.Places.{IsText, IsBadAt, nth}
 use Rattle.text_places.specs.Tokens.{places}
-use Rattle.sql_lang.specs.Tokens.{Eq, Ne, Lt, scan, tokens, is_number, run_sort, text_sort}
+use Rattle.sql_lang.specs.Tokens.{Eq, Ne, Lt, scan, tokens, is_number, run_sort, text_sort, unsigned, number_of}
 use Rattle.sql_lang.specs.Grammar.{Collate, Unsaid, NoCase, Binary, a_name, a_literal, a_text, a_number, constant}
+use Rattle.sql_lang.specs.Expression.{Or, no_exprs, or_zero, escape_of, depth}
 use Rattle.sql_lang.specs.Names.{column_of}
 use Rattle.sql_lang.specs.Faults.{is_bad_escape, is_bad_bracket, is_ill, is_ill_right}
 use Rattle.sql_lang.specs.Reading.{opens_too_far, nots_too_many, Reads, ReadsWithin, BytesRead, BytesRefused, no_text, no_query}
@@ -106,6 +107,29 @@ front_cases_hold = refl
 
 pub front_cases_are : AreVerdicts 2 (λ text. text) front_cases
 front_cases_are = are_so 2 (λ text. text) front_cases front_cases_hold
+
+-- ---- values that are chosen, so that a definition has one where a query that isn't refused never asks for it
+
+nothing_unsigned : unsigned [] ≡ []
+nothing_unsigned = refl
+
+number_of_nothing : number_of [] ≡ pos 0
+number_of_nothing = refl
+
+place_of_no_token : nth [] 3 ≡ record { line = 1; column = 1 }
+place_of_no_token = refl
+
+no_column : or_zero None ≡ 0
+no_column = refl
+
+empty_escape : escape_of (Some []) ≡ None
+empty_escape = refl
+
+long_escape : escape_of (Some (codes "!!")) ≡ None
+long_escape = refl
+
+empty_chain : depth (Or no_exprs) ≡ 0
+empty_chain = refl
 
 -- ---- bytes
 
