@@ -1,6 +1,6 @@
 -- Why a rule has no query, line by line.
 use Rattle.std.proofs.Common.{ℕ, ◌≡◌, ◌≤◌, ◌<◌, Bool, true, false, List, [], ◌∷◌, Option, Some, None, refl, sym, subst, ap, ◌∙◌, inl, inr}
-use Rattle.std.specs.Prelude.{nat_le, length, min, ◌^◌, ◌-◌, pos, Result, Ok, Err, IfOk, IfErr, OnOk}
+use Rattle.std.specs.Prelude.{nat_le, length, min, ◌^◌, ◌-◌, pos, option_map, Result, Ok, Err, IfOk, IfErr, OnOk}
 use Rattle.std.proofs.lemmas.Bool.{leb-true, le-leb, lt-leb}
 use Rattle.sig_base.specs.declared.limits.Limits.{Limits}
 use Rattle.sig_base.specs.declared.refusal.Place.{Place}
@@ -144,6 +144,13 @@ too_many limits rule schema r e =
   where
     first_some : (a : Option Refusal) (r : Refusal) (rest : List (Option Refusal)) → a ≡ Some r → first (a ∷ rest) ≡ Some r
     first_some a r rest e = rw e refl
+
+-- where no schema is given, what is said of none
+pub given_none : {T : Type 0} (schema_of : T → Schema) (given : Option T) (limits : Limits) (rule : PlainRule) (r : Result (List ℕ) Fault) → given ≡ None
+    → Judged (λ bytes. bytes ≡ query_of None rule) (query_refusal limits None rule) r
+    → Judged (λ bytes. bytes ≡ query_of (option_map schema_of given) rule) (query_refusal limits (option_map schema_of given) rule) r
+given_none schema_of None limits rule r none judged = judged
+given_none schema_of (Some x) limits rule r none judged = absurd cc
 
 -- what a node's conversion answers
 pub node_answers : (limits : Limits) (given : Option Schema) (t : Tree) (rule : PlainRule) (r : Result (List ℕ) Fault) → (rule_refusal limits t ≡ None) × IsRule t rule
