@@ -74,7 +74,8 @@ fn some_fits(values: &[Value], pattern: &Pattern, cased: bool) -> bool
 }
 
 impl Test {
-    fn holds_of(&self, values: &[Value]) -> bool
+    /// Whether the test holds of a field's values, without memory of its own.
+    pub fn holds_of(&self, values: &[Value]) -> bool
         ensures { IsTrue result ↔ Holds self.now values.now }
     {
         match self {
