@@ -9,7 +9,7 @@ use Rattle.clap.specs.Simple.{built, is_simple}
 use Rattle.command_words.specs.Given.{Word, is_among}
 use Rattle.command_words.specs.declared.command_name.Count.{Count}
 use Rattle.command_words.specs.declared.command_name.Count.TheVariants.{NoName}
-use Rattle.command_words.specs.Table.{Row, takes_names, backend, schema, check, convert}
+use Rattle.command_words.specs.Table.{Row, takes_names, backend, schema, check, convert, run}
 use Rattle.command_words.proofs.Shapes.{file_id, option_rule, file_rule, shape_with, IsName, IsOption, HasFiles, Serves}
 use Rattle.command_words.specs.Apps.{app_with}
 
@@ -72,4 +72,16 @@ convert_served = record {
   defaults = (refl, (refl, (refl, tt)));
   pass = refl;
   known = (refl, tt);
+}
+
+pub run_served : IsServed run
+run_served = record {
+  simple = refl;
+  built_is = refl;
+  no_name = refl;
+  serves = serves_by (rules_of_row run) (schema ∷ []) true (record { required = false; by_long = refl; by_id = refl; name = schema_name }, tt) (λ e. record { by_index = refl; by_id = refl });
+  free = refl;
+  defaults = (refl, (refl, tt));
+  pass = refl;
+  known = tt;
 }

@@ -190,3 +190,7 @@ plain_names commands.Convert x e = by (bytes_eq backend x) refl (bytes_eq schema
   by true same c is e = subst IsOptionName ((bytes_eq-Decides backend x).0 same) (refl, lacks_of backend refl)
   by false same true is e = subst IsOptionName ((bytes_eq-Decides schema x).0 is) (refl, lacks_of schema refl)
   by false same false is e = absurd cc
+plain_names commands.Run x e = by (bytes_eq schema x) refl e where
+  by : (b : Bool) → bytes_eq schema x ≡ b → (b || false) ≡ true → IsOptionName x
+  by true same e = subst IsOptionName ((bytes_eq-Decides schema x).0 same) (refl, lacks_of schema refl)
+  by false same e = absurd cc

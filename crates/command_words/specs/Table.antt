@@ -27,9 +27,13 @@ check = record { name = codes "check"; required = []; optional = []; files = Som
 abbrev pub convert : Row
 convert = record { name = codes "convert"; required = backend ∷ []; optional = schema ∷ []; files = SomeNames }
 
+abbrev pub run : Row
+run = record { name = codes "run"; required = []; optional = schema ∷ []; files = OneName }
+
 abbrev pub row_of : CommandName → Row
 row_of commands.Check = check
 row_of commands.Convert = convert
+row_of commands.Run = run
 
 abbrev pub takes_names : Count → Bool
 takes_names NoName = false

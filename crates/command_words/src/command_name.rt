@@ -16,6 +16,7 @@ pub enum Count {
 pub enum CommandName {
     Check,
     Convert,
+    Run,
 }
 
 static NO_OPTIONS: [&str; 0] = [];
@@ -32,6 +33,7 @@ impl CommandName {
         match self {
             CommandName::Check => "check",
             CommandName::Convert => "convert",
+            CommandName::Run => "run",
         }
     }
 
@@ -40,7 +42,7 @@ impl CommandName {
         ensures { map (λ s. s.now) result.now ≡ (row_of self).required }
     {
         match self {
-            CommandName::Check => NO_OPTIONS.as_slice(),
+            CommandName::Check | CommandName::Run => NO_OPTIONS.as_slice(),
             CommandName::Convert => BACKEND.as_slice(),
         }
     }
@@ -51,7 +53,7 @@ impl CommandName {
     {
         match self {
             CommandName::Check => NO_OPTIONS.as_slice(),
-            CommandName::Convert => SCHEMA.as_slice(),
+            CommandName::Convert | CommandName::Run => SCHEMA.as_slice(),
         }
     }
 
@@ -60,8 +62,8 @@ impl CommandName {
         ensures { result ≡ (row_of self).files }
     {
         match self {
-            CommandName::Check => Count::SomeNames,
-            CommandName::Convert => Count::SomeNames,
+            CommandName::Check | CommandName::Convert => Count::SomeNames,
+            CommandName::Run => Count::OneName,
         }
     }
 

@@ -1,14 +1,14 @@
 -- Which rule a document's node is, or the first cause for which it is none (Sigma specification 2.0, rules).
-use Rattle.std.specs.Prelude.{◌≡◌, [], ◌∷◌, codes, Some}
+use Rattle.std.specs.Prelude.{◌≡◌, not, [], ◌∷◌, codes, Some, None}
 use Rattle.std.specs.declared.option.Option.{Option}
 use Rattle.sig_base.specs.declared.limits.Limits.{Limits}
 use Rattle.sig_base.specs.declared.refusal.Refusal.{Refusal}
-use Rattle.sig_base.specs.Judged.{first}
+use Rattle.sig_base.specs.Judged.{must, first}
 use Rattle.yaml_tree.specs.Tree.{Tree}
 use Rattle.rule_model.specs.Conditions.{conditions_refusal, AreConditions}
 use Rattle.rule_items.specs.Detections.{detections_refusal, AreDetections}
 use Rattle.rule_head.specs.Heads.{head_checks, IsHead}
-use Rattle.yaml_tree.specs.Nodes.{entries_in, value_in, required, refused_at}
+use Rattle.yaml_tree.specs.Nodes.{entries_in, value_in, has_key, place_of, required, refused_at}
 use Rattle.rule_model.specs.Plain.{PlainRule}
 use Rattle.rule_head.specs.Sources.{source_refusal, source_of}
 
@@ -23,6 +23,14 @@ rule_refusal limits t = first (
     ∷ refused_at (codes "detection") (conditions_refusal limits) t
     ∷ [])
 
+-- a document with the key `correlation` is a correlation, and no rule that has a query or is run (Sigma correlations specification 2.0)
+abbrev pub correlation_refusal : Tree → Option Refusal
+correlation_refusal t = must 146 (place_of t) (not (has_key (codes "correlation") t))
+
+-- why a document has no rule that has a query or is run: it's a correlation, or no rule
+abbrev pub lone_refusal : Limits → Tree → Option Refusal
+lone_refusal limits t = first (correlation_refusal t ∷ rule_refusal limits t ∷ [])
+
 pub record IsRule (t : Tree) (r : PlainRule) : Type 0 where
   pub head : IsHead t r.head
   pub logsource : Tree
@@ -32,3 +40,8 @@ pub record IsRule (t : Tree) (r : PlainRule) : Type 0 where
   pub detection_there : value_in (codes "detection") (entries_in t) ≡ Some detection
   pub detections : AreDetections detection r.detections
   pub conditions : AreConditions detection r.conditions
+
+-- the document is this rule, and no correlation
+pub record IsLoneRule (limits : Limits) (t : Tree) (rule : PlainRule) : Type 0 where
+  pub taken : lone_refusal limits t ≡ None
+  pub is : IsRule t rule

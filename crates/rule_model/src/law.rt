@@ -10,7 +10,7 @@ ghost use Rattle.yaml_tree.specs.Texts.{HasScalarTexts};
 ghost use Rattle.yaml_tree.specs.Tree.{Tree};
 ghost use Rattle.rule_model.specs.Conditions.{condition_of};
 ghost use Rattle.rule_model.specs.Plain.{PlainRule};
-ghost use Rattle.rule_model.specs.Rules.{rule_refusal, IsRule};
+ghost use Rattle.rule_model.specs.Rules.{rule_refusal, lone_refusal, IsRule, IsLoneRule};
 ghost use Rattle.rule_model.specs.Whole.{IsWhole};
 
 use sig_conditions::one_condition;
@@ -37,6 +37,15 @@ pub fn rule_or_refusal()
     ensures { (limits : Limits) (t : Tree) → rule_refusal limits t ≡ None → (rule : PlainRule) × IsRule t rule }
 {
     tests_or_refusal();
+}
+
+/// A document that is neither a correlation nor refused as a rule is one rule.
+pub fn lone_rules()
+    ensures each { (limits : Limits) (t : Tree) → lone_refusal limits t ≡ None → (rule : PlainRule) × IsLoneRule limits t rule }
+    ensures one { (limits : Limits) (t : Tree) (a b : PlainRule) → IsLoneRule limits t a → IsLoneRule limits t b → a ≡ b }
+{
+    rule_or_refusal();
+    one_rule();
 }
 
 /// A rule of a document that no line of the table refuses, and whose texts are of Unicode scalar values, is whole.

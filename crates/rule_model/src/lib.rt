@@ -1,7 +1,7 @@
 //! Sigma rules: what a document's tree is read as, and what every rule that is read keeps.
 #![tactic(auto)]
 
-pub use law::{condition_of_text, one_rule, rule_or_refusal, rules_are_whole};
+pub use law::{condition_of_text, lone_rules, one_rule, rule_or_refusal, rules_are_whole};
 pub use rule::Rule;
 
 mod conditions;

@@ -6,7 +6,7 @@ ghost use Rattle.yaml_tree.specs.View.{node_view};
 ghost use Rattle.rule_model.specs.Plain.{rule_with};
 ghost use Rattle.rule_head.specs.Heads.{rest_of};
 ghost use Rattle.rule_model.specs.Plain.{rule_view};
-ghost use Rattle.rule_model.specs.Rules.{IsRule, rule_refusal};
+ghost use Rattle.rule_model.specs.Rules.{IsRule, rule_refusal, correlation_refusal, lone_refusal};
 ghost use Rattle.rule_model.specs.Whole.{IsWhole};
 
 use crate::conditions::read_conditions;
@@ -15,7 +15,7 @@ use rule_items::{Detections, read_detections};
 use sig_base::{Code, Fault, Limits, refused};
 use sig_conditions::Formula;
 use std::alloc::Global;
-use yaml_tree::{Node, all_entries, place_of, value_at};
+use yaml_tree::{Node, all_entries, has_key, place_of, value_at};
 
 /// A rule matches an event where one of its conditions is true of its detections.
 #[derive(Drop)]
@@ -64,4 +64,25 @@ impl Rule {
             conditions,
         })
     }
+
+    /// Reads a rule as `read_bare` does, where it is to have a query or to be run: before all else a correlation is refused,
+    /// 146 at the document's node.
+    pub fn read_lone(alloc: Global, limits: &Limits, node: &Node) -> Result<Rule, Fault>
+        ensures judged { Judged (λ r. IsRule (node_view node.now) (rule_with (rest_of (node_view node.now)) (rule_view r)))
+            (lone_refusal limits.now (node_view node.now)) result }
+        ensures whole { IfOk result (λ r. IsWhole (rule_view r)) }
+    {
+        refuse_correlation(node)?;
+        Rule::read_bare(alloc, limits, node)
+    }
+}
+
+/// Refuses a correlation, 146 at the document's node.
+fn refuse_correlation(node: &Node) -> Result<(), Fault>
+    ensures { Judged (λ done. Unit {0}) (correlation_refusal (node_view node.now)) result }
+{
+    if has_key(node, "correlation") {
+        return Err(refused(Code::CORRELATION_HERE, place_of(node)));
+    }
+    Ok(())
 }

@@ -14,7 +14,7 @@ use Rattle.event_schema.specs.declared.schema.Schema.{Schema}
 use Rattle.sqlite_writer.specs.Lacking.{sqlite_lacks}
 use Rattle.sqlite_writer.specs.Refused.{IsRefused, IsUnwritten}
 use Rattle.rule_lowering.specs.Refused.{leaves_refusal}
-use Rattle.rule_model.specs.Rules.{rule_refusal, IsRule}
+use Rattle.rule_model.specs.Rules.{lone_refusal, IsRule}
 use Rattle.rule_queries.specs.Verdicts.{ConvertAnswers, no_query}
 use Rattle.yaml_tree.specs.Tree.{Tree, Member}
 use Rattle.rule_model.specs.Plain.{PlainRule, rule_with}
@@ -23,8 +23,8 @@ use Rattle.sql_lang.specs.Expression.{depth}
 use Rattle.sqlite_writer.specs.Queries.{query_expr, query_bytes}
 use Rattle.rule_lowering.specs.Leaves.{leaves}
 use Rattle.rule_lowering.specs.TreeOf.{tree_of}
-use Rattle.rule_schema.specs.Inferred.{inferred_schema, fit_refusal}
-use Rattle.rule_queries.specs.Queries.{rule_tree, query_under, query_depth, query_of, schema_for, made_refusal, query_refusal, checks_under, query_checks, lack_line, at_most}
+use Rattle.rule_schema.specs.Inferred.{schema_for, made_refusal, fit_refusal}
+use Rattle.rule_queries.specs.Queries.{rule_tree, query_under, query_depth, query_of, query_refusal, checks_under, query_checks, lack_line, at_most}
 
 pub record NoLine (limits : Limits) (given : Option Schema) (rule : PlainRule) : Type 0 where
   pub made : made_refusal given rule ≡ None
@@ -153,15 +153,15 @@ given_none schema_of None limits rule r none judged = judged
 given_none schema_of (Some x) limits rule r none judged = absurd cc
 
 -- what a node's conversion answers
-pub node_answers : (limits : Limits) (given : Option Schema) (t : Tree) (rule : PlainRule) (r : Result (List ℕ) Fault) → (rule_refusal limits t ≡ None) × IsRule t rule
+pub node_answers : (limits : Limits) (given : Option Schema) (t : Tree) (rule : PlainRule) (r : Result (List ℕ) Fault) → (lone_refusal limits t ≡ None) × IsRule t rule
     → Judged (λ bytes. bytes ≡ query_of given rule) (query_refusal limits given rule) r → ConvertAnswers limits given t r
-node_answers limits given t rule (Ok bytes) is j = (rule, record { checked = record { taken = is.0; is = is.1 }; written = j.0 }, j.1)
+node_answers limits given t rule (Ok bytes) is j = (rule, record { lone = record { taken = is.0; is = is.1 }; written = j.0 }, j.1)
 node_answers limits given t rule (Err Memory) is j = tt
 node_answers limits given t rule (Err (Refused r)) is j = no_query rule (record { taken = is.0; is = is.1 }) j
 
 -- the same of a rule that was read without the other entries of its head, which no query asks for
 pub bare_answers : (limits : Limits) (given : Option Schema) (t : Tree) (rest : List Member) (rule : PlainRule) (r : Result (List ℕ) Fault)
-    → (rule_refusal limits t ≡ None) × IsRule t (rule_with rest rule)
+    → (lone_refusal limits t ≡ None) × IsRule t (rule_with rest rule)
     → Judged (λ bytes. bytes ≡ query_of given rule) (query_refusal limits given rule) r → ConvertAnswers limits given t r
 unfolding query_under query_depth rule_tree
 bare_answers limits None t rest rule r is j = node_answers limits None t (rule_with rest rule) r is j

@@ -9,10 +9,10 @@ use Rattle.event_schema.specs.Inferred.{text_field}
 use Rattle.event_schema.specs.declared.schema.Schema.{Schema}
 use Rattle.event_schema.specs.declared.value.Value.{Value}
 use Rattle.rule_lowering.specs.TreeOf.{tree_of}
-use Rattle.rule_schema.specs.Inferred.{fit_refusal, rule_names}
+use Rattle.rule_schema.specs.Inferred.{fit_refusal, rule_names, schema_for, made_refusal}
 use Rattle.rule_matching.specs.Matching.{Matches}
 use Rattle.rule_model.specs.Plain.{PlainRule}
-use Rattle.rule_model.specs.Rules.{rule_refusal, IsRule}
+use Rattle.rule_model.specs.Rules.{rule_refusal, correlation_refusal, IsRule}
 use Rattle.rule_model.specs.Whole.{IsWhole}
 use Rattle.sig_base.specs.declared.limits.Limits.{Limits}
 use Rattle.sql_lang.specs.Expression.{depth}
@@ -25,9 +25,9 @@ use Rattle.sqlite_writer.specs.Lacking.{sqlite_lacks}
 use Rattle.sqlite_writer.specs.Schemas.{AreScalars, IsFoundSchema}
 use Rattle.yaml_tree.specs.Texts.{HasScalarTexts}
 use Rattle.yaml_tree.specs.Tree.{Tree}
-use Rattle.rule_queries.specs.Queries.{rule_tree, query_under, query_of, query_depth, schema_for, made_refusal, Converts}
+use Rattle.rule_queries.specs.Queries.{rule_tree, query_under, query_of, query_depth, Converts}
 use Rattle.rule_queries.specs.Verdicts.{IsConverted}
-use Rattle.rule_queries.proofs.Judging.{no_line}
+use Rattle.rule_queries.proofs.Judging.{no_line, parts}
 use Rattle.rule_schema.proofs.NamesApart.{rule_legal, rule_apart}
 
 abbrev WholeRules : Type 0
@@ -66,7 +66,8 @@ pub query_means : WholeRules → TreesMean → TreesSound → TextSchemas → Fo
 unfolding query_under query_depth rule_tree
 query_means wholes means sounds texts_found found queries limits given t rule is texts converted =
     let lines = no_line limits given rule converted.written in
-    let whole = wholes limits t rule converted.checked.taken converted.checked.is texts in
+    let taken = (parts (correlation_refusal t) (rule_refusal limits t ∷ []) converted.lone.taken).1 in
+    let whole = wholes limits t rule (parts (rule_refusal limits t) [] taken).0 converted.lone.is texts in
     let schema = schema_for given rule in
     let sound = sounds schema rule whole lines.fits in
     let query = queries limits.sql_depth schema (tree_of schema rule) (schema_found texts_found found given rule is whole lines.made) sound lines.lacks limits.sql_depth_in.0 lines.deep in

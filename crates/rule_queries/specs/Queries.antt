@@ -8,7 +8,7 @@ use Rattle.event_schema.specs.Events.{IsEvent}
 use Rattle.event_schema.specs.Rows.{first_values}
 use Rattle.event_schema.specs.declared.schema.Schema.{Schema}
 use Rattle.event_schema.specs.declared.value.Value.{Value}
-use Rattle.rule_schema.specs.Inferred.{inferred_schema, schema_refusal, fit_refusal}
+use Rattle.rule_schema.specs.Inferred.{schema_for, made_refusal, fit_refusal}
 use Rattle.rule_matching.specs.Matching.{Matches}
 use Rattle.rule_model.specs.Plain.{PlainRule}
 use Rattle.rule_lowering.specs.Leaves.{leaves}
@@ -64,17 +64,8 @@ checks_under limits schema rule = fit_refusal schema rule ∷ query_checks limit
 
 -- ---- under the given schema, or else the one that is made of the rule
 
-abbrev pub schema_for : Option Schema → PlainRule → Schema
-schema_for None rule = inferred_schema rule
-schema_for (Some schema) rule = schema
-
 abbrev pub query_of : Option Schema → PlainRule → List ℕ
 query_of given rule = query_under (schema_for given rule) rule
-
--- why no schema is made of a rule: its names clash
-abbrev pub made_refusal : Option Schema → PlainRule → Option Refusal
-made_refusal None rule = schema_refusal rule
-made_refusal (Some schema) rule = None
 
 -- why a rule has no query
 abbrev pub query_refusal : Limits → Option Schema → PlainRule → Option Refusal

@@ -3,7 +3,7 @@ use Rattle.std.specs.Prelude.{◌≡◌, ⊤, ℕ, List, Some, None, Result, Ok,
 use Rattle.std.specs.declared.option.Option.{Option}
 use Rattle.event_schema.specs.declared.schema.Schema.{Schema}
 use Rattle.rule_model.specs.Plain.{PlainRule}
-use Rattle.rule_model.specs.Rules.{rule_refusal, IsRule}
+use Rattle.rule_model.specs.Rules.{rule_refusal, lone_refusal, IsRule, IsLoneRule}
 use Rattle.rule_queries.specs.Queries.{query_of, query_refusal}
 use Rattle.sig_base.specs.declared.limits.Limits.{Limits}
 use Rattle.sig_base.specs.declared.refusal.Fault.{Fault}
@@ -19,13 +19,13 @@ pub record IsChecked (limits : Limits) (t : Tree) (rule : PlainRule) : Type 0 wh
 
 -- the node is this rule, which has a query under the given schema, or else the one that is made of the rule
 pub record IsConverted (limits : Limits) (given : Option Schema) (t : Tree) (rule : PlainRule) : Type 0 where
-  pub checked : IsChecked limits t rule
+  pub lone : IsLoneRule limits t rule
   pub written : query_refusal limits given rule ≡ None
 
--- the first cause for which the node has no query: it is no rule, or its rule has none
+-- the first cause for which the node has no query: it is a correlation or no rule, or its rule has none
 pub data IsRefused (limits : Limits) (given : Option Schema) (t : Tree) (refusal : Refusal) : Type 0 where
-  no_rule : rule_refusal limits t ≡ Some refusal → IsRefused limits given t refusal
-  no_query : (rule : PlainRule) → IsChecked limits t rule → query_refusal limits given rule ≡ Some refusal → IsRefused limits given t refusal
+  no_rule : lone_refusal limits t ≡ Some refusal → IsRefused limits given t refusal
+  no_query : (rule : PlainRule) → IsLoneRule limits t rule → query_refusal limits given rule ≡ Some refusal → IsRefused limits given t refusal
 
 -- what converting a node answers; want of memory says nothing
 abbrev pub ConvertAnswers : Limits → Option Schema → Tree → Result (List ℕ) Fault → Type 0

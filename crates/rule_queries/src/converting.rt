@@ -73,7 +73,7 @@ fn convert_rule(
 }
 
 /// The query of the rule that a node is, under the given schema or else the one that is made of the rule. What is refused is
-/// refused as `Rule::read` says, and then 80 (where no schema is given), 81 or 83, 110, 111, 112 and 114.
+/// refused as `Rule::read_lone` says, and then 80 (where no schema is given), 81 or 83, 110, 111, 112 and 114.
 pub fn convert_node(
     alloc: Global,
     limits: &Limits,
@@ -82,7 +82,7 @@ pub fn convert_node(
 ) -> Result<Bytes, Fault>
     ensures { ConvertAnswers limits.now (option_map (λ s. s.now) given.entry) (node_view node.now) result }
 {
-    let rule = Rule::read_bare(alloc, limits, node)?;
+    let rule = Rule::read_lone(alloc, limits, node)?;
     convert_rule(alloc, limits, &rule, given)
 }
 

@@ -78,6 +78,17 @@ keyword_at place (Names names) = None
 abbrev pub keyword_line : Item → Option Refusal
 keyword_line i = keyword_at i.place i.fields
 
--- where no schema is given: the one that is made, and whether the rule fits it
-abbrev pub inferred_refusal : PlainRule → Option Refusal
-inferred_refusal rule = first (schema_refusal rule ∷ fit_refusal (inferred_schema rule) rule ∷ [])
+-- ---- under the given schema, or else the one that is made of the rule
+
+abbrev pub schema_for : Option Schema → PlainRule → Schema
+schema_for None rule = inferred_schema rule
+schema_for (Some schema) rule = schema
+
+-- why no schema is made of a rule: its names clash
+abbrev pub made_refusal : Option Schema → PlainRule → Option Refusal
+made_refusal None rule = schema_refusal rule
+made_refusal (Some schema) rule = None
+
+-- why a rule has no schema that it fits
+abbrev pub unfit_refusal : Option Schema → PlainRule → Option Refusal
+unfit_refusal given rule = first (made_refusal given rule ∷ fit_refusal (schema_for given rule) rule ∷ [])

@@ -4,7 +4,10 @@ pub mod Codes
 pub mod Convert
 pub mod Converted
 pub mod Laws
+pub mod Ran
 pub mod Reports
 pub mod RuleFiles
+pub mod Selected
 pub mod Served
+pub mod UnderSchema
 pub mod Words

@@ -5,8 +5,7 @@ use Rattle.answer_parts.specs.Input.{World, File}
 use Rattle.answer_parts.specs.Parts.{Share, Part}
 use Rattle.sig_base.specs.Files.{file_at}
 use Rattle.sig_base.specs.declared.limits.Limits.{Limits}
-use Rattle.sig_base.specs.declared.refusal.Detail.TheVariants as details
-use Rattle.sig_base.specs.declared.refusal.Refusal.{Refusal}
+use Rattle.rule_runs.specs.Files.{yaml_refusal}
 use Rattle.sigma_app.specs.Reports.{refusal_share}
 use Rattle.yaml_files.specs.Call.{IsCallRefusal, IsTaken}
 use Rattle.yaml_tree.specs.Tree.{At, Tree, Answer, tree, refusal}
@@ -14,10 +13,6 @@ use Rattle.yaml_tree.specs.Tree.{At, Tree, Answer, tree, refusal}
 -- what a command answers a document's tree, in a file of this name
 abbrev pub ByTree : Type 1
 ByTree = List ℕ → Tree → Share → Type 0
-
--- what YAML refuses tells a code and a place, and no detail
-abbrev pub yaml_refusal : ℕ × At → Refusal
-yaml_refusal p = record { code = p.0; place = record { line = p.1.line; column = p.1.column }; detail = details.None }
 
 -- what a document is answered: by its tree, or the refusal of YAML
 abbrev pub DocumentGives : ByTree → List ℕ → Answer → Share → Type 0

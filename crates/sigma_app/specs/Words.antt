@@ -7,7 +7,7 @@ use Rattle.command_words.specs.Table.{row_of, backend, schema, IsGiven}
 use Rattle.command_words.specs.declared.command_name.CommandName.{CommandName}
 use Rattle.command_words.specs.declared.command_name.CommandName.TheVariants as commands
 use Rattle.sigma_app.specs.declared.request.Request.{Request}
-use Rattle.sigma_app.specs.declared.request.Request.TheVariants.{Check, Convert}
+use Rattle.sigma_app.specs.declared.request.Request.TheVariants.{Check, Convert, Run}
 
 -- the words in UTF-8
 abbrev pub in_utf8 : List (List ℕ) → List (List ℕ)
@@ -26,10 +26,17 @@ abbrev pub is_sqlite : Option (List ℕ) → Bool
 is_sqlite None = false
 is_sqlite (Some name) = bytes_eq name (codes "sqlite")
 
+-- the one name of these
+abbrev pub only : List (List ℕ) → Option (List ℕ)
+only [] = None
+only (name ∷ []) = Some name
+only (name ∷ other ∷ others) = None
+
 -- what a command with these items asks for
 abbrev pub request_with : CommandName → List Item → Option Request
 request_with commands.Check items = Some (Check (files_of items))
 request_with commands.Convert items = if is_sqlite (value_of backend items) then Some (Convert (schema_in items) (files_of items)) else None
+request_with commands.Run items = option_map (Run (schema_in items)) (only (files_of items))
 
 -- The first word is a command's name, and those behind it give items that ask for the request. There are fewer than 2^20 words.
 pub record IsAccepted (words : List (List ℕ)) (request : Request) : Type 0 where
@@ -60,6 +67,7 @@ abbrev pub command_named : List ℕ → Option CommandName
 command_named word =
     if bytes_eq word (row_of commands.Check).name then Some commands.Check
     else if bytes_eq word (row_of commands.Convert).name then Some commands.Convert
+    else if bytes_eq word (row_of commands.Run).name then Some commands.Run
     else None
 
 abbrev pub request_of : List (List ℕ) → Option Request

@@ -9,4 +9,6 @@ pub enum Request {
     Check { rules: Texts },
     /// Write the query of each, under the schema of a file if one is named.
     Convert { schema: Option<Text>, rules: Texts },
+    /// Write the events that the rule matches, read under the schema of a file if one is named.
+    Run { schema: Option<Text>, rule: Text },
 }

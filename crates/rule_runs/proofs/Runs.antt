@@ -1,0 +1,153 @@
+-- That each file is run as exactly one rule, or isn't run for exactly one cause.
+use Rattle.std.proofs.Common.{◌≡◌, ℕ, List, refl, ap, sym, ◌∙◌, subst, Option, Some, None, Result, Ok, Err, inl, inr}
+use Rattle.std.specs.Prelude.{◌⊎◌}
+use Rattle.event_schema.specs.declared.schema.Schema.{Schema}
+use Rattle.rule_model.specs.Plain.{PlainRule}
+use Rattle.rule_model.specs.Rules.{lone_refusal, IsLoneRule}
+use Rattle.rule_runs.specs.Files.{yaml_refusal, single_tree}
+use Rattle.rule_runs.specs.Laws.{EachRun, NeverBoth, OneRun, OneCause}
+use Rattle.rule_runs.specs.Runs.{AreDocuments, IsOnly, IsNoneOnly, no_tree, no_rule, IsSingleRule, IsNoSingleRule, as_one, by_document, IsRun, IsNotRun, no_single, unfit}
+use Rattle.rule_schema.specs.Inferred.{unfit_refusal}
+use Rattle.sig_base.specs.declared.limits.Limits.{Limits}
+use Rattle.sig_base.specs.declared.refusal.Refusal.{Refusal}
+use Rattle.yaml_documents.specs.Verdicts as yaml
+use Rattle.yaml_files.specs.Call.{IsCallRefusal, IsTaken}
+use Rattle.yaml_tree.specs.Tree.{At, Tree, Answer}
+
+abbrev EachLone : Type 0
+EachLone = (limits : Limits) (t : Tree) → lone_refusal limits t ≡ None → (rule : PlainRule) × IsLoneRule limits t rule
+
+abbrev OneLone : Type 0
+OneLone = (limits : Limits) (t : Tree) (a b : PlainRule) → IsLoneRule limits t a → IsLoneRule limits t b → a ≡ b
+
+-- ---- each
+
+each_only : EachLone → (limits : Limits) (documents : List Answer) → ((rule : PlainRule) × IsOnly limits documents rule) ⊎ ((r : Refusal) × IsNoneOnly limits documents r)
+each_only each limits documents = by (single_tree documents) refl
+  where
+    judged : (t : Tree) → single_tree documents ≡ Ok t → (o : Option Refusal) → lone_refusal limits t ≡ o
+        → ((rule : PlainRule) × IsOnly limits documents rule) ⊎ ((r : Refusal) × IsNoneOnly limits documents r)
+    judged t single None is = let rule = each limits t is in inl (rule.0, record { top = t; single = single; lone = rule.1 })
+    judged t single (Some r) is = inr (r, no_rule t single is)
+
+    by : (result : Result Tree Refusal) → single_tree documents ≡ result → ((rule : PlainRule) × IsOnly limits documents rule) ⊎ ((r : Refusal) × IsNoneOnly limits documents r)
+    by (Ok t) is = judged t is (lone_refusal limits t) refl
+    by (Err r) is = inr (r, no_tree is)
+
+each_single : EachLone → yaml.EachVerdict → (limits : Limits) (bytes : List ℕ) → ((rule : PlainRule) × IsSingleRule limits bytes rule) ⊎ ((r : Refusal) × IsNoSingleRule limits bytes r)
+each_single each read limits bytes = by (read limits.file_bytes limits.documents limits.yaml_depth bytes)
+  where
+    judged : (documents : List Answer) → AreDocuments limits bytes documents → ((rule : PlainRule) × IsOnly limits documents rule) ⊎ ((r : Refusal) × IsNoneOnly limits documents r)
+        → ((rule : PlainRule) × IsSingleRule limits bytes rule) ⊎ ((r : Refusal) × IsNoSingleRule limits bytes r)
+    judged documents taken (inl (rule, only)) = inl (rule, record { documents = documents; taken = taken; only = only })
+    judged documents taken (inr (r, none)) = inr (r, by_document documents taken none)
+
+    by : ((given : List Answer) × IsTaken limits.file_bytes limits.documents limits.yaml_depth bytes given) ⊎ ((p : ℕ × At) × IsCallRefusal limits.file_bytes limits.documents bytes p)
+        → ((rule : PlainRule) × IsSingleRule limits bytes rule) ⊎ ((r : Refusal) × IsNoSingleRule limits bytes r)
+    by (inl (documents, taken)) = judged documents taken (each_only each limits documents)
+    by (inr (p, is)) = inr (yaml_refusal p, as_one p is refl)
+
+pub each_run : EachLone → yaml.EachVerdict → EachRun
+each_run each read limits given bytes = by (each_single each read limits bytes)
+  where
+    fitted : (rule : PlainRule) → IsSingleRule limits bytes rule → (o : Option Refusal) → unfit_refusal given rule ≡ o
+        → ((rule : PlainRule) × IsRun limits given bytes rule) ⊎ ((r : Refusal) × IsNotRun limits given bytes r)
+    fitted rule single None is = inl (rule, record { single = single; fits = is })
+    fitted rule single (Some r) is = inr (r, unfit rule single is)
+
+    by : ((rule : PlainRule) × IsSingleRule limits bytes rule) ⊎ ((r : Refusal) × IsNoSingleRule limits bytes r)
+        → ((rule : PlainRule) × IsRun limits given bytes rule) ⊎ ((r : Refusal) × IsNotRun limits given bytes r)
+    by (inl (rule, single)) = fitted rule single (unfit_refusal given rule) refl
+    by (inr (r, is)) = inr (r, no_single is)
+
+-- ---- one
+
+abbrev ok : Tree → Result Tree Refusal
+ok t = Ok t
+
+abbrev err : Refusal → Result Tree Refusal
+err r = Err r
+
+ok_is : (result : Result Tree Refusal) (a b : Tree) → result ≡ Ok a → result ≡ Ok b → a ≡ b
+ok_is result a b first second = by (sym first ∙ second)
+  where
+    by : ok a ≡ ok b → a ≡ b
+    by same = cc
+
+err_is : (result : Result Tree Refusal) (a b : Refusal) → result ≡ Err a → result ≡ Err b → a ≡ b
+err_is result a b first second = by (sym first ∙ second)
+  where
+    by : err a ≡ err b → a ≡ b
+    by same = cc
+
+not_both : (result : Result Tree Refusal) (t : Tree) (r : Refusal) → result ≡ Ok t → result ≡ Err r → ⊥
+not_both result t r first second = apart (sym first ∙ second)
+  where
+    apart : ok t ≡ err r → ⊥
+    apart same = cc
+
+some_is : (o : Option Refusal) (a b : Refusal) → o ≡ Some a → o ≡ Some b → a ≡ b
+some_is o a b first second = by (sym first ∙ second)
+  where
+    by : Some a ≡ Some b → a ≡ b
+    by same = cc
+
+not_none : (o : Option Refusal) (r : Refusal) → o ≡ None → o ≡ Some r → ⊥
+not_none o r none some = apart (sym none ∙ some)
+  where
+    apart : None ≡ Some r → ⊥
+    apart same = cc
+
+module _ (one : OneLone) (limits : Limits) where
+  moved : (documents : List Answer) (a b : Tree) → single_tree documents ≡ Ok a → single_tree documents ≡ Ok b → (rule : PlainRule) → IsLoneRule limits b rule → IsLoneRule limits a rule
+  moved documents a b first second rule lone = subst (λ (t : Tree). IsLoneRule limits t rule) (ok_is (single_tree documents) b a second first) lone
+
+  one_only : (documents : List Answer) (a b : PlainRule) → IsOnly limits documents a → IsOnly limits documents b → a ≡ b
+  one_only documents a b first second = one limits first.top a b first.lone (moved documents first.top second.top first.single second.single b second.lone)
+
+  only_never : (documents : List Answer) (rule : PlainRule) (r : Refusal) → IsOnly limits documents rule → IsNoneOnly limits documents r → ⊥
+  only_never documents rule r only (no_tree is) = not_both (single_tree documents) only.top r only.single is
+  only_never documents rule r only (no_rule top single is) =
+      not_none (lone_refusal limits top) r (ap (lone_refusal limits) (ok_is (single_tree documents) top only.top single only.single) ∙ only.lone.taken) is
+
+  none_one : (documents : List Answer) (a b : Refusal) → IsNoneOnly limits documents a → IsNoneOnly limits documents b → a ≡ b
+  none_one documents a b (no_tree is) (no_tree too) = err_is (single_tree documents) a b is too
+  none_one documents a b (no_tree is) (no_rule top single too) = absurd (not_both (single_tree documents) top a single is)
+  none_one documents a b (no_rule top single is) (no_tree too) = absurd (not_both (single_tree documents) top b single too)
+  none_one documents a b (no_rule top single is) (no_rule other other_single too) =
+      some_is (lone_refusal limits top) a b is (ap (lone_refusal limits) (ok_is (single_tree documents) top other single other_single) ∙ too)
+
+  module _ (never : yaml.NeverBoth) (list : yaml.OneList) (cause : yaml.OneRefusal) (bytes : List ℕ) where
+    same_documents : (a b : List Answer) → AreDocuments limits bytes a → AreDocuments limits bytes b → a ≡ b
+    same_documents a b first second = list limits.file_bytes limits.documents limits.yaml_depth bytes a b first second
+
+    pub one_single : (a b : PlainRule) → IsSingleRule limits bytes a → IsSingleRule limits bytes b → a ≡ b
+    one_single a b first second =
+        one_only first.documents a b first.only
+        (subst (λ (ds : List Answer). IsOnly limits ds b) (same_documents second.documents first.documents second.taken first.taken) second.only)
+
+    single_never : (rule : PlainRule) (r : Refusal) → IsSingleRule limits bytes rule → IsNoSingleRule limits bytes r → ⊥
+    single_never rule r single (as_one p is same) = never limits.file_bytes limits.documents limits.yaml_depth bytes single.documents p single.taken is
+    single_never rule r single (by_document documents taken none) =
+        only_never single.documents rule r single.only
+        (subst (λ (ds : List Answer). IsNoneOnly limits ds r) (same_documents documents single.documents taken single.taken) none)
+
+    single_cause : (a b : Refusal) → IsNoSingleRule limits bytes a → IsNoSingleRule limits bytes b → a ≡ b
+    single_cause a b (as_one p is same) (as_one q too same_too) = same ∙ (ap yaml_refusal (cause limits.file_bytes limits.documents bytes p q is too) ∙ sym same_too)
+    single_cause a b (as_one p is same) (by_document documents taken none) = absurd (never limits.file_bytes limits.documents limits.yaml_depth bytes documents p taken is)
+    single_cause a b (by_document documents taken none) (as_one p is same) = absurd (never limits.file_bytes limits.documents limits.yaml_depth bytes documents p taken is)
+    single_cause a b (by_document documents taken none) (by_document others others_taken none_too) =
+        none_one documents a b none (subst (λ (ds : List Answer). IsNoneOnly limits ds b) (same_documents others documents others_taken taken) none_too)
+
+    module _ (given : Option Schema) where
+      pub run_never : (rule : PlainRule) (r : Refusal) → IsRun limits given bytes rule → IsNotRun limits given bytes r → ⊥
+      run_never rule r run (no_single is) = single_never rule r run.single is
+      run_never rule r run (unfit other single is) =
+          not_none (unfit_refusal given other) r (ap (unfit_refusal given) (one_single other rule single run.single) ∙ run.fits) is
+
+      pub run_cause : (a b : Refusal) → IsNotRun limits given bytes a → IsNotRun limits given bytes b → a ≡ b
+      run_cause a b (no_single is) (no_single too) = single_cause a b is too
+      run_cause a b (no_single is) (unfit rule single too) = absurd (single_never rule a single is)
+      run_cause a b (unfit rule single is) (no_single too) = absurd (single_never rule b single too)
+      run_cause a b (unfit rule single is) (unfit other other_single too) =
+          some_is (unfit_refusal given rule) a b is (ap (unfit_refusal given) (one_single rule other single other_single) ∙ too)

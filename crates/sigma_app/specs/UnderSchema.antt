@@ -1,0 +1,29 @@
+-- The answer to a command that a schema's file may be named for: it's read before all else.
+use Rattle.std.specs.Prelude.{◌≡◌, ℕ, List, [], ◌∷◌, Option, None, Some, Ok, Err}
+use Rattle.answer_parts.specs.Input.{World, File}
+use Rattle.answer_parts.specs.Parts.{Share, Part, no_share}
+use Rattle.event_reading.specs.SchemaOf.{schema_of}
+use Rattle.event_schema.specs.declared.schema.Schema.{Schema}
+use Rattle.rule_runs.specs.Files.{file_start}
+use Rattle.sig_base.specs.Judged.{refusal}
+use Rattle.sig_base.specs.declared.limits.Limits.{Limits}
+use Rattle.sigma_app.specs.Reports.{refusal_share}
+use Rattle.sigma_app.specs.RuleFiles.{contents}
+
+-- what is answered under the given schema, or where none is given
+abbrev pub BySchema : Type 1
+BySchema = Option Schema → World → List Part → Type 0
+
+-- the part of an answer that belongs to a file
+abbrev pub file_part : List ℕ → Share → Part
+file_part file share = record { input = Some (File file); share = share }
+
+-- The answer in a world. No schema is named: it's the answer where none is given. Or the bytes of the named file are a schema: nothing
+-- is answered of that file, and then it's the answer under this schema. Or they are refused as a schema: this is answered of that
+-- file, and nothing else, and nothing else is read.
+pub data UnderSchema (by : BySchema) (limits : Limits) (schema : Option (List ℕ)) (world : World) (parts : List Part) : Type 0 where
+  without : schema ≡ None → by None world parts → UnderSchema by limits schema world parts
+  under : (file : List ℕ) → schema ≡ Some file → (given : Schema) → schema_of limits (contents world.files file) ≡ Ok given
+      → (others : List Part) → by (Some given) world others → parts ≡ file_part file no_share ∷ others → UnderSchema by limits schema world parts
+  refused : (file : List ℕ) → schema ≡ Some file → (code : ℕ) → schema_of limits (contents world.files file) ≡ Err code
+      → parts ≡ file_part file (refusal_share file (refusal code file_start)) ∷ [] → UnderSchema by limits schema world parts
