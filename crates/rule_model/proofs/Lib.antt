@@ -5,3 +5,4 @@ pub mod RuleLemmas
 pub mod SomeRule
 pub mod Texts
 pub mod WholeRule
+mod Lone

@@ -306,3 +306,33 @@ fn conditions_are_judged_in_order(rt: HostRuntime) -> Result<(), Fail> {
     }
     Ok(())
 }
+
+/// What refuses this head's document as a rule that is no correlation, or nothing.
+fn lone_refusal(alloc: Global, head: &[(&str, &str)]) -> Result<String, Fail> {
+    let node = document(
+        alloc,
+        head,
+        [("product", "p")].as_slice(),
+        [("s", "x"), ("condition", "s")].as_slice(),
+    )?;
+    match Rule::read_lone(alloc, &Limits::standard(), &node) {
+        Ok(_) => Ok(String::new(alloc)),
+        Err(Fault::Memory) => Ok(String::from_str(alloc, "memory")?),
+        Err(Fault::Refused(refusal)) => Ok(told(alloc, &refusal)?),
+    }
+}
+
+#[test]
+fn correlations_are_refused_before_all_else(rt: HostRuntime) -> Result<(), Fail> {
+    let alloc = rt.alloc();
+    let rule = [("title", "t")];
+    assert_eq!(rt; lone_refusal(alloc, rule.as_slice())?.as_str(), "");
+    let untitled = [("correlation", "{}")];
+    assert_eq!(rt;
+        lone_refusal(alloc, untitled.as_slice())?.as_str(),
+        "146 1 1"
+    );
+    let titled = [("title", "t"), ("correlation", "~")];
+    assert_eq!(rt; lone_refusal(alloc, titled.as_slice())?.as_str(), "146 1 1");
+    Ok(())
+}

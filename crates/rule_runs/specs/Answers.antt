@@ -1,16 +1,11 @@
 -- What reading a file as the rule that is run answers.
-use Rattle.std.specs.Prelude.{◌≡◌, ⊤, ℕ, List, Some, None, Result, Ok, Err}
-use Rattle.std.specs.declared.option.Option.{Option}
-use Rattle.event_schema.specs.declared.schema.Schema.{Schema}
+use Rattle.std.specs.Prelude.{⊤, List, Result, Ok, Err}
 use Rattle.rule_model.specs.Plain.{PlainRule, rule_view, rule_with}
 use Rattle.rule_model.specs.declared.rule.Rule.{Rule}
-use Rattle.rule_schema.specs.Inferred.{schema_for}
-use Rattle.sig_base.specs.declared.limits.Limits.{Limits}
 use Rattle.sig_base.specs.declared.refusal.Fault.{Fault}
 use Rattle.sig_base.specs.declared.refusal.Fault.TheVariants.{Memory, Refused}
 use Rattle.sig_base.specs.declared.refusal.Refusal.{Refusal}
-use Rattle.yaml_tree.specs.Tree.{Member, Answer}
-use Rattle.rule_runs.specs.Runs.{IsOnly, IsNoneOnly, IsSingleRule, IsNoSingleRule, IsRun, IsNotRun}
+use Rattle.yaml_tree.specs.Tree.{Member}
 
 -- a rule that is read without the other entries of its head, which decide nothing of what it matches
 abbrev pub IsBare : (PlainRule → Type 0) → Rule → Type 0

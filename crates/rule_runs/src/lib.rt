@@ -1,12 +1,10 @@
-//! The rule that a file is run as, made ready under the schema that its events are read through.
+//! The rule that a file is run as, and the schema that is made of it where none is given.
 #![tactic(auto)]
 
 pub use law::one_run;
-pub use ready::{Run, ready_made, ready_under};
+pub use running::{SchemedRule, rule_alone, rule_under};
 
 mod law;
-mod ready;
 mod reading;
+mod running;
 mod single;
-#[cfg(test)]
-mod tests;

@@ -1,33 +1,32 @@
--- What answering `convert` leaves, where a schema is named and where none is.
+-- What answering a command leaves that a schema's file may be named for, where one is named and where none is.
 use Rattle.std.proofs.Common.{◌≡◌, ℕ, suc, ◌+◌, ◌<◌, Bool, true, false, List, [], ◌∷◌, length, take, refl, ap, sym, ◌∙◌, subst, arith, Option, Some, None, Result, Ok, Err, inl, inr}
 use Rattle.std.specs.Prelude.{MatchOption, unwrap_or, Contains}
 use Rattle.std.proofs.lemmas.Bool.{cases_lt, lt-ltb}
 use Rattle.std.proofs.lemmas.List.{take_all, length-take-le}
-use Rattle.answer_parts.proofs.Ending.{Kind, ends_as, ends_written}
+use Rattle.answer_parts.proofs.Ending.{ends_as, ends_written}
 use Rattle.answer_parts.proofs.Shares.{cut_nothing}
 use Rattle.answer_parts.proofs.Unread.{Begins, ends_unread}
-use Rattle.answer_parts.specs.Each.{EachPart}
-use Rattle.answer_parts.specs.Input.{Input, World, Needs, File, Events, IsNeeded, IsTold}
+use Rattle.answer_parts.specs.Input.{World, Needs, File, IsTold}
 use Rattle.answer_parts.specs.Parts.{Share, Part, share_of, no_share}
-use Rattle.answer_parts.specs.Stands.{Writes, Cause, Stands, Ends, StopsBefore}
+use Rattle.answer_parts.specs.Stands.{Writes, Ends, StopsBefore}
 use Rattle.answer_parts.specs.State.{State}
 use Rattle.answer_parts.specs.declared.stop.Stop.{Stop}
-use Rattle.answer_parts.specs.declared.stop.Stop.TheVariants.{Unread, Unwritten, Memory}
+use Rattle.answer_parts.specs.declared.stop.Stop.TheVariants.{Memory}
 use Rattle.event_reading.specs.Answers.{Answers}
 use Rattle.event_reading.specs.SchemaOf.{schema_of}
 use Rattle.event_schema.specs.declared.schema.Schema.{Schema}
+use Rattle.rule_runs.specs.Files.{file_start}
 use Rattle.sig_base.specs.Files.{file_at, IsFront}
 use Rattle.sig_base.specs.Judged.{refusal}
 use Rattle.sig_base.specs.declared.limits.Limits.{Limits}
 use Rattle.sig_base.specs.declared.refusal.Fault.TheVariants.{Refused}
 use Rattle.sig_base.specs.declared.refusal.Place.{Place}
 use Rattle.sig_base.specs.declared.refusal.Refusal.{Refusal}
-use Rattle.sigma_app.specs.Convert.{ConvertGives}
-use Rattle.sigma_app.specs.Converted.{Converted, without, under, refused, schema_part, file_start}
-use Rattle.sigma_app.specs.Laws.{EachAnswer}
+use Rattle.sigma_app.proofs.Quiet.{quiet_before}
+use Rattle.sigma_app.specs.Laws.{EachUnder}
 use Rattle.sigma_app.specs.Reports.{refusal_share}
-use Rattle.sigma_app.specs.RuleFiles.{RuleFile, contents}
-use Rattle.sigma_app.specs.declared.request.Request.TheVariants.{Convert}
+use Rattle.sigma_app.specs.RuleFiles.{contents}
+use Rattle.sigma_app.specs.UnderSchema.{BySchema, UnderSchema, without, under, refused, file_part}
 
 -- ---- what a reader of schemas answers
 
@@ -64,21 +63,21 @@ file_is limits name files told bytes is front = found (file_at told name) (subst
 
 -- ---- a named schema
 
-module _ (limits : Limits) (name : List ℕ) (rules : List (List ℕ)) where
-  abbrev Whole : Kind
-  Whole = Converted (ConvertGives limits) limits (Some name) rules
+-- the answer in each world, under each schema and where none is named
+pub each_schema : (by : BySchema) (limits : Limits) → EachUnder by → (schema : Option (List ℕ)) (world : World) → (parts : List Part) × UnderSchema by limits schema world parts
+each_schema by limits each None world = let a = each None world in (a.0, without refl a.1)
+each_schema by limits each (Some name) world = judged (schema_of limits (contents world.files name)) refl
+  where
+    judged : (r : Result Schema ℕ) → schema_of limits (contents world.files name) ≡ r → (parts : List Part) × UnderSchema by limits (Some name) world parts
+    judged (Ok given) is = let a = each (Some given) world in (file_part name no_share ∷ a.0, under name refl given is a.0 a.1 refl)
+    judged (Err code) is = (file_part name (refusal_share name (refusal code file_start)) ∷ [], refused name refl code is refl)
 
+module _ (by : BySchema) (limits : Limits) (name : List ℕ) (names : List (List ℕ)) (events : Bool) where
   abbrev needs : Needs
-  needs = record { names = name ∷ rules; events = false }
+  needs = record { names = name ∷ names; events = events }
 
-  abbrev rule_needs : Needs
-  rule_needs = record { names = rules; events = false }
-
-  first_there : Contains (name ∷ rules) name
+  first_there : Contains (name ∷ names) name
   first_there = (0, omega arith, refl)
-
-  later_there : (n : List ℕ) → Contains rules n → Contains (name ∷ rules) n
-  later_there n (i, below, is) = (suc i, omega (arith, below), is)
 
   some_is : (file : List ℕ) → Some name ≡ Some file → file ≡ name
   some_is file is = cc
@@ -86,97 +85,50 @@ module _ (limits : Limits) (name : List ℕ) (rules : List (List ℕ)) where
   not_none : Some name ≡ None → ⊥
   not_none is = cc
 
-  begins : (world : World) (parts : List Part) → Whole world parts → Begins name parts
-  begins world parts (without is each) = absurd (not_none is)
-  begins world parts (under file is given so others each same) = (schema_part file no_share, others, same, ap (λ (f : List ℕ). Some (File f)) (some_is file is))
+  begins : (world : World) (parts : List Part) → UnderSchema by limits (Some name) world parts → Begins name parts
+  begins world parts (without is other) = absurd (not_none is)
+  begins world parts (under file is given so others other same) = (file_part file no_share, others, same, ap (λ (f : List ℕ). Some (File f)) (some_is file is))
   begins world parts (refused file is code so same) =
-      (schema_part file (refusal_share file (refusal code file_start)), [], same, ap (λ (f : List ℕ). Some (File f)) (some_is file is))
+      (file_part file (refusal_share file (refusal code file_start)), [], same, ap (λ (f : List ℕ). Some (File f)) (some_is file is))
 
   -- the schema's file couldn't be read
-  pub schema_unread : EachAnswer → (stop : Stop) (old new : State) → StopsBefore name stop old new → Ends needs Whole (Err stop) old new
+  pub schema_unread : EachUnder by → (stop : Stop) (old new : State) → StopsBefore name stop old new → Ends needs (UnderSchema by limits (Some name)) (Err stop) old new
   schema_unread each stop old new stops =
-      ends_unread needs Whole name old new first_there stop (λ world. let a = each limits (Convert (Some name) rules) world in (a.0, a.1, begins world a.0 a.1)) stops
+      ends_unread needs (UnderSchema by limits (Some name)) name old new first_there stop
+      (λ world. let a = each_schema by limits each (Some name) world in (a.0, a.1, begins world a.0 a.1)) stops
 
   -- memory was missing for the schema
-  pub schema_memory : EachAnswer → (s : State) → Ends needs Whole (Err Memory) s s
+  pub schema_memory : EachUnder by → (s : State) → Ends needs (UnderSchema by limits (Some name)) (Err Memory) s s
   schema_memory each s = record {
     unread = None;
     cause = refl;
-    stands = λ world told. let a = each limits (Convert (Some name) rules) world in (a.0, a.1, cut_nothing None (share_of a.0) s.streams);
+    stands = λ world told. let a = each_schema by limits each (Some name) world in (a.0, a.1, cut_nothing None (share_of a.0) s.streams);
     files = refl;
     apart = λ _. (refl, refl);
     kept = refl;
   }
 
   module _ (bytes : List ℕ) (old new : State) (front : IsFront old.inputs.files name (limits.file_bytes + 1) bytes) where
-    told_is : (world : World) → IsTold needs old.inputs world → schema_of limits (contents world.files name) ≡ schema_of limits bytes
-    told_is world told = file_is limits name old.inputs.files world.files bytes (told.files name first_there) front
+    told_is : (world : World) → old.inputs.files ≡ Some world.files → schema_of limits (contents world.files name) ≡ schema_of limits bytes
+    told_is world told = file_is limits name old.inputs.files world.files bytes told front
 
     -- the schema was refused
     pub schema_refused : (r : Refusal) (result : Result Bool Stop) → Answers {X = Schema} file_start (schema_of limits bytes) (Err (Refused r))
-        → Writes (λ share. share ≡ refusal_share name r) result old new → Ends needs Whole result old new
+        → Writes (λ share. share ≡ refusal_share name r) result old new → Ends needs (UnderSchema by limits (Some name)) result old new
     schema_refused r result answers wrote =
         let cause = answered_refused file_start (schema_of limits bytes) r answers in
-        ends_written needs Whole (λ share. share ≡ refusal_share name r) (Some (File name)) result old new
-        (λ world told share is. refused name refl cause.0 (told_is world told ∙ cause.1)
-        (ap (λ (s : Share). schema_part name s ∷ []) (is ∙ ap (λ (x : Refusal). refusal_share name x) cause.2))) wrote
+        ends_written needs (UnderSchema by limits (Some name)) (λ share. share ≡ refusal_share name r) (Some (File name)) result old new
+        (λ world told share is. refused name refl cause.0 (told_is world (told.files name first_there) ∙ cause.1)
+        (ap (λ (s : Share). file_part name s ∷ []) (is ∙ ap (λ (x : Refusal). refusal_share name x) cause.2))) wrote
 
-    -- ---- the rule files were answered under it
-
-    not_true : false ≡ true → ⊥
-    not_true same = cc
-
-    needed : (input : Input) → IsNeeded rule_needs input → IsNeeded needs input
-    needed (File n) is = later_there n is
-    needed Events is = is
-
-    causes : (result : Result Bool Stop) (unread : Option Input) → Cause rule_needs result unread old new → Cause needs result unread old new
-    causes (Ok found) unread c = c
-    causes (Err Unread) None c = c
-    causes (Err Unread) (Some input) c = (needed input c.0, c.1)
-    causes (Err Unwritten) None c = c
-    causes (Err Unwritten) (Some input) c = (needed input c.0, c.1, c.2)
-    causes (Err Memory) unread c = c
-
-    told_rules : (world : World) → IsTold needs old.inputs world → IsTold rule_needs old.inputs world
-    told_rules world told = record { files = λ n there. told.files n (later_there n there); events = λ is. absurd (not_true is) }
-
-    behind : (P : Kind) (world : World) (result : Result Bool Stop) (unread : Option Input) (ps : List Part) → Cause rule_needs result unread old new
-        → Stands P world result unread ps old new → Stands Whole world result unread (schema_part name no_share ∷ ps) old new
-    behind P world (Ok found) unread ps c s = s
-    behind P world (Err Unread) None ps c s = s
-    behind P world (Err Unread) (Some Events) ps c s = absurd (not_true c.0)
-    behind P world (Err Unread) (Some (File n)) ps c s = record {
-      before = schema_part name no_share ∷ s.before;
-      behind = s.behind;
-      divide = ap (λ (l : List Part). schema_part name no_share ∷ l) s.divide;
-      here = s.here;
-      out = s.out;
-      err = s.err;
-    }
-    behind P world (Err Unwritten) unread ps c s = s
-    behind P world (Err Memory) unread ps c s = s
-
+    -- and the command answered under it
     pub schema_given : (given : Schema) (result : Result Bool Stop) → Answers file_start (schema_of limits bytes) (Ok given)
-        → Ends rule_needs (EachPart (RuleFile (ConvertGives limits (Some given)) limits) rules) result old new → Ends needs Whole result old new
-    schema_given given result answers e = record {
-      unread = e.unread;
-      cause = causes result e.unread e.cause;
-      stands = λ world told.
-          let s = e.stands world (told_rules world told) in (
-            schema_part name no_share ∷ s.0,
-            under name refl given (told_is world told ∙ answered_ok file_start (schema_of limits bytes) given answers) s.0 s.1 refl,
-            behind (EachPart (RuleFile (ConvertGives limits (Some given)) limits) rules) world result e.unread s.0 e.cause s.2,
-          );
-      files = e.files;
-      apart = e.apart;
-      kept = e.kept;
-    }
+        → Ends (record { names = names; events = events }) (by (Some given)) result old new → Ends needs (UnderSchema by limits (Some name)) result old new
+    schema_given given result answers e =
+        quiet_before name names events (by (Some given)) (UnderSchema by limits (Some name)) old new
+        (λ world told ps other. under name refl given (told_is world told ∙ answered_ok file_start (schema_of limits bytes) given answers) ps other refl) result e
 
 -- no schema is named
-pub none_named : (limits : Limits) (rules : List (List ℕ)) (result : Result Bool Stop) (old new : State)
-    → Ends (record { names = rules; events = false }) (EachPart (RuleFile (ConvertGives limits None) limits) rules) result old new
-    → Ends (record { names = rules; events = false }) (Converted (ConvertGives limits) limits None rules) result old new
-none_named limits rules result old new e =
-    ends_as (record { names = rules; events = false }) (EachPart (RuleFile (ConvertGives limits None) limits) rules) (Converted (ConvertGives limits) limits None rules) result old new
-    (λ w ps each. without refl each) e
+pub none_named : (by : BySchema) (limits : Limits) (needs : Needs) (result : Result Bool Stop) (old new : State)
+    → Ends needs (by None) result old new → Ends needs (UnderSchema by limits None) result old new
+none_named by limits needs result old new e = ends_as needs (by None) (UnderSchema by limits None) result old new (λ w ps other. without refl other) e

@@ -23,6 +23,7 @@ if_true false x y is = absurd cc
 named_so : (command : CommandName) → command_named (row_of command).name ≡ Some command
 named_so commands.Check = refl
 named_so commands.Convert = refl
+named_so commands.Run = refl
 
 pub accepted_read : (words : List (List ℕ)) (request : Request) → IsAccepted words request → read words ≡ Some request
 accepted_read words request accepted =
@@ -49,15 +50,24 @@ choose false x y z is = inr (refl, is)
 same_word : (word other : List ℕ) → bytes_eq word other ≡ true → word ≡ other
 same_word word other is = (bytes_eq-Decides word other).0 is
 
+-- a word that is compared with one name, and then with others
+one_of : (word : List ℕ) (first command : CommandName) (others : Option CommandName) → (others ≡ Some command → word ≡ (row_of command).name)
+    → cond (bytes_eq word (row_of first).name) (Some first) others ≡ Some command → word ≡ (row_of command).name
+one_of word first command others rest is = elim (choose (bytes_eq word (row_of first).name) (Some first) others (Some command) is) [
+  | inl h ↦ same_word word (row_of first).name h.0 ∙ ap (λ (c : CommandName). (row_of c).name) (some_is first command h.1)
+  | inr h ↦ rest h.1
+]
+
+abbrev named_run : List ℕ → Option CommandName
+named_run word = cond (bytes_eq word (row_of commands.Run).name) (Some commands.Run) None
+
+abbrev named_convert : List ℕ → Option CommandName
+named_convert word = cond (bytes_eq word (row_of commands.Convert).name) (Some commands.Convert) (named_run word)
+
 name_of : (word : List ℕ) (command : CommandName) → command_named word ≡ Some command → word ≡ (row_of command).name
 name_of word command is =
-    elim (choose (bytes_eq word (row_of commands.Check).name) (Some commands.Check) (cond (bytes_eq word (row_of commands.Convert).name) (Some commands.Convert) None) (Some command) is) [
-      | inl h ↦ same_word word (row_of commands.Check).name h.0 ∙ ap (λ (c : CommandName). (row_of c).name) (some_is commands.Check command h.1)
-      | inr h ↦ elim (choose (bytes_eq word (row_of commands.Convert).name) (Some commands.Convert) None (Some command) h.1) [
-        | inl k ↦ same_word word (row_of commands.Convert).name k.0 ∙ ap (λ (c : CommandName). (row_of c).name) (some_is commands.Convert command k.1)
-        | inr k ↦ absurd (none_some command k.1)
-      ]
-    ]
+    one_of word commands.Check command (named_convert word)
+    (one_of word commands.Convert command (named_run word) (one_of word commands.Run command None (λ none. absurd (none_some command none)))) is
 
 -- the items that were read, and what they ask for
 asked_of : (command : CommandName) (others : List (List ℕ)) (request : Request) → asked command others ≡ Some request

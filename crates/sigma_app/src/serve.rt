@@ -10,6 +10,7 @@ ghost use Rattle.sigma_app.specs.Words.{IsUnaccepted};
 
 use crate::commands::check::Check;
 use crate::commands::convert::answer_convert;
+use crate::commands::run::answer_run;
 use crate::files::answer_files;
 use crate::law::{each_answer, queries_mean_rules};
 use crate::request::Request;
@@ -144,5 +145,6 @@ fn answer_request<W: Outside>(
         Request::Convert { schema, rules } => {
             answer_convert(alloc, limits, schema, rules.as_slice(), outside)
         }
+        Request::Run { schema, rule } => answer_run(alloc, limits, schema, rule, outside),
     }
 }

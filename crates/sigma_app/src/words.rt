@@ -4,7 +4,7 @@ ghost use Rattle.std.specs.Prelude.{◌≡◌, List, [], map, Some, unwrap_or, o
 ghost use Rattle.std.specs.Str.{chars};
 ghost use Rattle.command_words.specs.Given.{Item};
 ghost use Rattle.command_words.specs.Matched.{HasItems};
-ghost use Rattle.sigma_app.specs.Words.{IsAccepted, IsUnaccepted, files_of, request_with, schema_in};
+ghost use Rattle.sigma_app.specs.Words.{IsAccepted, IsUnaccepted, files_of, only, request_with, schema_in};
 ghost use Rattle.sigma_app.specs.Words as accepted_words;
 ghost use Rattle.sigma_app.specs.declared.request.Request.TheVariants as requests;
 
@@ -26,6 +26,9 @@ fn command_named(word: &Text) -> Option<CommandName>
     }
     if word.is("convert") {
         return Some(CommandName::Convert);
+    }
+    if word.is("run") {
+        return Some(CommandName::Run);
     }
     None
 }
@@ -112,6 +115,40 @@ fn convert_request(alloc: Global, found: &ArgMatches) -> Result<Option<Request>,
     }
 }
 
+/// A copy of the one name of these, if there is one and no other.
+fn copy_only(alloc: Global, names: &[Text]) -> Result<Option<Text>, AllocError>
+    ensures { IfOk result (λ copy. copy ≡ accepted_words.only names.now) }
+{
+    let [name] = names else {
+        return Ok(None);
+    };
+    match Text::copy(alloc, name.as_str()) {
+        Ok(copy) => Ok(Some(copy)),
+        Err(_) => Err(AllocError),
+    }
+}
+
+/// What `run` asks for.
+fn run_request(alloc: Global, found: &ArgMatches) -> Result<Option<Request>, AllocError>
+    ensures { (items : List Item) → HasItems found.now items → IfOk result (λ r. r ≡ option_map (requests.Run (schema_in items)) (only (files_of items))) }
+{
+    let files = match copies_if_any(alloc, found.get_raw("FILE")) {
+        Ok(files) => files,
+        Err(error) => return Err(error),
+    };
+    let rule = match copy_only(alloc, files.as_slice()) {
+        Ok(rule) => rule,
+        Err(error) => return Err(error),
+    };
+    let Some(rule) = rule else {
+        return Ok(None);
+    };
+    match copy_if_any(alloc, found.get_str("schema")) {
+        Ok(schema) => Ok(Some(Request::Run { schema, rule })),
+        Err(error) => Err(error),
+    }
+}
+
 /// What a command asks for, by what clap found in the words behind its name.
 fn request_with(
     alloc: Global,
@@ -128,6 +165,7 @@ fn request_with(
             }
             convert_request(alloc, found)
         }
+        CommandName::Run => run_request(alloc, found),
     }
 }
 

@@ -1,19 +1,18 @@
 //! `convert`: the queries of rules.
 
-ghost use Rattle.std.specs.Prelude.{◌≡◌, ◌+◌, ◌∷◌, false, Some, option_map};
+ghost use Rattle.std.specs.Prelude.{◌≡◌, false, option_map};
 ghost use Rattle.answer_parts.specs.Stands.{Ends, Writes};
-ghost use Rattle.sig_base.specs.Files.{IsFront};
 ghost use Rattle.sigma_app.specs.Answers.{names_with};
 ghost use Rattle.sigma_app.specs.Convert.{ConvertGives};
-ghost use Rattle.sigma_app.specs.Converted.{Converted};
-ghost use Rattle.sigma_app.specs.Laws.{EachTree};
+ghost use Rattle.sigma_app.specs.Converted.{Converted, RulesBy};
+ghost use Rattle.sigma_app.specs.Laws.{EachTree, EachUnder};
 ghost use Rattle.yaml_tree.specs.View.{node_view};
 
 use crate::documents::{TreeCommand, put_refusal};
 use crate::files::answer_files;
 use crate::law::each_answer;
-use answer_parts::{Outside, Stop, put_line, read_file};
-use event_reading::read_schema;
+use crate::schemed::{SchemaCommand, answer_schema};
+use answer_parts::{Outside, Stop, put_line};
 use event_schema::Schema;
 use rule_queries::convert_node;
 use sig_base::{Fault, Limits, Text};
@@ -46,7 +45,39 @@ impl TreeCommand for Convert<'_, '_> {
     }
 
     fn each_tree(&self) {
-        rule_queries::one_verdict();
+        rule_model::lone_rules();
+    }
+}
+
+/// Converts the rules of files.
+#[derive(Drop)]
+struct ConvertFiles<'l, 'r> {
+    limits: &'l Limits,
+    rules: &'r [Text],
+}
+
+impl SchemaCommand for ConvertFiles<'_, '_> {
+    ghost by = { λ c. RulesBy (ConvertGives c.limits.now) c.limits.now c.rules.now };
+
+    ghost names = { λ c. c.rules.now };
+
+    ghost events = { λ c. false };
+
+    fn answer<W: Outside>(
+        &self,
+        alloc: Global,
+        given: Option<&Schema>,
+        outside: &mut W,
+    ) -> Result<bool, Stop> {
+        let command = Convert {
+            limits: self.limits,
+            schema: given,
+        };
+        answer_files(alloc, &command, self.limits, self.rules, outside)
+    }
+
+    fn each_under(&self) {
+        each_answer();
     }
 }
 
@@ -60,58 +91,5 @@ pub(crate) fn answer_convert<W: Outside>(
 ) -> Result<bool, Stop>
     ensures { Ends (record { names = names_with schema.now rules.now; events = false }) (Converted (ConvertGives limits.now) limits.now schema.now rules.now) result (W.state outside.old) (W.state outside.new) }
 {
-    match schema {
-        Some(name) => answer_under(alloc, limits, name, rules, outside),
-        None => {
-            let command = Convert {
-                limits,
-                schema: None,
-            };
-            answer_files(alloc, &command, limits, rules, outside)
-        }
-    }
-}
-
-/// Reads the schema's file, and then answers the rule files.
-fn answer_under<W: Outside>(
-    alloc: Global,
-    limits: &Limits,
-    name: &Text,
-    rules: &[Text],
-    outside: &mut W,
-) -> Result<bool, Stop>
-    ensures { Ends (record { names = name.now ∷ rules.now; events = false }) (Converted (ConvertGives limits.now) limits.now (Some name.now) rules.now) result (W.state outside.old) (W.state outside.new) }
-{
-    each_answer();
-    match read_file(alloc, name, limits.file_bytes + 1, outside) {
-        Ok(bytes) => answer_read(alloc, limits, name, bytes.as_slice(), rules, outside),
-        Err(stop) => Err(stop),
-    }
-}
-
-/// Answers the rule files under the schema that was read, or refuses it and ends.
-fn answer_read<W: Outside>(
-    alloc: Global,
-    limits: &Limits,
-    name: &Text,
-    bytes: &[u8],
-    rules: &[Text],
-    outside: &mut W,
-) -> Result<bool, Stop>
-    ensures { IsFront (W.state outside.old).inputs.files name.now (limits.now.file_bytes + 1) bytes.now
-        → Ends (record { names = name.now ∷ rules.now; events = false }) (Converted (ConvertGives limits.now) limits.now (Some name.now) rules.now) result (W.state outside.old) (W.state outside.new) }
-{
-    each_answer();
-    match read_schema(alloc, limits, bytes) {
-        Ok(schema) => {
-            let given = Some(&schema);
-            let command = Convert {
-                limits,
-                schema: given,
-            };
-            answer_files(alloc, &command, limits, rules, outside)
-        }
-        Err(Fault::Refused(cause)) => put_refusal(alloc, name, &cause, outside),
-        Err(Fault::Memory) => Err(Stop::Memory),
-    }
+    answer_schema(alloc, limits, &ConvertFiles { limits, rules }, schema, outside)
 }

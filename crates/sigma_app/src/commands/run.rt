@@ -1,0 +1,185 @@
+//! `run`: the events that a rule matches.
+
+ghost use Rattle.std.specs.Prelude.{◌≡◌, ◌+◌, ◌∷◌, [], true, None, Some, option_map};
+ghost use Rattle.answer_parts.specs.EventLines.{EventLines};
+ghost use Rattle.answer_parts.specs.Stands.{Ends};
+ghost use Rattle.detection_eval.specs.Ready.{StandsFor};
+ghost use Rattle.rule_model.specs.Plain.{rule_view};
+ghost use Rattle.sig_base.specs.Files.{IsFront};
+ghost use Rattle.sigma_app.specs.Answers.{names_with};
+ghost use Rattle.sigma_app.specs.Ran.{RunGives, RanUnder, Ran};
+
+use crate::documents::put_refusal;
+use crate::law::each_answer;
+use crate::schemed::{SchemaCommand, answer_schema};
+use crate::selecting::put_picked;
+use answer_parts::{LineCommand, Outside, Stop, answer_lines, read_file, tell_line_refusal};
+use detection_eval::Ready;
+use event_reading::read_event;
+use event_schema::Schema;
+use rule_model::Rule;
+use rule_runs::{rule_alone, rule_under};
+use sig_base::{Bytes, Fault, Limits, Text};
+use std::alloc::Global;
+
+/// Runs the rule of a file.
+#[derive(Drop)]
+struct RunFile<'l, 'r> {
+    limits: &'l Limits,
+    rule: &'r Text,
+}
+
+impl SchemaCommand for RunFile<'_, '_> {
+    ghost by = { λ c. RanUnder c.limits.now c.rule.now };
+
+    ghost names = { λ c. c.rule.now ∷ [] };
+
+    ghost events = { λ c. true };
+
+    fn answer<W: Outside>(
+        &self,
+        alloc: Global,
+        given: Option<&Schema>,
+        outside: &mut W,
+    ) -> Result<bool, Stop> {
+        self.each_under();
+        match read_file(alloc, self.rule, self.limits.file_bytes + 1, outside) {
+            Ok(bytes) => run_bytes(alloc, self.limits, given, self.rule, bytes.as_slice(), outside),
+            Err(stop) => Err(stop),
+        }
+    }
+
+    fn each_under(&self) {
+        each_answer();
+    }
+}
+
+/// Runs the rule that a file's bytes are, or refuses them and ends.
+fn run_bytes<W: Outside>(
+    alloc: Global,
+    limits: &Limits,
+    given: Option<&Schema>,
+    file: &Text,
+    bytes: &[u8],
+    outside: &mut W,
+) -> Result<bool, Stop>
+    ensures { IsFront (W.state outside.old).inputs.files file.now (limits.now.file_bytes + 1) bytes.now
+        → Ends (record { names = file.now ∷ []; events = true }) (RanUnder limits.now file.now (option_map (λ s. s.now) given.entry)) result (W.state outside.old) (W.state outside.new) }
+{
+    match given {
+        Some(schema) => run_under(alloc, limits, schema, file, bytes, outside),
+        None => run_alone(alloc, limits, file, bytes, outside),
+    }
+}
+
+/// Runs a rule under a schema.
+fn run_under<W: Outside>(
+    alloc: Global,
+    limits: &Limits,
+    schema: &Schema,
+    file: &Text,
+    bytes: &[u8],
+    outside: &mut W,
+) -> Result<bool, Stop>
+    ensures { IsFront (W.state outside.old).inputs.files file.now (limits.now.file_bytes + 1) bytes.now
+        → Ends (record { names = file.now ∷ []; events = true }) (RanUnder limits.now file.now (Some schema.now)) result (W.state outside.old) (W.state outside.new) }
+{
+    each_answer();
+    match rule_under(alloc, limits, schema, bytes) {
+        Ok(rule) => answer_events(alloc, limits, schema, &rule, outside),
+        Err(Fault::Refused(cause)) => put_refusal(alloc, file, &cause, outside),
+        Err(Fault::Memory) => Err(Stop::Memory),
+    }
+}
+
+/// Runs a rule under the schema that is made of it.
+fn run_alone<W: Outside>(
+    alloc: Global,
+    limits: &Limits,
+    file: &Text,
+    bytes: &[u8],
+    outside: &mut W,
+) -> Result<bool, Stop>
+    ensures { IsFront (W.state outside.old).inputs.files file.now (limits.now.file_bytes + 1) bytes.now
+        → Ends (record { names = file.now ∷ []; events = true }) (RanUnder limits.now file.now None) result (W.state outside.old) (W.state outside.new) }
+{
+    each_answer();
+    match rule_alone(alloc, limits, bytes) {
+        Ok(found) => answer_events(alloc, limits, &found.schema, &found.rule, outside),
+        Err(Fault::Refused(cause)) => put_refusal(alloc, file, &cause, outside),
+        Err(Fault::Memory) => Err(Stop::Memory),
+    }
+}
+
+/// A rule, made ready for the events of a schema.
+#[derive(Drop)]
+struct RunLines<'s, 'r> {
+    schema: &'s Schema,
+    rule: &'r Rule,
+    ready: Ready,
+}
+
+impl LineCommand for RunLines<'_, '_> {
+    ghost gives = { λ c. RunGives c.schema.now (rule_view c.rule.now) };
+
+    ghost keeps = { λ c. StandsFor c.schema.now.fields (rule_view c.rule.now) c.ready };
+
+    fn answer<W: Outside>(
+        &mut self,
+        alloc: Global,
+        number: u32,
+        line: Bytes,
+        outside: &mut W,
+    ) -> Result<bool, Stop> {
+        self.each_line();
+        match read_event(alloc, self.schema, number, line.as_slice()) {
+            Ok(event) => match self.ready.matches(&event) {
+                Ok(picked) => put_picked(picked, line, outside),
+                Err(_) => Err(Stop::Memory),
+            },
+            Err(Fault::Refused(cause)) => tell_line_refusal(alloc, number, cause.code, outside),
+            Err(Fault::Memory) => Err(Stop::Memory),
+        }
+    }
+
+    fn each_line(&self) {
+        each_answer();
+    }
+}
+
+/// Answers the lines of the events by a rule.
+fn answer_events<W: Outside>(
+    alloc: Global,
+    limits: &Limits,
+    schema: &Schema,
+    rule: &Rule,
+    outside: &mut W,
+) -> Result<bool, Stop>
+    ensures { Ends (record { names = []; events = true }) (EventLines (RunGives schema.now (rule_view rule.now)) limits.now) result (W.state outside.old) (W.state outside.new) }
+{
+    each_answer();
+    match Ready::make(alloc, schema, rule) {
+        Ok(ready) => {
+            let mut lines = RunLines {
+                schema,
+                rule,
+                ready,
+            };
+            answer_lines(alloc, limits, &mut lines, outside)
+        }
+        Err(_) => Err(Stop::Memory),
+    }
+}
+
+/// Answers the events that the rule of a file matches, read under the schema of a file if one is named.
+pub(crate) fn answer_run<W: Outside>(
+    alloc: Global,
+    limits: &Limits,
+    schema: &Option<Text>,
+    rule: &Text,
+    outside: &mut W,
+) -> Result<bool, Stop>
+    ensures { Ends (record { names = names_with schema.now (rule.now ∷ []); events = true }) (Ran limits.now schema.now rule.now) result (W.state outside.old) (W.state outside.new) }
+{
+    answer_schema(alloc, limits, &RunFile { limits, rule }, schema, outside)
+}
