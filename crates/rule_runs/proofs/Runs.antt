@@ -2,17 +2,24 @@
 use Rattle.std.proofs.Common.{◌≡◌, ℕ, List, refl, ap, sym, ◌∙◌, subst, Option, Some, None, Result, Ok, Err, inl, inr}
 use Rattle.std.specs.Prelude.{◌⊎◌}
 use Rattle.event_schema.specs.declared.schema.Schema.{Schema}
-use Rattle.rule_model.specs.Plain.{PlainRule}
-use Rattle.rule_model.specs.Rules.{lone_refusal, IsLoneRule}
+use Rattle.rule_model.specs.Plain.{PlainRule, rule_view, rule_with}
+use Rattle.rule_model.specs.Rules.{lone_refusal, IsLoneRule, IsRule}
+use Rattle.rule_model.specs.declared.rule.Rule.{Rule}
+use Rattle.rule_runs.specs.Answers.{Answers, IsBare}
 use Rattle.rule_runs.specs.Files.{yaml_refusal, single_tree}
 use Rattle.rule_runs.specs.Laws.{EachRun, NeverBoth, OneRun, OneCause}
 use Rattle.rule_runs.specs.Runs.{AreDocuments, IsOnly, IsNoneOnly, no_tree, no_rule, IsSingleRule, IsNoSingleRule, as_one, by_document, IsRun, IsNotRun, no_single, unfit}
 use Rattle.rule_schema.specs.Inferred.{unfit_refusal}
 use Rattle.sig_base.specs.declared.limits.Limits.{Limits}
+use Rattle.sig_base.specs.Judged.{Judged}
+use Rattle.sig_base.specs.declared.refusal.Detail.TheVariants as details
+use Rattle.sig_base.specs.declared.refusal.Fault.{Fault}
+use Rattle.sig_base.specs.declared.refusal.Fault.TheVariants.{Memory, Refused}
 use Rattle.sig_base.specs.declared.refusal.Refusal.{Refusal}
 use Rattle.yaml_documents.specs.Verdicts as yaml
 use Rattle.yaml_files.specs.Call.{IsCallRefusal, IsTaken}
-use Rattle.yaml_tree.specs.Tree.{At, Tree, Answer}
+use Rattle.yaml_files.specs.Views.{IfRefused}
+use Rattle.yaml_tree.specs.Tree.{At, Tree, Answer, Member}
 
 abbrev EachLone : Type 0
 EachLone = (limits : Limits) (t : Tree) → lone_refusal limits t ≡ None → (rule : PlainRule) × IsLoneRule limits t rule
@@ -151,3 +158,28 @@ module _ (one : OneLone) (limits : Limits) where
       run_cause a b (unfit rule single is) (no_single too) = absurd (single_never rule b single too)
       run_cause a b (unfit rule single is) (unfit other other_single too) =
           some_is (unfit_refusal given rule) a b is (ap (unfit_refusal given) (one_single rule other single other_single) ∙ too)
+
+-- ---- what the readers answer
+
+no_detail : (r : Refusal) → r.detail ≡ details.None → r ≡ yaml_refusal (r.code, record { line = r.place.line; column = r.place.column })
+no_detail r plain = ap (λ d. record { code = r.code; place = r.place; detail = d }) plain
+
+-- a rule that is read of the one tree, or its refusal
+pub only_answers : (limits : Limits) (documents : List Answer) (t : Tree) (rest : List Member) (result : Result Rule Fault) → single_tree documents ≡ Ok t
+    → Judged (λ r. IsRule t (rule_with rest (rule_view r))) (lone_refusal limits t) result → Answers (IsBare (IsOnly limits documents)) (IsNoneOnly limits documents) result
+only_answers limits documents t rest (Ok rule) single judged = (rest, record { top = t; single = single; lone = record { taken = judged.0; is = judged.1 } })
+only_answers limits documents t rest (Err Memory) single judged = tt
+only_answers limits documents t rest (Err (Refused r)) single judged = no_rule t single judged
+
+-- what is said of the documents, said of the file
+pub documents_answer : (limits : Limits) (bytes : List ℕ) (documents : List Answer) (result : Result Rule Fault) → AreDocuments limits bytes documents
+    → Answers (IsBare (IsOnly limits documents)) (IsNoneOnly limits documents) result → Answers (IsBare (IsSingleRule limits bytes)) (IsNoSingleRule limits bytes) result
+documents_answer limits bytes documents (Ok rule) taken (rest, only) = (rest, record { documents = documents; taken = taken; only = only })
+documents_answer limits bytes documents (Err Memory) taken answers = tt
+documents_answer limits bytes documents (Err (Refused r)) taken none = by_document documents taken none
+
+-- the file is refused as a whole
+pub file_answers : (limits : Limits) (bytes : List ℕ) (fault : Fault) → IfRefused fault (IsCallRefusal limits.file_bytes limits.documents bytes)
+    → Answers {X = Rule} (IsBare (IsSingleRule limits bytes)) (IsNoSingleRule limits bytes) (Err fault)
+file_answers limits bytes Memory is = tt
+file_answers limits bytes (Refused r) (plain, is) = as_one (r.code, record { line = r.place.line; column = r.place.column }) is (no_detail r plain)

@@ -17,28 +17,31 @@ use Rattle.sig_base.specs.declared.limits.Limits.{Limits}
 use Rattle.sigma_app.proofs.Documented.{each_document, each_file, one_document, one_file}
 use Rattle.sigma_app.proofs.Filed.{each_part, one_part}
 use Rattle.sigma_app.proofs.Judged.{each_checks, each_converts, one_checks, one_converts}
+use Rattle.sigma_app.proofs.Schemed.{each_schema}
 use Rattle.sigma_app.specs.Check.{CheckGives}
 use Rattle.sigma_app.specs.Convert.{ConvertGives, has_query, no_query, ConvertMeans, means_rule, means_none}
-use Rattle.sigma_app.specs.Converted.{Converted, without, under, refused, schema_part, file_start}
-use Rattle.sigma_app.specs.Laws.{EachDocument, EachFile, EachAnswer, OneDocument, OneFile, OneAnswer, OfBoth, EachRule, OneRule, QueriesMean, AnswersMean}
+use Rattle.sigma_app.specs.Converted.{Converted, RulesBy}
+use Rattle.sigma_app.specs.Laws.{EachDocument, EachFile, EachUnder, EachAnswer, EachConverted, EachRan, OneDocument, OneFile, OneUnder, OneAnswer, OfBoth, EachRule, OneRule, EachLone, OneLone, QueriesMean, AnswersMean}
 use Rattle.sigma_app.specs.Reports.{refusal_share}
+use Rattle.sigma_app.specs.Ran.{RanUnder}
 use Rattle.sigma_app.specs.RuleFiles.{DocumentGives, as_one, by_document, RuleFile, contents}
-use Rattle.sigma_app.specs.declared.request.Request.TheVariants.{Check, Convert}
+use Rattle.sigma_app.specs.UnderSchema.{BySchema, UnderSchema, without, under, refused, file_part}
+use Rattle.sigma_app.specs.declared.request.Request.TheVariants.{Check, Convert, Run}
 use Rattle.yaml_bounds.specs.Laws.{TextsAreScalars}
 use Rattle.yaml_documents.specs.Verdicts as yaml
 use Rattle.yaml_tree.specs.Texts.{HasScalarTexts, AnswerHas}
 use Rattle.yaml_tree.specs.Tree.{Tree, Answer, tree, refusal}
 
-pub both_documents : EachRule → OfBoth EachDocument
-both_documents rule limits = (
+pub both_documents : EachRule → EachLone → OfBoth EachDocument
+both_documents rule lone limits = (
   each_document (CheckGives limits) (each_checks rule limits),
-  λ given. each_document (ConvertGives limits given) (each_converts rule limits given),
+  λ given. each_document (ConvertGives limits given) (each_converts lone limits given),
 )
 
-pub both_files : EachRule → yaml.EachVerdict → OfBoth EachFile
-both_files rule file limits = (
+pub both_files : EachRule → EachLone → yaml.EachVerdict → OfBoth EachFile
+both_files rule lone file limits = (
   each_file (CheckGives limits) (each_checks rule limits) file,
-  λ given. each_file (ConvertGives limits given) (each_converts rule limits given) file,
+  λ given. each_file (ConvertGives limits given) (each_converts lone limits given) file,
 )
 
 -- rule files under a schema, or under those that are made of their rules
@@ -49,32 +52,26 @@ each_under : OfBoth EachFile → (limits : Limits) (given : Option Schema) (rule
 each_under file limits given rules world =
     each_parts (RuleFile (ConvertGives limits given) limits) (each_part (ConvertGives limits given) limits ((file limits).1 given)) rules world
 
-pub each_converted : OfBoth EachFile → (limits : Limits) (schema : Option (List ℕ)) (rules : List (List ℕ)) (world : World)
-    → (parts : List Part) × Converted (ConvertGives limits) limits schema rules world parts
-each_converted file limits None rules world = let all = each_under file limits None rules world in (all.0, without refl all.1)
-each_converted file limits (Some name) rules world = by (schema_of limits (contents world.files name)) refl
-  where
-    by : (r : Result Schema ℕ) → schema_of limits (contents world.files name) ≡ r → (parts : List Part) × Converted (ConvertGives limits) limits (Some name) rules world parts
-    by (Ok given) is =
-        let all = each_under file limits (Some given) rules world in
-        (schema_part name no_share ∷ all.0, under name refl given is all.0 all.1 refl)
-    by (Err code) is = (schema_part name (refusal_share name (refused_at code file_start)) ∷ [], refused name refl code is refl)
+pub each_converted : OfBoth EachFile → EachConverted
+each_converted file limits rules given world = each_under file limits given rules world
 
-pub each_answer : EachRule → yaml.EachVerdict → EachAnswer
-each_answer rule file limits (Check rules) world =
-    each_parts (RuleFile (CheckGives limits) limits) (each_part (CheckGives limits) limits (both_files rule file limits).0) rules world
-each_answer rule file limits (Convert schema rules) world = each_converted (both_files rule file) limits schema rules world
+pub each_answer : EachRule → EachLone → yaml.EachVerdict → EachRan → EachAnswer
+each_answer rule lone file ran limits (Check rules) world =
+    each_parts (RuleFile (CheckGives limits) limits) (each_part (CheckGives limits) limits (both_files rule lone file limits).0) rules world
+each_answer rule lone file ran limits (Convert schema rules) world =
+    each_schema (RulesBy (ConvertGives limits) limits rules) limits (each_converted (both_files rule lone file) limits rules) schema world
+each_answer rule lone file ran limits (Run schema file_run) world = each_schema (RanUnder limits file_run) limits (ran limits file_run) schema world
 
-pub one_documents : OneRule → OfBoth OneDocument
-one_documents rule limits = (
+pub one_documents : OneRule → OneLone → OfBoth OneDocument
+one_documents rule lone limits = (
   one_document (CheckGives limits) (one_checks rule limits),
-  λ given. one_document (ConvertGives limits given) (one_converts rule limits given),
+  λ given. one_document (ConvertGives limits given) (one_converts lone limits given),
 )
 
-pub one_files : OneRule → yaml.NeverBoth → yaml.OneList → yaml.OneRefusal → OfBoth OneFile
-one_files rule never list cause limits = (
+pub one_files : OneRule → OneLone → yaml.NeverBoth → yaml.OneList → yaml.OneRefusal → OfBoth OneFile
+one_files rule lone never list cause limits = (
   one_file (CheckGives limits) (one_checks rule limits) never list cause,
-  λ given. one_file (ConvertGives limits given) (one_converts rule limits given) never list cause,
+  λ given. one_file (ConvertGives limits given) (one_converts lone limits given) never list cause,
 )
 
 one_under : OfBoth OneFile → (limits : Limits) (given : Option Schema) (rules : List (List ℕ)) (world : World) (a b : List Part)
@@ -82,7 +79,7 @@ one_under : OfBoth OneFile → (limits : Limits) (given : Option Schema) (rules 
 one_under file limits given rules world a b first second =
     parts_one (RuleFile (ConvertGives limits given) limits) (one_part (ConvertGives limits given) limits ((file limits).1 given)) rules world a b first second
 
--- ---- one answer to `convert`
+-- ---- one answer under a schema
 
 none_some : {A : Type 0} (o : Option A) (x : A) → o ≡ None → o ≡ Some x → ⊥
 none_some o x none some = apart (sym none ∙ some)
@@ -120,35 +117,41 @@ not_both r a code first second = apart (sym first ∙ second)
     apart : Ok a ≡ Err code → ⊥
     apart same = cc
 
-module _ (file : OfBoth OneFile) (limits : Limits) (schema : Option (List ℕ)) (rules : List (List ℕ)) (world : World) where
+module _ (by : BySchema) (one_by : OneUnder by) (limits : Limits) (schema : Option (List ℕ)) (world : World) where
   -- what the file of this name is as a schema, also said of the same name written otherwise
   moved : (name other : List ℕ) → schema ≡ Some name → schema ≡ Some other → (r : Result Schema ℕ)
       → schema_of limits (contents world.files other) ≡ r → schema_of limits (contents world.files name) ≡ r
   moved name other is too r so = ap (λ (n : List ℕ). schema_of limits (contents world.files n)) (some_is schema name other is too) ∙ so
 
-  pub one_converted : (a b : List Part) → Converted (ConvertGives limits) limits schema rules world a → Converted (ConvertGives limits) limits schema rules world b → a ≡ b
-  one_converted a b (without is each) (without too each_too) = one_under file limits None rules world a b each each_too
-  one_converted a b (without is each) (under other too given so others each_too same) = absurd (none_some schema other is too)
-  one_converted a b (without is each) (refused other too code so same) = absurd (none_some schema other is too)
-  one_converted a b (under name is given so others each same) (without too each_too) = absurd (none_some schema name too is)
-  one_converted a b (under name is given so others each same) (under other too given_too so_too others_too each_too same_too) =
+  pub one_schema : (a b : List Part) → UnderSchema by limits schema world a → UnderSchema by limits schema world b → a ≡ b
+  one_schema a b (without is each) (without too each_too) = one_by None world a b each each_too
+  one_schema a b (without is each) (under other too given so others each_too same) = absurd (none_some schema other is too)
+  one_schema a b (without is each) (refused other too code so same) = absurd (none_some schema other is too)
+  one_schema a b (under name is given so others each same) (without too each_too) = absurd (none_some schema name too is)
+  one_schema a b (under name is given so others each same) (under other too given_too so_too others_too each_too same_too) =
       let one : given_too ≡ given = ok_is (schema_of limits (contents world.files name)) given_too given (moved name other is too (Ok given_too) so_too) so in
-      let rest : others ≡ others_too = one_under file limits (Some given) rules world others others_too each
-      (subst (λ (g : Schema). FilesUnder limits (Some g) rules world others_too) one each_too) in
-      same ∙ (ap (λ (n : List ℕ). schema_part n no_share ∷ others) (some_is schema name other is too)
-      ∙ (ap (λ (ps : List Part). schema_part other no_share ∷ ps) rest ∙ sym same_too))
-  one_converted a b (under name is given so others each same) (refused other too code so_too same_too) =
+      let rest : others ≡ others_too = one_by (Some given) world others others_too each
+      (subst (λ (g : Schema). by (Some g) world others_too) one each_too) in
+      same ∙ (ap (λ (n : List ℕ). file_part n no_share ∷ others) (some_is schema name other is too)
+      ∙ (ap (λ (ps : List Part). file_part other no_share ∷ ps) rest ∙ sym same_too))
+  one_schema a b (under name is given so others each same) (refused other too code so_too same_too) =
       absurd (not_both (schema_of limits (contents world.files name)) given code so (moved name other is too (Err code) so_too))
-  one_converted a b (refused name is code so same) (without too each_too) = absurd (none_some schema name too is)
-  one_converted a b (refused name is code so same) (under other too given so_too others each_too same_too) =
+  one_schema a b (refused name is code so same) (without too each_too) = absurd (none_some schema name too is)
+  one_schema a b (refused name is code so same) (under other too given so_too others each_too same_too) =
       absurd (not_both (schema_of limits (contents world.files name)) given code (moved name other is too (Ok given) so_too) so)
-  one_converted a b (refused name is code so same) (refused other too code_too so_too same_too) =
-      same ∙ (ap (λ (c : ℕ). schema_part name (refusal_share name (refused_at c file_start)) ∷ []) (err_is (schema_of limits (contents world.files name)) code code_too so (moved name other is too (Err code_too) so_too))
-      ∙ (ap (λ (n : List ℕ). schema_part n (refusal_share n (refused_at code_too file_start)) ∷ []) (some_is schema name other is too) ∙ sym same_too))
+  one_schema a b (refused name is code so same) (refused other too code_too so_too same_too) =
+      same ∙ (ap (λ (c : ℕ). file_part name (refusal_share name (refused_at c file_start)) ∷ []) (err_is (schema_of limits (contents world.files name)) code code_too so (moved name other is too (Err code_too) so_too))
+      ∙ (ap (λ (n : List ℕ). file_part n (refusal_share n (refused_at code_too file_start)) ∷ []) (some_is schema name other is too) ∙ sym same_too))
 
-pub one_answer : OfBoth OneFile → OneAnswer
-one_answer file limits (Check rules) world a b first second = parts_one (RuleFile (CheckGives limits) limits) (one_part (CheckGives limits) limits (file limits).0) rules world a b first second
-one_answer file limits (Convert schema rules) world a b first second = one_converted file limits schema rules world a b first second
+-- one answer to a file that is run
+abbrev pub OneRan : Type 0
+OneRan = (limits : Limits) (file : List ℕ) → OneUnder (RanUnder limits file)
+
+pub one_answer : OfBoth OneFile → OneRan → OneAnswer
+one_answer file ran limits (Check rules) world a b first second = parts_one (RuleFile (CheckGives limits) limits) (one_part (CheckGives limits) limits (file limits).0) rules world a b first second
+one_answer file ran limits (Convert schema rules) world a b first second =
+    one_schema (RulesBy (ConvertGives limits) limits rules) (λ given w x y. one_under file limits given rules w x y) limits schema world a b first second
+one_answer file ran limits (Run schema rule) world a b first second = one_schema (RanUnder limits rule) (ran limits rule) limits schema world a b first second
 
 -- ---- what queries mean
 

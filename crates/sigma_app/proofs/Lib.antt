@@ -2,7 +2,9 @@ pub mod Documented
 pub mod Filed
 pub mod Judged
 pub mod Laws
+pub mod Ran
 pub mod ReportLines
 pub mod Running
 pub mod Schemed
+pub mod Selected
 pub mod Wording

@@ -3,6 +3,7 @@ use Rattle.std.proofs.Common.{◌≡◌, ℕ, suc, ◌+◌, ◌<◌, Bool, true,
 use Rattle.std.specs.Prelude.{MatchOption, unwrap_or, Contains}
 use Rattle.std.proofs.lemmas.Bool.{cases_lt, lt-ltb}
 use Rattle.std.proofs.lemmas.List.{take_all, length-take-le}
+use Rattle.answer_parts.proofs.Behind.{ends_behind}
 use Rattle.answer_parts.proofs.Ending.{ends_as, ends_written}
 use Rattle.answer_parts.proofs.Shares.{cut_nothing}
 use Rattle.answer_parts.proofs.Unread.{Begins, ends_unread}
@@ -22,7 +23,6 @@ use Rattle.sig_base.specs.declared.limits.Limits.{Limits}
 use Rattle.sig_base.specs.declared.refusal.Fault.TheVariants.{Refused}
 use Rattle.sig_base.specs.declared.refusal.Place.{Place}
 use Rattle.sig_base.specs.declared.refusal.Refusal.{Refusal}
-use Rattle.sigma_app.proofs.Quiet.{quiet_before}
 use Rattle.sigma_app.specs.Laws.{EachUnder}
 use Rattle.sigma_app.specs.Reports.{refusal_share}
 use Rattle.sigma_app.specs.RuleFiles.{contents}
@@ -79,6 +79,9 @@ module _ (by : BySchema) (limits : Limits) (name : List ℕ) (names : List (List
   first_there : Contains (name ∷ names) name
   first_there = (0, omega arith, refl)
 
+  later_there : (n : List ℕ) → Contains names n → Contains (name ∷ names) n
+  later_there n (i, below, is) = (suc i, omega (arith, below), is)
+
   some_is : (file : List ℕ) → Some name ≡ Some file → file ≡ name
   some_is file is = cc
 
@@ -125,8 +128,8 @@ module _ (by : BySchema) (limits : Limits) (name : List ℕ) (names : List (List
     pub schema_given : (given : Schema) (result : Result Bool Stop) → Answers file_start (schema_of limits bytes) (Ok given)
         → Ends (record { names = names; events = events }) (by (Some given)) result old new → Ends needs (UnderSchema by limits (Some name)) result old new
     schema_given given result answers e =
-        quiet_before name names events (by (Some given)) (UnderSchema by limits (Some name)) old new
-        (λ world told ps other. under name refl given (told_is world told ∙ answered_ok file_start (schema_of limits bytes) given answers) ps other refl) result e
+        ends_behind needs (record { names = names; events = events }) (file_part name no_share ∷ []) refl later_there refl (by (Some given)) (UnderSchema by limits (Some name)) result old new
+        (λ world told ps other. under name refl given (told_is world (told.files name first_there) ∙ answered_ok file_start (schema_of limits bytes) given answers) ps other refl) e
 
 -- no schema is named
 pub none_named : (by : BySchema) (limits : Limits) (needs : Needs) (result : Result Bool Stop) (old new : State)

@@ -1,18 +1,22 @@
 -- Laws of the answers: there is exactly one to each document, file and request, and the query of each rule means the rule.
 use Rattle.std.specs.Prelude.{◌≡◌, ℕ, List, Option, None, IfSome}
+use Rattle.answer_parts.specs.EventLines.{EachLine}
 use Rattle.answer_parts.specs.Input.{World}
 use Rattle.answer_parts.specs.Parts.{Share, Part}
 use Rattle.event_schema.specs.Schemas.{IsSchema}
 use Rattle.event_schema.specs.declared.schema.Schema.{Schema}
 use Rattle.rule_model.specs.Plain.{PlainRule}
 use Rattle.rule_model.specs.Rules.{rule_refusal}
+use Rattle.rule_model.specs.Rules.{lone_refusal, IsLoneRule}
 use Rattle.rule_queries.specs.Verdicts.{IsChecked}
 use Rattle.sig_base.specs.declared.limits.Limits.{Limits}
 use Rattle.sigma_app.specs.Answers.{Answers}
 use Rattle.sigma_app.specs.Check.{CheckGives}
 use Rattle.sigma_app.specs.Convert.{ConvertGives, ConvertMeans}
-use Rattle.sigma_app.specs.Converted.{Converted}
+use Rattle.sigma_app.specs.Converted.{Converted, RulesBy}
+use Rattle.sigma_app.specs.Ran.{RunGives, RanUnder}
 use Rattle.sigma_app.specs.RuleFiles.{ByTree, DocumentGives, FileGives}
+use Rattle.sigma_app.specs.UnderSchema.{BySchema}
 use Rattle.sigma_app.specs.declared.request.Request.{Request}
 use Rattle.yaml_tree.specs.Tree.{Tree, Answer}
 
@@ -25,6 +29,20 @@ EachDocument by = (name : List ℕ) (document : Answer) → (share : Share) × D
 
 abbrev pub EachFile : ByTree → Type 0
 EachFile by = (limits : Limits) (name bytes : List ℕ) → (share : Share) × FileGives by limits name bytes share
+
+-- each world has an answer, under each schema and where none is given
+abbrev pub EachUnder : BySchema → Type 0
+EachUnder by = (given : Option Schema) (world : World) → (parts : List Part) × by given world parts
+
+-- said of the rule files that are converted, of the one that is run, and of the lines of events that are answered
+abbrev pub EachConverted : Type 0
+EachConverted = (limits : Limits) (rules : List (List ℕ)) → EachUnder (RulesBy (ConvertGives limits) limits rules)
+
+abbrev pub EachRan : Type 0
+EachRan = (limits : Limits) (file : List ℕ) → EachUnder (RanUnder limits file)
+
+abbrev pub EachSelected : Type 0
+EachSelected = (schema : Schema) (rule : PlainRule) → EachLine (RunGives schema rule)
 
 -- each request has an answer in each world
 abbrev pub EachAnswer : Type 0
@@ -39,6 +57,10 @@ OneDocument by = (name : List ℕ) (document : Answer) (a b : Share) → Documen
 
 abbrev pub OneFile : ByTree → Type 0
 OneFile by = (limits : Limits) (name bytes : List ℕ) (a b : Share) → FileGives by limits name bytes a → FileGives by limits name bytes b → a ≡ b
+
+-- each world has one answer, under each schema and where none is given
+abbrev pub OneUnder : BySchema → Type 0
+OneUnder by = (given : Option Schema) (world : World) (a b : List Part) → by given world a → by given world b → a ≡ b
 
 -- each request has one answer in each world
 abbrev pub OneAnswer : Type 0
@@ -64,3 +86,10 @@ EachRule = (limits : Limits) (t : Tree) → rule_refusal limits t ≡ None → (
 
 abbrev pub OneRule : Type 0
 OneRule = (limits : Limits) (t : Tree) (a b : PlainRule) → IsChecked limits t a → IsChecked limits t b → a ≡ b
+
+-- the same of a tree that is no correlation
+abbrev pub EachLone : Type 0
+EachLone = (limits : Limits) (t : Tree) → lone_refusal limits t ≡ None → (rule : PlainRule) × IsLoneRule limits t rule
+
+abbrev pub OneLone : Type 0
+OneLone = (limits : Limits) (t : Tree) (a b : PlainRule) → IsLoneRule limits t a → IsLoneRule limits t b → a ≡ b

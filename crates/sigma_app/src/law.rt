@@ -1,7 +1,7 @@
 //! That words are one request at most, that each request has exactly one answer, and that each rule's query means the rule.
 
 ghost use Rattle.std.specs.Prelude.{◌≡◌, ◌↔◌, List, ℕ, Some};
-ghost use Rattle.sigma_app.specs.Laws.{EachDocument, EachFile, EachAnswer, OneDocument, OneFile, OneAnswer, OfBoth, QueriesMean, AnswersMean};
+ghost use Rattle.sigma_app.specs.Laws.{EachDocument, EachFile, EachConverted, EachRan, EachSelected, EachAnswer, OneDocument, OneFile, OneAnswer, OfBoth, QueriesMean, AnswersMean};
 ghost use Rattle.sigma_app.specs.Words.{IsAccepted, read};
 ghost use Rattle.sigma_app.specs.declared.request.Request.{Request};
 
@@ -10,13 +10,19 @@ pub fn words_are_read()
     ensures { (words : List (List ℕ)) (request : Request) → IsAccepted words request ↔ (read words ≡ Some request) }
 {}
 
-/// Each document of a rule file has an answer, and so each file and each request.
+/// Each document of a rule file has an answer, and so has each file, each file that is run, each line of events, and each request.
 pub fn each_answer()
     ensures document { OfBoth EachDocument }
     ensures file { OfBoth EachFile }
+    ensures converted { EachConverted }
+    ensures ran { EachRan }
+    ensures selected { EachSelected }
     ensures request { EachAnswer }
 {
     rule_queries::one_verdict();
+    rule_model::lone_rules();
+    rule_runs::one_run();
+    detection_eval::matches_or_not();
     yaml_documents::laws::verdicts();
 }
 
@@ -27,6 +33,8 @@ pub fn one_answer()
     ensures request { OneAnswer }
 {
     rule_queries::one_verdict();
+    rule_model::lone_rules();
+    rule_runs::one_run();
     yaml_documents::laws::verdicts();
     yaml_documents::laws::one_verdict();
 }

@@ -1,11 +1,23 @@
 use Rattle.sigma_app.proofs.Laws as laws
+use Rattle.sigma_app.proofs.Ran.{each_ran}
+use Rattle.sigma_app.proofs.Selected.{every_selected}
 use Rattle.sigma_app.proofs.law.each_answer.Goals as goal
 
 pub returns-clause-document : goal.returns-clause-document
-returns-clause-document c = laws.both_documents c.one_verdict.ensures.each
+returns-clause-document c = laws.both_documents c.one_verdict.ensures.each c.lone_rules.ensures.each
 
 pub returns-clause-file : goal.returns-clause-file
-returns-clause-file c = laws.both_files c.one_verdict.ensures.each c.verdicts.ensures.each
+returns-clause-file c = laws.both_files c.one_verdict.ensures.each c.lone_rules.ensures.each c.verdicts.ensures.each
+
+pub returns-clause-converted : goal.returns-clause-converted
+returns-clause-converted c = laws.each_converted (laws.both_files c.one_verdict.ensures.each c.lone_rules.ensures.each c.verdicts.ensures.each)
+
+pub returns-clause-ran : goal.returns-clause-ran
+returns-clause-ran c = each_ran c.one_run.ensures.each (every_selected c.matches_or_not.ensures)
+
+pub returns-clause-selected : goal.returns-clause-selected
+returns-clause-selected c = every_selected c.matches_or_not.ensures
 
 pub returns-clause-request : goal.returns-clause-request
-returns-clause-request c = laws.each_answer c.one_verdict.ensures.each c.verdicts.ensures.each
+returns-clause-request c =
+    laws.each_answer c.one_verdict.ensures.each c.lone_rules.ensures.each c.verdicts.ensures.each (each_ran c.one_run.ensures.each (every_selected c.matches_or_not.ensures))

@@ -1,11 +1,13 @@
 use Rattle.sigma_app.proofs.Laws as laws
+use Rattle.sigma_app.proofs.Ran.{one_ran}
+use Rattle.sigma_app.proofs.Selected.{every_one}
 use Rattle.sigma_app.proofs.law.one_answer.Goals as goal
 
 pub returns : goal.returns
 returns c =
-    let files = laws.one_files c.one_verdict.ensures.one c.verdicts.ensures.never_both c.one_verdict-2.ensures.list c.one_verdict-2.ensures.refusal in
+    let files = laws.one_files c.one_verdict.ensures.one c.lone_rules.ensures.one c.verdicts.ensures.never_both c.one_verdict-2.ensures.list c.one_verdict-2.ensures.refusal in
     record {
-      document = laws.one_documents c.one_verdict.ensures.one;
+      document = laws.one_documents c.one_verdict.ensures.one c.lone_rules.ensures.one;
       file = files;
-      request = laws.one_answer files;
+      request = laws.one_answer files (one_ran c.one_run.ensures.never_both c.one_run.ensures.one c.one_run.ensures.cause every_one);
     }

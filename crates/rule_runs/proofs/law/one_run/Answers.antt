@@ -1,0 +1,17 @@
+use Rattle.rule_runs.proofs.Runs.{each_run, run_never, one_single, run_cause}
+use Rattle.rule_runs.proofs.law.one_run.Goals as goal
+
+pub returns-clause-each : goal.returns-clause-each
+returns-clause-each c = each_run c.lone_rules.ensures.each c.verdicts.ensures.each
+
+pub returns-clause-never_both : goal.returns-clause-never_both
+returns-clause-never_both c = λ limits given bytes rule r is too.
+    run_never c.lone_rules.ensures.one limits c.verdicts.ensures.never_both c.one_verdict.ensures.list c.one_verdict.ensures.refusal bytes given rule r is too
+
+pub returns-clause-one : goal.returns-clause-one
+returns-clause-one c = λ limits given bytes a b is too.
+    one_single c.lone_rules.ensures.one limits c.verdicts.ensures.never_both c.one_verdict.ensures.list c.one_verdict.ensures.refusal bytes a b is.single too.single
+
+pub returns-clause-cause : goal.returns-clause-cause
+returns-clause-cause c = λ limits given bytes a b is too.
+    run_cause c.lone_rules.ensures.one limits c.verdicts.ensures.never_both c.one_verdict.ensures.list c.one_verdict.ensures.refusal bytes given a b is too

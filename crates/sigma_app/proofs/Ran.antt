@@ -1,0 +1,158 @@
+-- What running the rule of a file leaves, and that there is exactly one answer.
+use Rattle.std.proofs.Common.{◌≡◌, ℕ, suc, ◌+◌, ◌<◌, Bool, true, false, List, [], ◌∷◌, length, take, refl, ap, sym, ◌∙◌, subst, arith, Option, Some, None, Result, Ok, Err, inl, inr}
+use Rattle.std.specs.Prelude.{◌⊎◌, MatchOption, unwrap_or, Contains}
+use Rattle.answer_parts.proofs.Behind.{ends_behind}
+use Rattle.answer_parts.proofs.Ending.{ends_written}
+use Rattle.answer_parts.proofs.Rows.{each_parts, parts_one}
+use Rattle.answer_parts.proofs.Shares.{cut_nothing}
+use Rattle.answer_parts.proofs.Unread.{Begins, ends_unread}
+use Rattle.answer_parts.specs.EventLines.{ByLine, EachLine, EventLines, StepPart, StepGives, UnlessBlank, is_blank, line_refused}
+use Rattle.answer_parts.specs.Input.{Input, World, Needs, File, Events, IsTold}
+use Rattle.answer_parts.specs.Parts.{Share, Part, share_of, no_share}
+use Rattle.answer_parts.specs.Stands.{Writes, Ends, StopsBefore}
+use Rattle.answer_parts.specs.State.{State}
+use Rattle.answer_parts.specs.declared.stop.Stop.{Stop}
+use Rattle.answer_parts.specs.declared.stop.Stop.TheVariants.{Memory}
+use Rattle.event_lines.specs.Lines.{lines_of}
+use Rattle.event_schema.specs.declared.schema.Schema.{Schema}
+use Rattle.rule_model.specs.Plain.{PlainRule}
+use Rattle.rule_runs.proofs.Fronts.{run_front, not_run_front}
+use Rattle.rule_runs.specs.Laws as files
+use Rattle.rule_runs.specs.Runs.{IsRun, IsNotRun}
+use Rattle.rule_schema.specs.Inferred.{schema_for}
+use Rattle.sig_base.specs.Files.{file_at, IsFront}
+use Rattle.sig_base.specs.declared.faults.LineStep.{LineStep}
+use Rattle.sig_base.specs.declared.faults.LineStep.TheVariants.{Line, TooLong, TooMuch, End}
+use Rattle.sig_base.specs.declared.limits.Limits.{Limits}
+use Rattle.sig_base.specs.declared.refusal.Refusal.{Refusal}
+use Rattle.sigma_app.specs.Laws.{EachRan, EachSelected, EachUnder, OneUnder}
+use Rattle.sigma_app.specs.Ran.{RunGives, RanUnder, runs, isnt_run}
+use Rattle.sigma_app.specs.Reports.{refusal_share}
+use Rattle.sigma_app.specs.RuleFiles.{contents}
+use Rattle.sigma_app.specs.UnderSchema.{file_part}
+
+-- ---- the lines of events, answered by line
+
+each_step : (by : ByLine) → EachLine by → (step : LineStep) (world : World) → (part : Part) × StepPart by step world part
+each_step by each step world = let one = given step in (record { input = Some Events; share = one.0 }, record { input = refl; share = one.1 })
+  where
+    unless : (blank : Bool) (number : ℕ) (line : List ℕ) → (share : Share) × UnlessBlank blank (by number line) share
+    unless true number line = (no_share, refl)
+    unless false number line = each number line
+
+    given : (s : LineStep) → (share : Share) × StepGives by s share
+    given (Line number line) = unless (is_blank line) number line
+    given (TooLong number) = (line_refused number 30, refl)
+    given (TooMuch number) = (line_refused number 31, refl)
+    given End = (no_share, refl)
+
+each_lines : (by : ByLine) → EachLine by → (limits : Limits) (world : World) → (parts : List Part) × EventLines by limits world parts
+each_lines by each limits world = each_parts (StepPart by) (each_step by each) (lines_of limits world.events) world
+
+-- each line is answered in one way
+abbrev pub OneLine : ByLine → Type 0
+OneLine by = (number : ℕ) (line : List ℕ) (a b : Share) → by number line a → by number line b → a ≡ b
+
+one_step : (by : ByLine) → OneLine by → (step : LineStep) (world : World) (p q : Part) → StepPart by step world p → StepPart by step world q → p ≡ q
+one_step by one step world p q first second = same_part (first.input ∙ sym second.input) (same step first.share second.share)
+  where
+    unless : (blank : Bool) (number : ℕ) (line : List ℕ) → UnlessBlank blank (by number line) p.share → UnlessBlank blank (by number line) q.share → p.share ≡ q.share
+    unless true number line a b = a ∙ sym b
+    unless false number line a b = one number line p.share q.share a b
+
+    same : (s : LineStep) → StepGives by s p.share → StepGives by s q.share → p.share ≡ q.share
+    same (Line number line) a b = unless (is_blank line) number line a b
+    same (TooLong number) a b = a ∙ sym b
+    same (TooMuch number) a b = a ∙ sym b
+    same End a b = a ∙ sym b
+
+    same_part : p.input ≡ q.input → p.share ≡ q.share → p ≡ q
+    same_part input share = ap (λ (i : Option Input). record { input = i; share = p.share }) input ∙ ap (λ (s : Share). record { input = q.input; share = s }) share
+
+one_lines : (by : ByLine) → OneLine by → (limits : Limits) (world : World) (a b : List Part) → EventLines by limits world a → EventLines by limits world b → a ≡ b
+one_lines by one limits world a b first second = parts_one (StepPart by) (one_step by one) (lines_of limits world.events) world a b first second
+
+-- ---- exactly one answer
+
+pub each_ran : files.EachRun → EachSelected → EachRan
+each_ran each lines limits file given world = by (each limits given (contents world.files file))
+  where
+    by : ((rule : PlainRule) × IsRun limits given (contents world.files file) rule) ⊎ ((r : Refusal) × IsNotRun limits given (contents world.files file) r)
+        → (parts : List Part) × RanUnder limits file given world parts
+    by (inl (rule, run)) =
+        let all = each_lines (RunGives (schema_for given rule) rule) (lines (schema_for given rule) rule) limits world in
+        (file_part file no_share ∷ all.0, runs rule run all.0 all.1 refl)
+    by (inr (r, is)) = (file_part file (refusal_share file r) ∷ [], isnt_run r is refl)
+
+pub one_ran : files.NeverBoth → files.OneRun → files.OneCause → ((schema : Schema) (rule : PlainRule) → OneLine (RunGives schema rule)) → (limits : Limits) (file : List ℕ)
+    → OneUnder (RanUnder limits file)
+one_ran never one cause line limits file given world a b (runs rule run lines each same) (runs other other_run other_lines other_each same_too) =
+    let is : other ≡ rule = one limits given (contents world.files file) other rule other_run run in
+    let lines_same : lines ≡ other_lines = one_lines (RunGives (schema_for given rule) rule) (line (schema_for given rule) rule) limits world lines other_lines each
+    (subst (λ (r : PlainRule). EventLines (RunGives (schema_for given r) r) limits world other_lines) is other_each) in
+    same ∙ (ap (λ (l : List Part). file_part file no_share ∷ l) lines_same ∙ sym same_too)
+one_ran never one cause line limits file given world a b (runs rule run lines each same) (isnt_run r is same_too) = absurd (never limits given (contents world.files file) rule r run is)
+one_ran never one cause line limits file given world a b (isnt_run r is same) (runs rule run lines each same_too) = absurd (never limits given (contents world.files file) rule r run is)
+one_ran never one cause line limits file given world a b (isnt_run r is same) (isnt_run s too same_too) =
+    same ∙ (ap (λ (x : Refusal). file_part file (refusal_share file x) ∷ []) (cause limits given (contents world.files file) r s is too) ∙ sym same_too)
+
+-- ---- what was read of a file that is told, said of the file
+
+file_is : (limits : Limits) (Q : List ℕ → Type 0) (name : List ℕ) → ((all : List ℕ) → Q (take (limits.file_bytes + 1) all) → Q all)
+    → (files : Option (List (List ℕ × List ℕ))) (told : List (List ℕ × List ℕ)) (bytes : List ℕ) → files ≡ Some told → IsFront files name (limits.file_bytes + 1) bytes
+    → Q bytes → Q (contents told name)
+file_is limits Q name whole files told bytes is front so = found (file_at told name) (subst (λ f. IsFront f name (limits.file_bytes + 1) bytes) is front)
+  where
+    found : (at : Option (List ℕ)) → MatchOption at ⊥ (λ all. bytes ≡ take (limits.file_bytes + 1) all) → Q (unwrap_or at [])
+    found None bad = absurd bad
+    found (Some all) same = whole all (subst Q same so)
+
+module _ (limits : Limits) (file : List ℕ) (given : Option Schema) where
+  abbrev needs : Needs
+  needs = record { names = file ∷ []; events = true }
+
+  there : Contains (file ∷ []) file
+  there = (0, omega arith, refl)
+
+  none_there : (n : List ℕ) → Contains [] n → Contains (file ∷ []) n
+  none_there n (i, below, is) = absurd (omega (arith, below))
+
+  begins : (world : World) (parts : List Part) → RanUnder limits file given world parts → Begins file parts
+  begins world parts (runs rule run lines each same) = (file_part file no_share, lines, same, refl)
+  begins world parts (isnt_run r is same) = (file_part file (refusal_share file r), [], same, refl)
+
+  -- the file couldn't be read
+  pub run_unread : EachUnder (RanUnder limits file) → (stop : Stop) (old new : State) → StopsBefore file stop old new → Ends needs (RanUnder limits file given) (Err stop) old new
+  run_unread each stop old new stops =
+      ends_unread needs (RanUnder limits file given) file old new there stop (λ world. let a = each given world in (a.0, a.1, begins world a.0 a.1)) stops
+
+  -- memory was missing
+  pub run_memory : EachUnder (RanUnder limits file) → (s : State) → Ends needs (RanUnder limits file given) (Err Memory) s s
+  run_memory each s = record {
+    unread = None;
+    cause = refl;
+    stands = λ world told. let a = each given world in (a.0, a.1, cut_nothing None (share_of a.0) s.streams);
+    files = refl;
+    apart = λ _. (refl, refl);
+    kept = refl;
+  }
+
+  module _ (bytes : List ℕ) (old new : State) (front : IsFront old.inputs.files file (limits.file_bytes + 1) bytes) where
+    -- the file isn't run
+    pub run_refused : (r : Refusal) (result : Result Bool Stop) → IsNotRun limits given bytes r
+        → Writes (λ share. share ≡ refusal_share file r) result old new → Ends needs (RanUnder limits file given) result old new
+    run_refused r result is wrote =
+        ends_written needs (RanUnder limits file given) (λ share. share ≡ refusal_share file r) (Some (File file)) result old new
+        (λ world told share same. isnt_run r
+        (file_is limits (λ bs. IsNotRun limits given bs r) file (λ all. not_run_front limits all given r) old.inputs.files world.files bytes (told.files file there) front is)
+        (ap (λ (s : Share). file_part file s ∷ []) same)) wrote
+
+    -- the file is run, and the lines of events are answered
+    pub run_answered : (rule : PlainRule) (result : Result Bool Stop) → IsRun limits given bytes rule
+        → Ends (record { names = []; events = true }) (EventLines (RunGives (schema_for given rule) rule) limits) result old new
+        → Ends needs (RanUnder limits file given) result old new
+    run_answered rule result is e =
+        ends_behind needs (record { names = []; events = true }) (file_part file no_share ∷ []) refl none_there refl
+        (EventLines (RunGives (schema_for given rule) rule) limits) (RanUnder limits file given) result old new
+        (λ world told ps lines. runs rule
+        (file_is limits (λ bs. IsRun limits given bs rule) file (λ all. run_front limits all given rule) old.inputs.files world.files bytes (told.files file there) front is) ps lines refl) e

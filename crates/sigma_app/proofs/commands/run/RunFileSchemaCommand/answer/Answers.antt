@@ -1,0 +1,8 @@
+use Rattle.std.specs.Prelude.{option_map}
+use Rattle.sigma_app.proofs.Ran.{run_unread}
+use Rattle.sigma_app.proofs.commands.run.RunFileSchemaCommand.answer.Goals as goal
+
+pub returns-in-Err : goal.returns-in-Err
+returns-in-Err g c =
+    run_unread c.args.self.now.limits.now c.args.self.now.rule.now (option_map (λ s. s.now) c.args.given) c.each_under.ensures c.in-Err.stop
+    (g.W.Outside.state c.args.outside.now) (g.W.Outside.state c.read_file.new.outside) c.in-Err.ensures.stops
