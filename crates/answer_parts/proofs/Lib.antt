@@ -3,3 +3,5 @@ pub mod Wrote
 pub mod Ending
 pub mod Unread
 pub mod Rows
+pub mod Lined
+mod Refusals
