@@ -4,4 +4,5 @@ pub mod Ending
 pub mod Unread
 pub mod Rows
 pub mod Lined
+pub mod Behind
 mod Refusals

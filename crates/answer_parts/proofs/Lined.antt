@@ -15,13 +15,13 @@ use Rattle.sig_base.specs.declared.limits.Limits.{Limits}
 use Rattle.event_lines.proofs.Coming.{next_line, last_bytes}
 use Rattle.event_lines.specs.Lines.{line_step, steps_from, lines_of}
 use Rattle.event_lines.specs.Reading.{Reading, coming, has_feed, AnswersNext, IsNext, PassesLine, Passes, IsPassed, IsOver, IsLine, HasLineCause}
-use Rattle.answer_parts.proofs.Ending.{Kind}
+use Rattle.answer_parts.proofs.Ending.{Kind, EachHas}
 use Rattle.answer_parts.proofs.Rows.{each_parts, parts_append, parts_aside}
 use Rattle.answer_parts.proofs.Shares.{gains_nothing, gains_then, cut_longer, cut_then, cut_nothing, join_nothing, share_append}
 use Rattle.answer_parts.proofs.Wrote.{badly_since, well_then, writes_as, writes_nothing}
 use Rattle.answer_parts.specs.Cut.{Cut, DiagnosticsCut, of_unread}
 use Rattle.answer_parts.specs.Each.{EachPart}
-use Rattle.answer_parts.specs.EventLines.{ByLine, EachLine, UnlessBlank, LineGives, StepGives, StepPart, EventLines, is_blank, is_end, line_refused}
+use Rattle.answer_parts.specs.EventLines.{ByLine, EachLine, AnswersWithin, UnlessBlank, LineGives, StepGives, StepPart, EventLines, is_blank, is_end, line_refused}
 use Rattle.answer_parts.specs.Input.{Input, Events, World, Needs, IsTold, unread_diagnostic}
 use Rattle.answer_parts.specs.Lines.{ended, diagnostics_text}
 use Rattle.answer_parts.specs.Parts.{Share, Part, no_share, join, share_of, Gains}
@@ -140,6 +140,17 @@ falls r later step some over shorter ended = by r.ended refl
     by : (b : Bool) → r.ended ≡ b → cond later.ended 0 (later.room + 1) < cond r.ended 0 (r.room + 1)
     by true is = absurd (not_both (not_end (ended is)))
     by false is = rw is (behind later.ended refl)
+
+-- a step's answer by the one is an answer by the other
+pub step_within : (by other : ByLine) → AnswersWithin by other → (step : LineStep) (share : Share) → StepGives by step share → StepGives other step share
+step_within by other within (Line number line) share is = unless (is_blank line) is
+  where
+    unless : (b : Bool) → UnlessBlank b (by number line) share → UnlessBlank b (other number line) share
+    unless true nothing = nothing
+    unless false given = within number line share given
+step_within by other within (TooLong number) share is = is
+step_within by other within (TooMuch number) share is = is
+step_within by other within End share is = is
 
 -- ---- what is answered so far
 
@@ -365,6 +376,9 @@ module _ (gives : ByLine) (limits : Limits) where
   rest_of : EachLine gives → (r : Reading) (refused : Bool) (old now : State) (world : World) (a : Answered r refused old now world)
       → (qs : List Part) × EachPart (StepPart gives) (coming r a.at.rest) world qs
   rest_of each r refused old now world a = each_parts (StepPart gives) (each_step each) (coming r a.at.rest) world
+
+  pub each_answer : EachLine gives → EachHas Lines
+  each_answer each world = each_parts (StepPart gives) (each_step each) (lines_of limits world.events) world
 
   -- ---- a line's answer is cut off
 

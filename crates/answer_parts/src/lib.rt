@@ -6,6 +6,8 @@ mod outside;
 mod reading;
 mod stop;
 mod writing;
+#[cfg(test)]
+mod tests;
 
 pub use events::{LineCommand, answer_lines, tell_line_refusal};
 pub use outside::{Lent, Outside};
