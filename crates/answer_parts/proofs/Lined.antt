@@ -16,7 +16,7 @@ use Rattle.event_lines.proofs.Coming.{next_line, last_bytes}
 use Rattle.event_lines.specs.Lines.{line_step, steps_from, lines_of}
 use Rattle.event_lines.specs.Reading.{Reading, coming, has_feed, AnswersNext, IsNext, PassesLine, Passes, IsPassed, IsOver, IsLine, HasLineCause}
 use Rattle.answer_parts.proofs.Ending.{Kind, EachHas}
-use Rattle.answer_parts.proofs.Rows.{each_parts, parts_append, parts_aside}
+use Rattle.answer_parts.proofs.Rows.{each_parts, parts_append, parts_aside, parts_one}
 use Rattle.answer_parts.proofs.Shares.{gains_nothing, gains_then, cut_longer, cut_then, cut_nothing, join_nothing, share_append}
 use Rattle.answer_parts.proofs.Wrote.{badly_since, well_then, writes_as, writes_nothing}
 use Rattle.answer_parts.specs.Cut.{Cut, DiagnosticsCut, of_unread}
@@ -379,6 +379,25 @@ module _ (gives : ByLine) (limits : Limits) where
 
   pub each_answer : EachLine gives → EachHas Lines
   each_answer each world = each_parts (StepPart gives) (each_step each) (lines_of limits world.events) world
+
+  -- where each line has one answer, all have one
+  pub lines_one : ((number : ℕ) (line : List ℕ) (a b : Share) → gives number line a → gives number line b → a ≡ b) → (world : World) (ps qs : List Part) → Lines world ps → Lines world qs → ps ≡ qs
+  lines_one one world ps qs first second = parts_one (StepPart gives) one_part (lines_of limits world.events) world ps qs first second
+    where
+      unless : (blank : Bool) (number : ℕ) (line : List ℕ) (a b : Share) → UnlessBlank blank (gives number line) a → UnlessBlank blank (gives number line) b → a ≡ b
+      unless true number line a b x y = x ∙ sym y
+      unless false number line a b x y = one number line a b x y
+
+      one_share : (step : LineStep) (a b : Share) → StepGives gives step a → StepGives gives step b → a ≡ b
+      one_share (Line number line) a b x y = unless (is_blank line) number line a b x y
+      one_share (TooLong number) a b x y = x ∙ sym y
+      one_share (TooMuch number) a b x y = x ∙ sym y
+      one_share End a b x y = x ∙ sym y
+
+      one_part : (step : LineStep) (w : World) (p q : Part) → StepPart gives step w p → StepPart gives step w q → p ≡ q
+      one_part step w p q x y =
+          ap (λ (i : Option Input). record { input = i; share = p.share }) (x.input ∙ sym y.input)
+          ∙ ap (λ (s : Share). record { input = q.input; share = s }) (one_share step p.share q.share x.share y.share)
 
   -- ---- a line's answer is cut off
 

@@ -77,8 +77,8 @@ fn sink_of(alloc: Global, most: usize, call: u64) -> Result<MemorySink, Fail> {
     Ok(MemorySink::new(alloc, 4096, most.max(1), ordinals(alloc, call)?)?)
 }
 
-fn ending(result: Result<bool, Stop>) -> &'static str {
-    match result {
+fn ending(answer: Result<bool, Stop>) -> &'static str {
+    match answer {
         Ok(false) => "done",
         Ok(true) => "found",
         Err(Stop::Unread) => "unread",
