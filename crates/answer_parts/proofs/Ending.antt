@@ -5,7 +5,7 @@ use Rattle.std.specs.Io.KnownBytes.{Appends}
 use Rattle.std.proofs.lemmas.Grind.{flat_map-append}
 use Rattle.sig_base.specs.Causes.{Rose}
 use Rattle.sig_base.proofs.Puts.{Appends-then}
-use Rattle.answer_parts.proofs.Shares.{gains_nothing, gains_then, cut_longer, cut_then, join_nothing, share_append}
+use Rattle.answer_parts.proofs.Shares.{gains_nothing, gains_then, cut_longer, cut_nothing, cut_then, join_nothing, share_append}
 use Rattle.answer_parts.proofs.Wrote.{badly_since, well_then}
 use Rattle.answer_parts.specs.Cut.{Cut}
 use Rattle.answer_parts.specs.Input.{Input, File, Events, World, Needs, IsNeeded, IsTold, WasUnread, unread_diagnostic}
@@ -236,6 +236,17 @@ ends_nothing needs P s is = record {
   unread = None;
   cause = (refl, (refl, refl), (refl, refl));
   stands = λ world told. ([], is world, (refl, gains_nothing s.streams));
+  files = refl;
+  apart = λ _. (refl, refl);
+  kept = refl;
+}
+
+-- memory was missing before anything was written
+pub ends_memory : (needs : Needs) (P : Kind) (s : State) → EachHas P → Ends needs P (Err Memory) s s
+ends_memory needs P s each = record {
+  unread = None;
+  cause = refl;
+  stands = λ world told. let a = each world in (a.0, a.1, cut_nothing None (share_of a.0) s.streams);
   files = refl;
   apart = λ _. (refl, refl);
   kept = refl;

@@ -104,9 +104,11 @@ pub record StopsBefore (name : List ℕ) (stop : Stop) (old new : State) : Type 
   pub faults : new.inputs.faults ≡ old.inputs.faults
   pub kept : new.references ≡ old.references
 
+-- ---- an input that can't be read
+
 -- what its diagnostic leaves on the streams
-abbrev pub ToldUnread : List ℕ → Stop → State → State → Type 0
-ToldUnread name Unread old new = Appends old.streams.err new.streams.err (ended (unread_diagnostic (File name))) × (new.streams.out ≡ old.streams.out)
-ToldUnread name Unwritten old new = AppendsFront old.streams.err new.streams.err (ended (unread_diagnostic (File name))) × SomeWriteFailed old.streams new.streams
+abbrev pub ToldUnread : Input → Stop → State → State → Type 0
+ToldUnread input Unread old new = Appends old.streams.err new.streams.err (ended (unread_diagnostic input)) × (new.streams.out ≡ old.streams.out)
+ToldUnread input Unwritten old new = AppendsFront old.streams.err new.streams.err (ended (unread_diagnostic input)) × SomeWriteFailed old.streams new.streams
     × (new.streams.out ≡ old.streams.out)
-ToldUnread name Memory old new = new.streams ≡ old.streams
+ToldUnread input Memory old new = new.streams ≡ old.streams

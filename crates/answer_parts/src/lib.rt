@@ -1,11 +1,15 @@
 //! Answers that are written part by part, and what stands of them where they are cut off.
 #![tactic(auto)]
 
+mod events;
 mod outside;
 mod reading;
 mod stop;
 mod writing;
+#[cfg(test)]
+mod tests;
 
+pub use events::{LineCommand, answer_lines, tell_line_refusal};
 pub use outside::{Lent, Outside};
 pub use reading::read_file;
 pub use stop::Stop;

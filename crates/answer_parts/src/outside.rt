@@ -1,13 +1,17 @@
 //! The shelf, the events and the two streams as one.
 
-ghost use Rattle.std.specs.Prelude.{◌≡◌, OnOk, OnErr, IfOk};
+ghost use Rattle.std.specs.Prelude.{◌≡◌, ◌<◌, OnOk, OnErr, IfOk, Ok, true, is_some};
 ghost use Rattle.std.specs.Io.KnownBytes.{Appends};
 ghost use Rattle.sig_base.specs.Causes.{HasCause, AppendsFront};
 ghost use Rattle.sig_base.specs.Files.{IsFront};
 ghost use Rattle.sig_base.specs.Shelves.{NamesFollow};
+ghost use Rattle.event_lines.specs.Reading.{IsNext, IsPassed, IsOver, IsLine, HasLineCause};
 ghost use Rattle.answer_parts.specs.State.{State};
 
-use sig_base::{Bytes, Failed, Shelf, ShelfFault, Sink, Source, Text, put_all};
+use event_lines::LineReader;
+use sig_base::{
+    Bytes, Failed, LineFault, LineStep, Shelf, ShelfFault, Sink, Source, Text, put_all,
+};
 use std::alloc::Global;
 
 /// What a command reads and writes.
@@ -21,6 +25,20 @@ pub trait Outside {
         ensures names { NamesFollow (state self.old).inputs.failed (state self.new).inputs.failed name.now result }
         ensures left { (state self.new).inputs.left ≡ (state self.old).inputs.left }
         ensures faults { (state self.new).inputs.faults ≡ (state self.old).inputs.faults }
+        ensures streams { (state self.new).streams ≡ (state self.old).streams }
+        ensures kept { (state self.new).references ≡ (state self.old).references };
+
+    /// The next line of the events, by a reader of them.
+    fn next_line(&mut self, reader: &mut LineReader) -> Result<LineStep, LineFault>
+        ensures next { IsNext reader.old (state self.old).inputs.left reader.new (state self.new).inputs.left result }
+        ensures passed { IsPassed reader.old (state self.old).inputs.left reader.new (state self.new).inputs.left result }
+        ensures told { is_some (state self.new).inputs.left ≡ is_some (state self.old).inputs.left }
+        ensures cause { HasLineCause (state self.old).inputs.faults (state self.new).inputs.faults result }
+        ensures over { IsOver result → reader.new.ended ≡ true }
+        ensures shorter { IsLine result → reader.new.room < reader.old.room }
+        ensures ended { reader.old.ended ≡ true → (result ≡ Ok LineStep.End) × (reader.new ≡ reader.old) × (state self.new ≡ state self.old) }
+        ensures files { (state self.new).inputs.files ≡ (state self.old).inputs.files }
+        ensures failed { (state self.new).inputs.failed ≡ (state self.old).inputs.failed }
         ensures streams { (state self.new).streams ≡ (state self.old).streams }
         ensures kept { (state self.new).references ≡ (state self.old).references };
 
@@ -68,6 +86,10 @@ impl<F: Shelf, S: Source, O: Sink, E: Sink> Outside for Lent<'_, '_, '_, '_, F, 
         at_most: usize,
     ) -> Result<Bytes, ShelfFault> {
         self.shelf.read(alloc, name.as_str(), at_most)
+    }
+
+    fn next_line(&mut self, reader: &mut LineReader) -> Result<LineStep, LineFault> {
+        reader.next_line(self.events)
     }
 
     fn put(&mut self, bytes: &[u8]) -> Result<(), Failed> {

@@ -31,7 +31,7 @@ pub fn read_file<W: Outside>(
 
 /// Writes the diagnostic about a file that can't be read.
 fn tell_unread<W: Outside>(alloc: Global, name: &Text, outside: &mut W) -> Stop
-    ensures told { ToldUnread name.now result (W.state outside.old) (W.state outside.new) }
+    ensures told { ToldUnread (File name.now) result (W.state outside.old) (W.state outside.new) }
     ensures inputs { (W.state outside.new).inputs ≡ (W.state outside.old).inputs }
     ensures kept { (W.state outside.new).references ≡ (W.state outside.old).references }
 {
