@@ -18,6 +18,9 @@ use std::alloc::{AllocError, Global};
 pub trait LineCommand {
     ghost gives: { Self → ByLine };
 
+    /// What the command keeps from line to line, and its answers rest on.
+    ghost keeps: { Self → Type 0 };
+
     /// Answers a line that isn't blank, of this number, and tells whether it is refused. What lines are answered stays as it is.
     fn answer<W: Outside>(
         &mut self,
@@ -26,8 +29,10 @@ pub trait LineCommand {
         line: Bytes,
         outside: &mut W,
     ) -> Result<bool, Stop>
+        requires { keeps self.old }
         ensures writes { Writes (gives self.old number line) result (W.state outside.old) (W.state outside.new) }
-        ensures same { AnswersWithin (gives self.new) (gives self.old) };
+        ensures same { AnswersWithin (gives self.new) (gives self.old) }
+        ensures keeps { keeps self.new };
 
     /// Each line has an answer.
     fn each_line(&self)
@@ -41,6 +46,7 @@ pub fn answer_lines<C: LineCommand, W: Outside>(
     command: &mut C,
     outside: &mut W,
 ) -> Result<bool, Stop>
+    requires { C.keeps command.old }
     ensures { Ends (record { names = []; events = true }) (EventLines (C.gives command.old) limits.now) result (W.state outside.old) (W.state outside.new) }
 {
     command.each_line();
@@ -95,8 +101,10 @@ fn answer_step<C: LineCommand, W: Outside>(
     step: LineStep,
     outside: &mut W,
 ) -> Result<bool, Stop>
+    requires { C.keeps command.old }
     ensures writes { Writes (StepGives (C.gives command.old) step) result (W.state outside.old) (W.state outside.new) }
     ensures same { AnswersWithin (C.gives command.new) (C.gives command.old) }
+    ensures keeps { C.keeps command.new }
 {
     match step {
         LineStep::Line { number, bytes } => answer_line(alloc, command, number, bytes, outside),
@@ -116,8 +124,10 @@ fn answer_line<C: LineCommand, W: Outside>(
     line: Bytes,
     outside: &mut W,
 ) -> Result<bool, Stop>
+    requires { C.keeps command.old }
     ensures writes { Writes (LineGives (C.gives command.old) number line) result (W.state outside.old) (W.state outside.new) }
     ensures same { AnswersWithin (C.gives command.new) (C.gives command.old) }
+    ensures keeps { C.keeps command.new }
 {
     if is_blank_line(line.as_slice()) {
         return Ok(false);

@@ -19,6 +19,8 @@ struct Pick {
 impl LineCommand for Pick {
     ghost gives = { λ p number line share. (share ≡ text_share (ended line)) ⊎ ((share ≡ line_refused number 25) ⊎ (share ≡ no_share)) };
 
+    ghost keeps = { λ p. Unit {0} };
+
     fn answer<W: Outside>(
         &mut self,
         alloc: Global,

@@ -5,6 +5,7 @@ mod faults;
 mod rules;
 mod running;
 mod schemas;
+mod selecting;
 mod words;
 
 use crate::serve::serve;
@@ -21,14 +22,17 @@ pub(super) const FOUR: &str = "title: \"cut\n---\na:\n\tb: 1\n---\na: 1\na: 2\n-
 pub(super) const FOUR_LINES: &str =
     "b.yml:1:1: 4 Syntax\nb.yml:4:1: 8 Tab\nb.yml:7:1: 5 DuplicateKey\nb.yml:9:4: 3 Unsupported\n";
 
-/// The files, which call of the shelf, of the output and of the error output fails (0: none), and how many bytes one
-/// write takes.
+/// The files and the events, which call of the shelf, of the events, of the output and of the error output fails (0: none), and
+/// how many bytes one read and one write take.
 #[derive(Clone, Copy)]
 pub(super) struct World<'a> {
     pub(super) files: &'a [(&'a str, &'a [u8])],
+    pub(super) events: &'a str,
     pub(super) shelf: u64,
+    pub(super) unread: u64,
     pub(super) out: u64,
     pub(super) err: u64,
+    pub(super) read: usize,
     pub(super) piece: usize,
 }
 
@@ -80,7 +84,11 @@ pub(super) fn run_over(
         files_of(alloc, world.files)?,
         ordinals(alloc, world.shelf)?,
     );
-    let mut events = MemorySource::new(Bytes::copy(alloc, b"")?, 1, Vec::new(alloc));
+    let mut events = MemorySource::new(
+        Bytes::copy(alloc, world.events.as_bytes())?,
+        world.read.max(1),
+        ordinals(alloc, world.unread)?,
+    );
     let mut out = sink_of(alloc, world.piece, world.out)?;
     let mut err = sink_of(alloc, world.piece, world.err)?;
     let status = serve(
@@ -103,9 +111,12 @@ pub(super) fn run_over(
 pub(super) fn still<'a>(files: &'a [(&'a str, &'a [u8])]) -> World<'a> {
     World {
         files,
+        events: "",
         shelf: 0,
+        unread: 0,
         out: 0,
         err: 0,
+        read: 4096,
         piece: 4096,
     }
 }

@@ -16,6 +16,7 @@ pub lines-init : goal.lines-init
 lines-init g c = record {
   going = lines_start (g.C.LineCommand.gives c.args.command.now) c.args.limits.now c.in-Ok.reader (g.W.Outside.state c.args.outside.now) c.in-Ok.ensures.ok;
   same = λ number line share is. is;
+  keeps = c.requires;
 }
 
 pub returns-in-Err-Read : goal.returns-in-Err-Read
@@ -97,6 +98,7 @@ lines-preserved g c =
           (writes_as (StepGives (g.C.LineCommand.gives c.lines.command) step) (StepGives gives step) (Ok c.in-Ok-answer_step.found) mid new
           (step_within (g.C.LineCommand.gives c.lines.command) gives c.lines.invariant.same step) c.in-Ok-answer_step.ensures.writes);
       same = λ number line share is. c.lines.invariant.same number line share (c.in-Ok-answer_step.ensures.same number line share is);
+      keeps = c.in-Ok-answer_step.ensures.keeps;
     }
 
 pub returns-in-Err : goal.returns-in-Err

@@ -1,0 +1,228 @@
+//! `run`: the events that a rule matches.
+
+use crate::tests::{FOUR, Ran, check, front, run_over, still};
+use sig_base::Limits;
+use std::alloc::Global;
+use std::test::Fail;
+
+const HEAD: &str =
+    "title: T\nlogsource:\n  category: process_creation\ndetection:\n  selection:\n    ";
+
+const RULE: &str =
+    "title: T\nlogsource:\n  category: process_creation\ndetection:\n  selection:\n    Image: cmd.exe\n  condition: selection\n";
+
+const IMAGE: &str = "{\"fields\":[{\"name\":\"Image\",\"kind\":\"text\"}]}";
+
+const EVENTS: &str =
+    "{\"Image\":\"CMD.EXE\"}\n{\"Image\":\n{\"Image\":9223372036854775808}\n{\"Image\":\"a\\u0000\"}\n{\"Image\":\"x\"}\n";
+
+/// Runs the rule `r.yml` over events.
+fn run_rule(alloc: Global, limits: &Limits, rule: &str, events: &str) -> Result<Ran, Fail> {
+    let files: [(&str, &[u8]); 1] = [("r.yml", rule.as_bytes())];
+    let mut world = still(&files);
+    world.events = events;
+    run_over(alloc, &["run", "r.yml"], limits, world)
+}
+
+/// A value that is empty, no value, and a rule that asks for none; texts without regard to case; no value under `not`.
+#[test]
+fn selects_events(rt: HostRuntime) -> Result<(), Fail> {
+    let cases: [(&str, &str, &str); 5] = [
+        (
+            "Field: ''\n  condition: selection",
+            "{\"Field\":\"\"}\n{\"Field\":null}\n{}\n",
+            "{\"Field\":\"\"}\n",
+        ),
+        (
+            "Field:\n  condition: selection",
+            "{\"Field\":\"\"}\n{\"Field\":null}\n\n{}\n",
+            "{\"Field\":null}\n{}\n",
+        ),
+        (
+            "Image: cmd.exe\n  condition: not selection",
+            "{\"Image\":\"CMD.exe\"}\n{}",
+            "{}\n",
+        ),
+        (
+            "a: 1\n  y:\n    b: 2\n  condition: selection or not y",
+            "{\"b\":\"2\"}\n{\"a\":1,\"b\":2}\n \t\r\n{ }",
+            "{\"a\":1,\"b\":2}\n{ }\n",
+        ),
+        (
+            "a: 1\n  y:\n    b: 2\n  condition: [selection, y]",
+            "{\"b\":2}\n{\"a\":1}\n{\"a\":2,\"b\":1}\n",
+            "{\"b\":2}\n{\"a\":1}\n",
+        ),
+    ];
+    for (lines, events, out) in cases {
+        let rule = format!(in rt.alloc(); "{HEAD}{lines}\n")?;
+        let run = run_rule(rt.alloc(), &Limits::standard(), rule.as_str(), events)?;
+        check(&rt, &run, 0, out, "");
+    }
+    Ok(())
+}
+
+/// Lines that are no event of the schema have their line each, and the others are answered.
+#[test]
+fn refuses_lines(rt: HostRuntime) -> Result<(), Fail> {
+    let mut limits = Limits::standard();
+    check(
+        &rt,
+        &run_rule(rt.alloc(), &limits, RULE, EVENTS)?,
+        1,
+        "{\"Image\":\"CMD.EXE\"}\n",
+        "events:2: 25 EventJson\nevents:3: 27 EventRange\nevents:4: 28 EventNul\n",
+    );
+    limits.events_bytes = 30;
+    check(
+        &rt,
+        &run_rule(rt.alloc(), &limits, RULE, EVENTS)?,
+        1,
+        "{\"Image\":\"CMD.EXE\"}\n",
+        "events:2: 25 EventJson\nevents:3: 31 TooMuch\n",
+    );
+    limits.line_bytes = 8;
+    check(
+        &rt,
+        &run_rule(rt.alloc(), &limits, RULE, "{}\n{\"Image\":1}\n{}\n")?,
+        1,
+        "",
+        "events:2: 30 LineTooLong\n",
+    );
+    Ok(())
+}
+
+/// What no rule is read of ends the run, and no event is read: the first read would fail.
+#[test]
+fn refuses_what_is_not_run(rt: HostRuntime) -> Result<(), Fail> {
+    let cases: [(&str, &str); 7] = [
+        (FOUR, "r.yml:4:1: 84 NotOneRule\n"),
+        ("# none\n", "r.yml:1:1: 84 NotOneRule\n"),
+        ("a: \"b\n", "r.yml:1:4: 4 Syntax\n"),
+        ("a: b\n---\na: b\n", "r.yml:3:1: 84 NotOneRule\n"),
+        (
+            "title: T\ncorrelation:\n  type: event_count\n",
+            "r.yml:1:1: 146 CorrelationHere\n",
+        ),
+        ("title: T\n", "r.yml:1:1: 70 MissingKey\n"),
+        (
+            "title: T\nlogsource:\n  product: p\ndetection:\n  s: [x]\n  condition: s\n",
+            "r.yml:5:7: 83 NoSearchField\n",
+        ),
+    ];
+    for (rule, err) in cases {
+        let files: [(&str, &[u8]); 1] = [("r.yml", rule.as_bytes())];
+        let mut world = still(&files);
+        world.events = EVENTS;
+        world.unread = 1;
+        let run = run_over(rt.alloc(), &["run", "r.yml"], &Limits::standard(), world)?;
+        check(&rt, &run, 1, "", err);
+    }
+    Ok(())
+}
+
+/// The events are read through the schema that is named.
+#[test]
+fn runs_under_a_schema(rt: HostRuntime) -> Result<(), Fail> {
+    let whole = "{\"fields\":[{\"name\":\"Image\",\"kind\":\"text\",\"at\":[\"p\",\"i\"]}]}";
+    let cases: [(&str, &str, u8, &str, &str); 4] = [
+        (
+            IMAGE,
+            "{\"Image\":\"CMD.EXE\"}\n{}\n{\"Image\":\"x\"}\n{\"Image\":\"cmd.exe\"}\n",
+            0,
+            "{\"Image\":\"CMD.EXE\"}\n{\"Image\":\"cmd.exe\"}\n",
+            "",
+        ),
+        (
+            whole,
+            "{\"Image\":\"cmd.exe\"}\n{\"p\":{\"i\":\"cmd.exe\"}}\n",
+            0,
+            "{\"p\":{\"i\":\"cmd.exe\"}}\n",
+            "",
+        ),
+        (
+            "{\"fields\":[{\"name\":\"User\",\"kind\":\"text\"}]}",
+            "{}\n",
+            1,
+            "",
+            "r.yml:6:5: 81 UnknownField\n",
+        ),
+        ("{", "{}\n", 1, "", "s.json:1:1: 20 SchemaJson\n"),
+    ];
+    for (schema, events, code, out, err) in cases {
+        let files: [(&str, &[u8]); 2] = [("s.json", schema.as_bytes()), ("r.yml", RULE.as_bytes())];
+        let mut world = still(&files);
+        world.events = events;
+        let words = ["run", "--schema", "s.json", "r.yml"];
+        let run = run_over(rt.alloc(), &words, &Limits::standard(), world)?;
+        check(&rt, &run, code, out, err);
+    }
+    Ok(())
+}
+
+/// Each read of the events fails in turn, in pieces of 8 bytes: what stands belongs to the lines whose line feed had come.
+#[test]
+fn stands_before_a_read_that_fails(rt: HostRuntime) -> Result<(), Fail> {
+    let files: [(&str, &[u8]); 1] = [("r.yml", RULE.as_bytes())];
+    let events = "{\"Image\":\"CMD.EXE\"}\n7\n{\"Image\":\"cmd.exe\"}";
+    let cases: [(u64, u8, &str, &str); 7] = [
+        (1, 3, "", "sigma: cannot read events\n"),
+        (3, 3, "", "sigma: cannot read events\n"),
+        (
+            4,
+            3,
+            "{\"Image\":\"CMD.EXE\"}\n",
+            "events:2: 25 EventJson\nsigma: cannot read events\n",
+        ),
+        (
+            6,
+            3,
+            "{\"Image\":\"CMD.EXE\"}\n",
+            "events:2: 25 EventJson\nsigma: cannot read events\n",
+        ),
+        (
+            7,
+            3,
+            "{\"Image\":\"CMD.EXE\"}\n",
+            "events:2: 25 EventJson\nsigma: cannot read events\n",
+        ),
+        (
+            8,
+            1,
+            "{\"Image\":\"CMD.EXE\"}\n{\"Image\":\"cmd.exe\"}\n",
+            "events:2: 25 EventJson\n",
+        ),
+        (
+            0,
+            1,
+            "{\"Image\":\"CMD.EXE\"}\n{\"Image\":\"cmd.exe\"}\n",
+            "events:2: 25 EventJson\n",
+        ),
+    ];
+    for (unread, code, out, err) in cases {
+        let mut world = still(&files);
+        world.events = events;
+        world.read = 8;
+        world.unread = unread;
+        let run = run_over(rt.alloc(), &["run", "r.yml"], &Limits::standard(), world)?;
+        check(&rt, &run, code, out, err);
+    }
+    Ok(())
+}
+
+/// A write that fails ends the run: what stands is a front.
+#[test]
+fn stands_before_a_write_that_fails(rt: HostRuntime) -> Result<(), Fail> {
+    let files: [(&str, &[u8]); 1] = [("r.yml", RULE.as_bytes())];
+    let out = "{\"Image\":\"CMD.EXE\"}\n{\"Image\":\"cmd.exe\"}\n";
+    for (call, kept) in [(1, 0), (2, 10), (3, 20), (4, 30)] {
+        let mut world = still(&files);
+        world.events = out;
+        world.piece = 10;
+        world.out = call;
+        let run = run_over(rt.alloc(), &["run", "r.yml"], &Limits::standard(), world)?;
+        assert_eq!(rt; run.out.as_slice(), front(out, kept));
+        assert_eq!(rt; run.status.code(), 4);
+    }
+    Ok(())
+}
