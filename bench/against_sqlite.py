@@ -1,7 +1,7 @@
 #!/usr/bin/env python3
 """Tries converted rules in a real SQLite. Run by hand; it needs Python 3 with its `sqlite3` and a built program.
 
-    python3 bench/against_sqlite.py PROGRAM [--rules N] [--seed S] [--indexes] [--schema]
+    python3 bench/against_sqlite.py PROGRAM [--rules N] [--seed S] [--indexes] [--schema] [--run]
 
 PROGRAM is the built program, as crates/sigma_app/out/sigma_app. It makes N small rules of odd values (wildcards, escapes, quotes,
 signs of LIKE and GLOB, letters beyond ASCII, numbers, null, lists, each modifier, conditions that nest; one in 200 has a list of
@@ -16,6 +16,9 @@ queries it gets wrong there is printed, and isn't counted as a difference.
 
 With --schema the rules are converted under a schema that has a field of whole numbers besides, in an INTEGER column, and fields that
 keywords search: rules then ask it for numbers, for texts that are decimals and for texts that are none, and by patterns, and have keywords.
+
+With --run each rule is also run by the program over 20 events as JSON lines, null values written or left out: it has to write the lines of
+the events that SQLite selects, and to refuse a rule where a selector takes nothing with the line that converting it has.
 """
 import argparse
 import json
@@ -299,6 +302,17 @@ def converted(program, folder, rules):
     return [(None, lines[name]) if name in lines else (next(queries), None) for name in names]
 
 
+def run_lines(program, folder, name, rng, events):
+    """The numbers of the events whose lines the program writes for the rule, and its diagnostics."""
+    lines = [json.dumps({"number": number, **{field: value for field, value in event.items() if value is not None or rng.randrange(2)}})
+             for number, event in enumerate(events)]
+    ran = subprocess.run([program, "run", *schema_words(folder), name], cwd=folder, capture_output=True, input="\n".join(lines).encode())
+    written = ran.stdout.decode().splitlines()
+    if any(line not in lines for line in written):
+        return None, ran.stderr.decode()
+    return {json.loads(line)["number"] for line in written}, ran.stderr.decode()
+
+
 def tables(indexes):
     """Databases with the table: without an index, and if so also with indexes that are good and with ordinary ones."""
     databases = []
@@ -327,16 +341,21 @@ def swapped(rng, detections):
     return {field: rng.choice(numbers + [None]) if field in WHOLE else str(rng.choice(values + [""])).swapcase() for field in FIELDS}
 
 
-def tried(databases, rng, rule, query, line, wrong):
-    """Whether the rule is refused rightly, and whether its query selects what it should; None where it was refused so."""
+def tried(databases, rng, rule, query, line, wrong, run):
+    """Whether the rule is refused rightly, and whether its query selects what it should; None where it was refused so. `run` gives
+    what running the rule over events writes, if it is to be tried."""
     _, detections, condition = rule
     events = [some_event(rng) for _ in range(12)]
-    if databases[1:]:
-        events += [swapped(rng, detections) for _ in range(12)]
+    if databases[1:] or run:
+        events += [swapped(rng, detections) for _ in range(8 if run else 12)]
     try:
         wanted = {number for number, event in enumerate(events) if matches(condition, detections, event)}
     except Nothing:
+        if run and line and run(events) != (set(), line + "\n"):
+            return False
         return None if line and " 64 " in line else False
+    if run and run(events) != (wanted, ""):
+        return False
     if line:
         return False
     found = [selected(database, events, query) for database in databases]
@@ -352,6 +371,7 @@ def main():
     parser.add_argument("--seed", type=int, default=1, help="the seed of what is made (1)")
     parser.add_argument("--indexes", action="store_true", help="run the queries with indexes too")
     parser.add_argument("--schema", action="store_true", help="convert under a schema with whole numbers and keywords")
+    parser.add_argument("--run", action="store_true", help="run each rule over events too")
     told = parser.parse_args()
     if told.schema:
         FIELDS.append("n")
@@ -364,8 +384,10 @@ def main():
         for start in range(0, told.rules, 200):
             rules = [some_rule(rng) for _ in range(min(200, told.rules - start))]
             rules[-1] = some_long_rule(rng)
-            for rule, (query, line) in zip(rules, converted(program, folder, rules)):
-                verdict = tried(databases, rng, rule, query, line, wrong)
+            for number, (rule, (query, line)) in enumerate(zip(rules, converted(program, folder, rules))):
+                def run(events, name=f"{number}.yml"):
+                    return run_lines(program, folder, name, rng, events)
+                verdict = tried(databases, rng, rule, query, line, wrong, run if told.run else None)
                 counts[verdict] += 1
                 if verdict is False:
                     print(f"{rule[0]}{query or line}\n")

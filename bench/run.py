@@ -1,0 +1,126 @@
+#!/usr/bin/env python3
+"""Times `run` beside other ways to the same events, in one run for all. Run by hand; it needs a built program.
+
+    python3 bench/run.py PROGRAM [--events N] [--repeats N]
+
+PROGRAM is the built program, as crates/sigma_app/out/sigma_app. The script makes N events of Windows process creations as JSON lines,
+and a rule that some of them match, and prints for each way the least of some times, in seconds of the clock, the events in a second, and
+the peak of its memory: `sigma run`; Python's `json` with `sqlite3`, which loads the events into a table and runs the rule's own query
+there; `jq`, where it is installed, with the like filter; `grep -i` for one word; `wc -l`. The ways take turns, so that a busy machine
+slows none of them alone. That `sigma run` selects the events that SQLite selects is looked at too. Then the memory of `sigma run`
+is measured at a tenth of the events.
+"""
+import argparse
+import json
+import math
+import os
+import random
+import resource
+import shutil
+import sqlite3
+import subprocess
+import sys
+import tempfile
+import time
+
+RULE = r"""title: Encoded command by PowerShell
+logsource:
+  category: process_creation
+  product: windows
+detection:
+  image:
+    Image|endswith:
+      - '\\\\powershell.exe'
+      - '\\\\pwsh.exe'
+  line:
+    CommandLine|contains: ' -enc '
+  filter:
+    User: SYSTEM
+    ParentImage|endswith: '\\\\services.exe'
+  condition: image and line and not filter
+"""
+FILTER = r"""select((.Image // "" | ascii_downcase | (endswith("\\\\powershell.exe") or endswith("\\\\pwsh.exe")))
+    and (.CommandLine // "" | ascii_downcase | contains(" -enc "))
+    and (((.User // "" | ascii_downcase) == "system" and (.ParentImage // "" | ascii_downcase | endswith("\\\\services.exe"))) | not))"""
+FIELDS = ["Image", "CommandLine", "User", "ParentImage"]
+
+
+def event(rng, number):
+    tool = rng.choice(["cmd", "powershell", "PowerShell", "pwsh", "svchost", "notepad", "chrome", "rundll32"])
+    line = rng.choice(["", " -enc ", " -ENC ", " -q ", " /c "]) + str(rng.randrange(10 ** 9))
+    return {"UtcTime": f"2026-05-{number % 28 + 1:02} 12:{number % 60:02}:07.{number % 1000:03}", "EventID": 1, "ProcessId": rng.randrange(65536),
+            "Image": f"C:\\Windows\\System32\\{tool}.exe", "CommandLine": f"{tool}.exe{line}",
+            "User": rng.choice(["SYSTEM", "alice", "bob"]), "ParentImage": rng.choice(["C:\\Windows\\explorer.exe", "C:\\Windows\\services.exe"])}
+
+
+IN_PYTHON = """
+import json, sqlite3, sys
+fields = {fields!r}
+table = sqlite3.connect(":memory:")
+table.execute("create table events (line text, " + ", ".join(f'"{{field}}" text' for field in fields) + ")")
+def rows():
+    for line in sys.stdin:
+        event = json.loads(line)
+        yield (line, *(event.get(field) for field in fields))
+table.executemany("insert into events values (" + ", ".join("?" * (len(fields) + 1)) + ")", rows())
+for row in table.execute({query!r}):
+    sys.stdout.write(row[0])
+"""
+
+
+def spent(words, path, out):
+    """The seconds of the clock, and the peak of memory in KiB, of a child that reads the file."""
+    with open(path, "rb") as source, open(out, "wb") as sink:
+        start = time.monotonic()
+        child = subprocess.Popen(words, stdin=source, stdout=sink)
+        _, status, usage = os.wait4(child.pid, 0)
+        if status:
+            sys.exit(f"{words[0]} ended with {status}")
+        return time.monotonic() - start, usage.ru_maxrss
+
+
+def main():
+    parser = argparse.ArgumentParser(description=__doc__, formatter_class=argparse.RawDescriptionHelpFormatter)
+    parser.add_argument("program", help="the built program")
+    parser.add_argument("--events", type=int, default=1000000, help="how many events (1,000,000)")
+    parser.add_argument("--repeats", type=int, default=3, help="how many times (3)")
+    told = parser.parse_args()
+    program = os.path.abspath(told.program)
+    with tempfile.TemporaryDirectory() as folder:
+        rule, path, few = (os.path.join(folder, name) for name in ["r.yml", "events", "few"])
+        with open(rule, "w", encoding="utf-8", newline="") as file:
+            file.write(RULE)
+        rng = random.Random(1)
+        with open(path, "w", encoding="utf-8", newline="\\n") as file:
+            for number in range(told.events):
+                file.write(json.dumps(event(rng, number), separators=(",", ":")) + "\\n")
+        with open(path, "rb") as file, open(few, "wb") as front:
+            for _ in range(told.events // 10):
+                front.write(file.readline())
+        query = subprocess.run([program, "convert", "--backend", "sqlite", rule], capture_output=True, check=True).stdout.decode().strip()
+        ways = {"sigma run": [program, "run", rule], "Python's json and sqlite3": [sys.executable, "-c", IN_PYTHON.format(fields=FIELDS, query=query)]}
+        if shutil.which("jq"):
+            ways["jq"] = ["jq", "-c", FILTER]
+        ways["grep -i"] = ["grep", "-i", "powershell"]
+        ways["wc -l"] = ["wc", "-l"]
+        size = os.path.getsize(path)
+        print(f"{told.events} events, {size / told.events:.0f} bytes each")
+        times, peaks, outs = {way: math.inf for way in ways}, {}, {way: os.path.join(folder, f"out{number}") for number, way in enumerate(ways)}
+        for _ in range(told.repeats):
+            for way, words in ways.items():
+                seconds, peaks[way] = spent(words, path, outs[way])
+                times[way] = min(times[way], seconds)
+        for way, seconds in times.items():
+            print(f"  {way}: {seconds:.3f} s, {told.events / seconds / 1e3:.0f} thousand events/s, {size / seconds / 1e6:.0f} MB/s, {peaks[way]} KiB,"
+                  f" {seconds / times['sigma run']:.1f} times sigma run")
+        _, peak = spent(ways["sigma run"], few, os.path.join(folder, "few_out"))
+        print(f"  sigma run over a tenth of them: {peak} KiB")
+        with open(outs["sigma run"], "rb") as file, open(outs["Python's json and sqlite3"], "rb") as other:
+            lines = file.read()
+            same = lines == other.read()
+        print(f"  {lines.count(10)} lines selected, {'the same' if same else 'NOT the same'} as SQLite selects")
+        sys.exit(0 if same else 1)
+
+
+if __name__ == "__main__":
+    main()
