@@ -24,7 +24,8 @@ use Rattle.sig_modifiers.specs.declared.test.Test.{Test}
 use Rattle.rule_lowering.specs.Counts.{values_count, width, item_count, alternative_count, alternatives_count, detection_counts, form_count, forms_count, rule_count}
 use Rattle.rule_lowering.specs.Joining.{plains, listed, parts_of, tree_with, closed, join}
 use Rattle.rule_lowering.specs.Leaves.{leaves, leaves_in}
-use Rattle.rule_lowering.specs.TreeOf.{leaf_test, leaf_if_any, test_tree, value_tree, values_tree, number_of, searched, keyword_tree, number_tree, fields_tree, item_tree, alternative_tree, detection_tree, numbered_tree, form_tree, form_trees, tree_of}
+use Rattle.rule_lowering.specs.TreeOf.{leaf_test, leaf_if_any, test_tree, value_tree, values_tree, keyword_tree, number_tree, fields_tree, item_tree, alternative_tree, detection_tree, numbered_tree, form_tree, form_trees, tree_of}
+use Rattle.field_numbers.specs.Numbers.{number_of, searched}
 
 pub forms_within : (most : ℕ) (counts : List ℕ) (fs : PlainFormulas) → forms_count most counts fs ≤ most
 forms_within most counts no_forms = omega arith

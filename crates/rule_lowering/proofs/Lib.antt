@@ -10,4 +10,3 @@ pub mod Levels
 pub mod Ones
 pub mod LeafCounts
 pub mod RuleLemmas
-pub mod Indexing

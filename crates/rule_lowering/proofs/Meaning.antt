@@ -28,8 +28,10 @@ use Rattle.sig_strings.specs.Edits.{has_wildcard, plain_text}
 use Rattle.sig_strings.specs.Fits.{Fits}
 use Rattle.sig_strings.specs.declared.part.Part.{Part}
 use Rattle.rule_lowering.specs.Joining.{join}
-use Rattle.rule_lowering.specs.TreeOf.{leaf_test, test_tree, value_tree, number_of, searched, keyword_tree, number_tree, fields_tree, item_tree, alternative_tree, detection_tree, numbered_tree, form_tree, form_trees, tree_of}
-use Rattle.rule_lowering.proofs.JoiningLemmas.{iff_same, iff_then, iff_not, iff_both, iff_either, some_filtered, join_holds, join_map}
+use Rattle.rule_lowering.specs.TreeOf.{leaf_test, test_tree, value_tree, keyword_tree, number_tree, fields_tree, item_tree, alternative_tree, detection_tree, numbered_tree, form_tree, form_trees, tree_of}
+use Rattle.field_numbers.specs.Numbers.{number_of, searched}
+use Rattle.rule_matching.proofs.Iffs.{iff_same, iff_then, iff_not, iff_both, iff_either, some_filtered}
+use Rattle.rule_lowering.proofs.JoiningLemmas.{join_holds, join_map}
 use Rattle.rule_lowering.proofs.TestMeaning.{Passes, leaf_holds, test_means}
 
 -- where there is no value behind the last field's

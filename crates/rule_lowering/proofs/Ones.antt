@@ -18,7 +18,8 @@ use Rattle.sig_modifiers.specs.declared.modifier.Joined.{Joined}
 use Rattle.sig_modifiers.specs.declared.modifier.Joined.TheVariants.{All, Any}
 use Rattle.sig_modifiers.specs.declared.test.Test.{Test}
 use Rattle.rule_lowering.specs.Joining.{plains, listed, parts_of, closed, join}
-use Rattle.rule_lowering.specs.TreeOf.{leaf_test, leaf_if_any, test_tree, value_tree, values_tree, number_of, searched, keyword_tree, number_tree, fields_tree, item_tree, alternative_tree, detection_tree}
+use Rattle.rule_lowering.specs.TreeOf.{leaf_test, leaf_if_any, test_tree, value_tree, values_tree, keyword_tree, number_tree, fields_tree, item_tree, alternative_tree, detection_tree}
+use Rattle.field_numbers.specs.Numbers.{number_of, searched}
 
 abbrev AreNotOne : Plains → Type 0
 AreNotOne no_parts = ⊤

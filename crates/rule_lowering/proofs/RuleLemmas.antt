@@ -22,7 +22,8 @@ use Rattle.rule_lowering.specs.Counts.{rule_count}
 use Rattle.rule_lowering.specs.Joining.{join}
 use Rattle.rule_lowering.specs.Leaves.{leaves}
 use Rattle.rule_lowering.specs.Refused.{told, count_refusal}
-use Rattle.rule_lowering.specs.TreeOf.{searched, form_trees, tree_of}
+use Rattle.rule_lowering.specs.TreeOf.{form_trees, tree_of}
+use Rattle.field_numbers.specs.Numbers.{searched}
 use Rattle.rule_lowering.proofs.LeafCounts.{form_trees_are, rule_leaves}
 
 -- ---- refusals

@@ -31,11 +31,13 @@ use Rattle.sig_modifiers.specs.declared.test.Test.TheVariants as tests
 use Rattle.sig_strings.specs.Edits.{has_wildcard, plain_text}
 use Rattle.sig_strings.specs.declared.part.Part.{Part}
 use Rattle.rule_lowering.specs.Joining.{plains, listed, parts_of, tree_with, closed, join}
-use Rattle.rule_lowering.specs.TreeOf.{text_test, whole_test, leaf_test, leaf_if_any, test_tree, value_tree, number_of, searched, keyword_tree, number_tree, fields_tree, item_tree, alternative_tree, detection_tree, numbered_tree, form_tree, form_trees, tree_of}
+use Rattle.rule_lowering.specs.TreeOf.{text_test, whole_test, leaf_test, leaf_if_any, test_tree, value_tree, keyword_tree, number_tree, fields_tree, item_tree, alternative_tree, detection_tree, numbered_tree, form_tree, form_trees, tree_of}
+use Rattle.field_numbers.specs.Numbers.{number_of, searched}
 use Rattle.rule_lowering.specs.WholeNumbers.{is_whole, written_number}
 use Rattle.rule_lowering.proofs.Decimals.{characters, own_text, characters_written, low_decimal, low_plain}
-use Rattle.rule_lowering.proofs.Found.{field_within, searched_within, some_searched, must_holds, each_name, each_passes}
-use Rattle.rule_lowering.proofs.JoiningLemmas.{each_append, over_flat, iff_same}
+use Rattle.field_numbers.proofs.Found.{field_within, searched_within}
+use Rattle.rule_lowering.proofs.Found.{some_searched, must_holds, each_name, each_passes}
+use Rattle.rule_matching.proofs.Iffs.{each_append, over_flat, iff_same}
 use Rattle.rule_lowering.proofs.Written.{whole_holds, written_is}
 
 -- ---- lists

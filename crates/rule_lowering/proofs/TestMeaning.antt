@@ -24,7 +24,7 @@ use Rattle.sig_strings.specs.declared.part.Part.{Part}
 use Rattle.rule_lowering.specs.TreeOf.{text_test, whole_test, leaf_test, leaf_if_any}
 use Rattle.rule_lowering.specs.WholeNumbers.{is_whole, written_number}
 use Rattle.rule_lowering.proofs.Decimals.{is_low, characters, no_wildcard, own_text, low_decimal, low_text}
-use Rattle.rule_lowering.proofs.JoiningLemmas.{iff_same, iff_then, iff_back, iff_either, some_same}
+use Rattle.rule_matching.proofs.Iffs.{iff_same, iff_then, iff_back, iff_either, some_same}
 use Rattle.rule_lowering.proofs.Written.{whole_tests, same_number, written_is, written_gives}
 
 -- ---- lists whose elements are known

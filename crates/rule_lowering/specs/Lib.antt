@@ -1,7 +1,6 @@
 pub mod Counts
 pub mod Joining
 pub mod Leaves
-pub mod Numbered
 pub mod Refused
 pub mod TreeOf
 pub mod WholeNumbers

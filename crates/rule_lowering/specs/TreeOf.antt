@@ -1,16 +1,16 @@
 -- The tree of tests that a rule is under a schema (Sigma specification 2.0, detection and condition). What a test asks goes by
 -- the kind of its field.
-use Rattle.std.specs.Prelude.{ℕ, zero, suc, true, false, if◌then◌else◌, List, [], ◌∷◌, length, map, filter, Option, Some, None, option_map, unwrap_or}
+use Rattle.std.specs.Prelude.{ℕ, zero, suc, true, false, if◌then◌else◌, List, [], ◌∷◌, map, Option, Some, None, option_map}
 use Rattle.std.specs.Fmt.{signed_decimal}
 use Rattle.backend_core.specs.Sound.{kind_at}
 use Rattle.backend_core.specs.Trees.{Plain, any, negated, leaf, never, no_parts}
 use Rattle.backend_core.specs.declared.tree.LeafTest.{LeafTest}
 use Rattle.backend_core.specs.declared.tree.LeafTest.TheVariants as leaf_tests
-use Rattle.event_schema.specs.Rows.{field_number}
 use Rattle.event_schema.specs.declared.schema.Field.{Field}
 use Rattle.event_schema.specs.declared.schema.FieldKind.{FieldKind}
 use Rattle.event_schema.specs.declared.schema.FieldKind.TheVariants as kinds
 use Rattle.event_schema.specs.declared.schema.Schema.{Schema}
+use Rattle.field_numbers.specs.Numbers.{number_of, searched}
 use Rattle.rule_model.specs.Plain.{PlainRule}
 use Rattle.rule_items.specs.declared.detection.Detection.{Detection}
 use Rattle.rule_items.specs.declared.item.Fields.{Fields}
@@ -67,17 +67,9 @@ abbrev pub values_tree : Place → Joined → List (List Test) → FieldKind →
 values_tree place joined values kind field = join joined (map (value_tree place kind field) values)
 
 module _ (fields : List Field) where
-  -- the number of the field of this name; where there is none, the number behind the last field's
-  abbrev pub number_of : List ℕ → ℕ
-  number_of name = unwrap_or (field_number fields name) (length fields)
-
-  -- the fields that keywords search, in their order
-  abbrev pub searched : List ℕ
-  searched = map (λ field. number_of field.name) (filter (λ field. field.search) fields)
-
-  -- a keyword is any of those fields
+  -- a keyword is any of the fields that keywords search
   abbrev pub keyword_tree : Place → List Test → Plain
-  keyword_tree place tests = join Any (map (λ field. value_tree place (kind_at fields field) field tests) searched)
+  keyword_tree place tests = join Any (map (λ field. value_tree place (kind_at fields field) field tests) (searched fields))
 
   -- the values of an item at the field of this number
   abbrev pub number_tree : Place → Joined → List (List Test) → ℕ → Plain
@@ -86,7 +78,7 @@ module _ (fields : List Field) where
   -- an item over names is any of the names
   abbrev pub fields_tree : Place → Joined → List (List Test) → Fields → Plain
   fields_tree place joined values Keyword = join joined (map (keyword_tree place) values)
-  fields_tree place joined values (Names names) = join Any (map (λ name. number_tree place joined values (number_of name)) names)
+  fields_tree place joined values (Names names) = join Any (map (λ name. number_tree place joined values (number_of fields name)) names)
 
   abbrev pub item_tree : Item → Plain
   item_tree i = fields_tree i.place i.joined i.tests i.fields

@@ -3,13 +3,13 @@
 ghost use Rattle.std.specs.Prelude.{◌≡◌, IfOk, IfErr};
 ghost use Rattle.backend_core.specs.View.{tree_view};
 ghost use Rattle.rule_lowering.specs.Joining.{join};
-ghost use Rattle.rule_lowering.specs.Numbered.{AreNumbered};
+ghost use Rattle.field_numbers.specs.Numbered.{AreNumbered};
 ghost use Rattle.rule_lowering.specs.TreeOf as spec;
 ghost use Rattle.sig_conditions.specs.Formulas.{form_view, forms_view, forms_of, numbered};
 
 use crate::joining::{add_part, close_parts};
 use crate::lowering::lower_numbered;
-use crate::numbers::FieldNumbers;
+use field_numbers::FieldNumbers;
 use backend_core::Tree;
 use event_schema::Field;
 use rule_items::Detection;

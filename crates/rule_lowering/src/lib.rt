@@ -5,12 +5,12 @@ pub use law::{tree_is_sound, tree_means_rule};
 pub use rule::lower;
 
 mod counting;
+mod field_kind;
 mod formula;
 mod joining;
 mod law;
 mod leaf_tests;
 mod lowering;
-mod numbers;
 mod rule;
 #[cfg(test)]
 mod tests;

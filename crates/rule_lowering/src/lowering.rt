@@ -5,14 +5,16 @@ ghost use Rattle.std.specs.Prelude.{◌≡◌, map, IfOk, IfErr};
 ghost use Rattle.backend_core.specs.Sound.{kind_at};
 ghost use Rattle.backend_core.specs.View.{tree_view};
 ghost use Rattle.rule_lowering.specs.Joining.{join};
-ghost use Rattle.rule_lowering.specs.Numbered.{AreNumbered};
+ghost use Rattle.field_numbers.specs.Numbered.{AreNumbered};
+ghost use Rattle.field_numbers.specs.Numbers.{number_of};
 ghost use Rattle.rule_lowering.specs.TreeOf as spec;
 ghost use Rattle.rule_items.specs.declared.item.Fields.TheVariants.{Keyword, Names};
 ghost use Rattle.sig_modifiers.specs.declared.modifier.Joined.TheVariants.{Any};
 
 use crate::joining::{add_part, close_parts};
 use crate::leaf_tests::leaf_test;
-use crate::numbers::{FieldNumbers, kind_of};
+use crate::field_kind::kind_of;
+use field_numbers::FieldNumbers;
 use backend_core::{Leaf, LeafTest, Tree};
 use event_schema::{Field, FieldKind};
 use rule_items::{Detection, Fields, Item};
@@ -134,7 +136,7 @@ fn lower_name(
 ) -> Result<Tree, Fault>
     requires { AreNumbered fields.now numbers.now }
     ensures ok { IfOk result (λ t. tree_view t
-        ≡ spec.number_tree fields.now item.now.place item.now.joined item.now.tests (spec.number_of fields.now name.now)) }
+        ≡ spec.number_tree fields.now item.now.place item.now.joined item.now.tests (number_of fields.now name.now)) }
     ensures err { IfErr result (λ e. e ≡ Fault.Memory) }
 {
     let field = numbers.find(fields, name);

@@ -17,7 +17,7 @@ ghost use Rattle.sig_base.specs.Judged.{Judged};
 use crate::counting::count_rule;
 use crate::formula::lower_formulas;
 use crate::law::{tree_is_sound, tree_means_rule};
-use crate::numbers::FieldNumbers;
+use field_numbers::FieldNumbers;
 use backend_core::Tree;
 use event_schema::Schema;
 use rule_model::Rule;

@@ -1,7 +1,8 @@
 use Rattle.std.proofs.Common.{List, ℕ, map}
 use Rattle.backend_core.specs.View.{tree_view}
 use Rattle.sig_modifiers.specs.declared.modifier.Joined.TheVariants.{Any}
-use Rattle.rule_lowering.specs.TreeOf.{number_of, number_tree}
+use Rattle.rule_lowering.specs.TreeOf.{number_tree}
+use Rattle.field_numbers.specs.Numbers.{number_of}
 use Rattle.rule_lowering.proofs.Ones.{level_one, number_closed}
 use Rattle.rule_lowering.proofs.Levels.{level_goes}
 use Rattle.rule_lowering.proofs.lowering.lower_names.Goals as goal

@@ -3,7 +3,8 @@ use Rattle.std.specs.List.{flat_map}
 use Rattle.backend_core.specs.View.{tree_view}
 use Rattle.sig_modifiers.specs.declared.modifier.Joined.TheVariants.{Any}
 use Rattle.rule_lowering.specs.Joining.{parts_of}
-use Rattle.rule_lowering.specs.TreeOf.{number_of, number_tree}
+use Rattle.rule_lowering.specs.TreeOf.{number_tree}
+use Rattle.field_numbers.specs.Numbers.{number_of}
 use Rattle.rule_lowering.proofs.lowering.lower_names.Given as goal
 
 abbrev pub invariant-loop-name : goal.invariant-loop-name

@@ -1,0 +1,4 @@
+mod Decided
+mod Going
+mod Meaning
+mod Truths

@@ -1,0 +1,8 @@
+use Rattle.std.proofs.Common.{◌↔◌, drop}
+use Rattle.detection_eval.specs.Ready.{Satisfies}
+use Rattle.event_schema.specs.Lists.{SomeOf}
+use Rattle.detection_eval.proofs.satisfying.some_satisfied.Given as goal
+
+abbrev pub invariant-loop-tests : goal.invariant-loop-tests
+invariant-loop-tests l =
+    SomeOf (Satisfies l.own) (drop l.tests-index l.values) ↔ SomeOf (Satisfies l.own) l.values

@@ -1,0 +1,9 @@
+use Rattle.std.proofs.Common.{◌↔◌, drop}
+use Rattle.detection_eval.specs.Ready.{Satisfies}
+use Rattle.event_schema.specs.Lists.{SomeOf}
+use Rattle.event_schema.specs.Rows.{field_values}
+use Rattle.detection_eval.proofs.satisfying.some_search_satisfies.Given as goal
+
+abbrev pub invariant-loop-field : goal.invariant-loop-field
+invariant-loop-field l =
+    SomeOf (λ n. Satisfies (field_values l.event.values n) l.tests) (drop l.field-index l.searched) ↔ SomeOf (λ n. Satisfies (field_values l.event.values n) l.tests) l.searched

@@ -1,0 +1,122 @@
+//! Detections whose names become numbers.
+
+ghost use Rattle.std.specs.Prelude.{◌≡◌, map, IfOk, IfErr};
+ghost use Rattle.event_schema.specs.Rows.{field_number};
+ghost use Rattle.field_numbers.specs.Numbered.{AreNumbered};
+ghost use Rattle.detection_eval.specs.Ready as spec;
+
+use crate::numbered::{Asked, FieldPlaces, NumberedAlternative, NumberedDetection, NumberedItem};
+use event_schema::Field;
+use field_numbers::FieldNumbers;
+use rule_items::{Detection, Fields, Item};
+use sig_base::{Fault, Text, TryCopy};
+use std::alloc::Global;
+
+/// The number of each name's field.
+fn number_names(
+    alloc: Global,
+    fields: &[Field],
+    numbers: &FieldNumbers,
+    names: &[Text],
+) -> Result<FieldPlaces, Fault>
+    requires { AreNumbered fields.now numbers.now }
+    ensures ok { IfOk result (λ places. places ≡ map (field_number fields.now) names.now) }
+    ensures err { IfErr result (λ e. e ≡ Fault.Memory) }
+{
+    let mut places = FieldPlaces::with_capacity(alloc, names.len())?;
+    for name in names {
+        places.push(numbers.look_up(fields, name))?;
+    }
+    Ok(places)
+}
+
+fn number_asked(
+    alloc: Global,
+    fields: &[Field],
+    numbers: &FieldNumbers,
+    asked: &Fields,
+) -> Result<Asked, Fault>
+    requires { AreNumbered fields.now numbers.now }
+    ensures ok { IfOk result (λ a. a ≡ spec.asked_of fields.now asked.now) }
+    ensures err { IfErr result (λ e. e ≡ Fault.Memory) }
+{
+    match asked {
+        Fields::Keyword => Ok(Asked::Searched),
+        Fields::Names(names) => {
+            let places = number_names(alloc, fields, numbers, names.as_slice())?;
+            Ok(Asked::Numbers(places))
+        }
+    }
+}
+
+fn number_item(
+    alloc: Global,
+    fields: &[Field],
+    numbers: &FieldNumbers,
+    item: &Item,
+) -> Result<NumberedItem, Fault>
+    requires { AreNumbered fields.now numbers.now }
+    ensures ok { IfOk result (λ i. i ≡ spec.numbered_item fields.now item.now) }
+    ensures err { IfErr result (λ e. e ≡ Fault.Memory) }
+{
+    let asked = number_asked(alloc, fields, numbers, &item.fields)?;
+    let tests = item.tests.try_copy(alloc)?;
+    Ok(NumberedItem {
+        asked,
+        joined: item.joined,
+        tests,
+    })
+}
+
+fn number_alternative(
+    alloc: Global,
+    fields: &[Field],
+    numbers: &FieldNumbers,
+    items: &[Item],
+) -> Result<NumberedAlternative, Fault>
+    requires { AreNumbered fields.now numbers.now }
+    ensures ok { IfOk result (λ all. all ≡ map (spec.numbered_item fields.now) items.now) }
+    ensures err { IfErr result (λ e. e ≡ Fault.Memory) }
+{
+    let mut all = NumberedAlternative::with_capacity(alloc, items.len())?;
+    for item in items {
+        all.push(number_item(alloc, fields, numbers, item)?)?;
+    }
+    Ok(all)
+}
+
+fn number_detection(
+    alloc: Global,
+    fields: &[Field],
+    numbers: &FieldNumbers,
+    detection: &Detection,
+) -> Result<NumberedDetection, Fault>
+    requires { AreNumbered fields.now numbers.now }
+    ensures ok { IfOk result (λ all. all ≡ spec.numbered_detection fields.now detection.now) }
+    ensures err { IfErr result (λ e. e ≡ Fault.Memory) }
+{
+    let alternatives = detection.alternatives.as_slice();
+    let mut all = NumberedDetection::with_capacity(alloc, alternatives.len())?;
+    for items in alternatives {
+        all.push(number_alternative(alloc, fields, numbers, items.as_slice())?)?;
+    }
+    Ok(all)
+}
+
+/// The detections of a rule, with numbers for its names.
+pub fn number_detections(
+    alloc: Global,
+    fields: &[Field],
+    numbers: &FieldNumbers,
+    detections: &[Detection],
+) -> Result<Vec<NumberedDetection>, Fault>
+    requires { AreNumbered fields.now numbers.now }
+    ensures ok { IfOk result (λ all. all.items ≡ map (spec.numbered_detection fields.now) detections.now) }
+    ensures err { IfErr result (λ e. e ≡ Fault.Memory) }
+{
+    let mut all = Vec::with_capacity(alloc, detections.len())?;
+    for detection in detections {
+        all.push(number_detection(alloc, fields, numbers, detection)?)?;
+    }
+    Ok(all)
+}

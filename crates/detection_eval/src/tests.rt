@@ -1,0 +1,338 @@
+//! Small rules over small events, all reckoned by hand.
+
+use crate::Ready;
+use event_schema::{Event, Field, FieldKind, FieldList, FieldValues, Schema, Value};
+use rule_head::{Head, LogSource};
+use rule_items::{Alternative, Alternatives, Detection, Detections, Fields, Item, Values};
+use rule_model::Rule;
+use sig_base::{Limits, Place, Text, Texts};
+use sig_conditions::{DetectionNumbers, Formula};
+use sig_modifiers::{Joined, Test, Tests};
+use sig_strings::Pattern;
+use std::alloc::Global;
+use std::test::Fail;
+
+const PLACE: Place = Place { line: 1, column: 1 };
+
+fn field(alloc: Global, name: &str, kind: FieldKind, search: bool) -> Result<Field, Fail> {
+    Ok(Field {
+        name: Text::copy(alloc, name)?,
+        kind,
+        at: Texts::new(alloc),
+        search,
+        cased: false,
+        many: true,
+    })
+}
+
+/// The texts `u`, `p` and `h`, of which keywords search the first two, and the number `n` as the third field.
+fn schema(alloc: Global) -> Result<Schema, Fail> {
+    let mut fields = FieldList::new(alloc);
+    fields.push(field(alloc, "u", FieldKind::Text, true)?)?;
+    fields.push(field(alloc, "p", FieldKind::Text, true)?)?;
+    fields.push(field(alloc, "n", FieldKind::Whole, false)?)?;
+    fields.push(field(alloc, "h", FieldKind::Text, false)?)?;
+    Ok(Schema {
+        table: Text::copy(alloc, "events")?,
+        fields,
+        time: None,
+    })
+}
+
+fn value(alloc: Global, text: &str) -> Result<Value, Fail> {
+    match text.parse::<i64>() {
+        Ok(number) => Ok(Value::Whole(number)),
+        Err(_) => Ok(Value::Text(Text::copy(alloc, text)?)),
+    }
+}
+
+/// The values of a field, with commas between them.
+fn field_values(alloc: Global, text: &str) -> Result<FieldValues, Fail> {
+    let mut values = Vec::new(alloc);
+    if !text.is_empty() {
+        for word in text.split(',') {
+            values.push(value(alloc, word)?)?;
+        }
+    }
+    Ok(FieldValues::from_vec(values))
+}
+
+/// The values of each field, with a stroke between fields.
+fn event(alloc: Global, text: &str) -> Result<Event, Fail> {
+    let mut row = Vec::new(alloc);
+    for word in text.split('|') {
+        row.push(field_values(alloc, word)?)?;
+    }
+    Ok(Event::new(row, None))
+}
+
+/// For each of these events, with spaces between them, whether the rule matches.
+fn shown(alloc: Global, rule: &Rule, events: &str) -> Result<String, Fail> {
+    let mut ready = Ready::make(alloc, &schema(alloc)?, rule)?;
+    let mut shown = String::new(alloc);
+    for word in events.split(' ') {
+        let is_match = ready.matches(&event(alloc, word)?)?;
+        shown.push_str(if is_match { "1" } else { "0" })?;
+    }
+    Ok(shown)
+}
+
+fn test(alloc: Global, text: &str) -> Result<Test, Fail> {
+    match text {
+        "null" => Ok(Test::Absent),
+        "some" => Ok(Test::Exists(true)),
+        "none" => Ok(Test::Exists(false)),
+        "#7" => Ok(Test::Equals(7)),
+        _ => {
+            let pattern = Pattern::read(alloc, &Limits::standard(), text, false, PLACE)?;
+            Ok(Test::Fits {
+                pattern,
+                cased: false,
+            })
+        }
+    }
+}
+
+fn one_test(alloc: Global, text: &str) -> Result<Tests, Fail> {
+    let mut tests = Tests::new(alloc);
+    tests.push(test(alloc, text)?)?;
+    Ok(tests)
+}
+
+fn names(alloc: Global, text: &str) -> Result<Fields, Fail> {
+    if text.is_empty() {
+        return Ok(Fields::Keyword);
+    }
+    let mut names = Texts::new(alloc);
+    for name in text.split(',') {
+        names.push(Text::copy(alloc, name)?)?;
+    }
+    Ok(Fields::Names(names))
+}
+
+/// An item of these names and values, with commas between them; one without names is a keyword.
+fn item(alloc: Global, joined: Joined, fields: &str, values: &str) -> Result<Item, Fail> {
+    let mut tests = Values::new(alloc);
+    for text in values.split(',') {
+        tests.push(one_test(alloc, text)?)?;
+    }
+    Ok(Item {
+        fields: names(alloc, fields)?,
+        tests,
+        joined,
+        place: PLACE,
+    })
+}
+
+fn detection(alloc: Global, alternatives: Alternatives) -> Result<Detection, Fail> {
+    Ok(Detection {
+        name: Text::copy(alloc, "d")?,
+        alternatives,
+        place: PLACE,
+    })
+}
+
+/// A detection of one item.
+fn one_item(alloc: Global, item: Item) -> Result<Detection, Fail> {
+    let mut items = Alternative::new(alloc);
+    items.push(item)?;
+    let mut alternatives = Alternatives::new(alloc);
+    alternatives.push(items)?;
+    detection(alloc, alternatives)
+}
+
+fn rule(alloc: Global, detections: Detections, conditions: Vec<Formula>) -> Result<Rule, Fail> {
+    Ok(Rule {
+        head: Head {
+            title: Text::copy(alloc, "T")?,
+            id: None,
+            name: None,
+            place: PLACE,
+            rest: Vec::new(alloc),
+        },
+        source: LogSource {
+            category: Some(Text::copy(alloc, "c")?),
+            product: None,
+            service: None,
+        },
+        detections,
+        conditions,
+    })
+}
+
+/// Whether the events match a rule of one detection.
+fn shown_detection(alloc: Global, detection: Detection, events: &str) -> Result<String, Fail> {
+    let mut detections = Detections::new(alloc);
+    detections.push(detection)?;
+    let mut conditions = Vec::new(alloc);
+    conditions.push(Formula::Detection(0))?;
+    let rule = rule(alloc, detections, conditions)?;
+    shown(alloc, &rule, events)
+}
+
+/// Whether the events match a rule of one item.
+fn shown_item(
+    alloc: Global,
+    joined: Joined,
+    fields: &str,
+    values: &str,
+    events: &str,
+) -> Result<String, Fail> {
+    let item = item(alloc, joined, fields, values)?;
+    shown_detection(alloc, one_item(alloc, item)?, events)
+}
+
+#[test]
+fn keywords(rt: HostRuntime) -> Result<(), Fail> {
+    let alloc = rt.alloc();
+    let any = shown_item(alloc, Joined::Any, "", "*x*", "x||| |x|| |||x a,bx||| |||")?;
+    assert_eq!(rt; any.as_str(), "11010");
+    let all = shown_item(alloc, Joined::All, "", "*x*,*y*", "x|y|| x||| xy||| x|||y")?;
+    assert_eq!(rt; all.as_str(), "1010");
+    Ok(())
+}
+
+#[test]
+fn values_of_fields(rt: HostRuntime) -> Result<(), Fail> {
+    let alloc = rt.alloc();
+    let any = shown_item(
+        alloc,
+        Joined::Any,
+        "u",
+        "x,y*",
+        "x||| |x|| a,yes||| a||| |||",
+    )?;
+    assert_eq!(rt; any.as_str(), "10100");
+    let all = shown_item(
+        alloc,
+        Joined::All,
+        "u",
+        "*x*,*y*",
+        "x,y||| x|y|| xy||| x|||",
+    )?;
+    assert_eq!(rt; all.as_str(), "1010");
+    let null = shown_item(alloc, Joined::Any, "u", "null", "||| x||| |x||")?;
+    assert_eq!(rt; null.as_str(), "101");
+    Ok(())
+}
+
+#[test]
+fn several_names(rt: HostRuntime) -> Result<(), Fail> {
+    let alloc = rt.alloc();
+    let any = shown_item(alloc, Joined::Any, "h,u", "x", "x||| |||x |x|| |||")?;
+    assert_eq!(rt; any.as_str(), "1100");
+    let all = shown_item(alloc, Joined::All, "h,u", "*x*,*y*", "x|||y |||xy xy|||")?;
+    assert_eq!(rt; all.as_str(), "011");
+    Ok(())
+}
+
+#[test]
+fn numbers(rt: HostRuntime) -> Result<(), Fail> {
+    let alloc = rt.alloc();
+    let equal = shown_item(alloc, Joined::Any, "n", "#7", "||7| ||70| ||8,7| 7||| |||")?;
+    assert_eq!(rt; equal.as_str(), "10100");
+    let begin = shown_item(alloc, Joined::Any, "n", "7*", "||7| ||70| ||8| |||")?;
+    assert_eq!(rt; begin.as_str(), "1100");
+    Ok(())
+}
+
+#[test]
+fn names_that_the_schema_lacks(rt: HostRuntime) -> Result<(), Fail> {
+    let alloc = rt.alloc();
+    let null = shown_item(alloc, Joined::Any, "z", "null", "x|x|7|x ||| x|x|7|x|x")?;
+    assert_eq!(rt; null.as_str(), "111");
+    let some = shown_item(alloc, Joined::Any, "z", "some", "x|x|7|x ||| x|x|7|x|x")?;
+    assert_eq!(rt; some.as_str(), "000");
+    Ok(())
+}
+
+#[test]
+fn alternatives(rt: HostRuntime) -> Result<(), Fail> {
+    let alloc = rt.alloc();
+    let mut both = Alternative::new(alloc);
+    both.push(item(alloc, Joined::Any, "u", "a")?)?;
+    both.push(item(alloc, Joined::Any, "p", "b")?)?;
+    let mut other = Alternative::new(alloc);
+    other.push(item(alloc, Joined::Any, "h", "c")?)?;
+    let mut alternatives = Alternatives::new(alloc);
+    alternatives.push(both)?;
+    alternatives.push(other)?;
+    let detection = detection(alloc, alternatives)?;
+    let shown = shown_detection(alloc, detection, "a||| |b|| |||c a|b|| a|b||c |||")?;
+    assert_eq!(rt; shown.as_str(), "001110");
+    Ok(())
+}
+
+/// The detections that `u` is `a`, that `p` is `b`, and that `h` is `c`.
+fn detections(alloc: Global) -> Result<Detections, Fail> {
+    let mut all = Detections::new(alloc);
+    all.push(one_item(alloc, item(alloc, Joined::Any, "u", "a")?)?)?;
+    all.push(one_item(alloc, item(alloc, Joined::Any, "p", "b")?)?)?;
+    all.push(one_item(alloc, item(alloc, Joined::Any, "h", "c")?)?)?;
+    Ok(all)
+}
+
+fn numbers_of(alloc: Global, two: [u32; 2]) -> Result<DetectionNumbers, Fail> {
+    let mut numbers = Vec::new(alloc);
+    numbers.push(two[0])?;
+    numbers.push(two[1])?;
+    Ok(DetectionNumbers::from_vec(numbers))
+}
+
+/// Whether the events `a`, `b`, `c`, `ab`, `abc` and one of no values match.
+fn shown_conditions(alloc: Global, conditions: Vec<Formula>) -> Result<String, Fail> {
+    let rule = rule(alloc, detections(alloc)?, conditions)?;
+    shown(alloc, &rule, "a||| |b|| |||c a|b|| a|b||c |||")
+}
+
+fn shown_formula(alloc: Global, formula: Formula) -> Result<String, Fail> {
+    let mut conditions = Vec::new(alloc);
+    conditions.push(formula)?;
+    shown_conditions(alloc, conditions)
+}
+
+#[test]
+fn selectors(rt: HostRuntime) -> Result<(), Fail> {
+    let alloc = rt.alloc();
+    let one = shown_formula(alloc, Formula::OneOf(numbers_of(alloc, [0, 2])?))?;
+    assert_eq!(rt; one.as_str(), "101110");
+    let all = shown_formula(alloc, Formula::AllOf(numbers_of(alloc, [0, 1])?))?;
+    assert_eq!(rt; all.as_str(), "000110");
+    Ok(())
+}
+
+#[test]
+fn negations(rt: HostRuntime) -> Result<(), Fail> {
+    let alloc = rt.alloc();
+    let not = shown_formula(alloc, Formula::Not(Box::new(alloc, Formula::Detection(0))?))?;
+    assert_eq!(rt; not.as_str(), "011001");
+    let mut parts = Vec::new(alloc);
+    parts.push(Formula::Detection(0))?;
+    parts.push(Formula::Not(Box::new(alloc, Formula::Detection(1))?))?;
+    assert_eq!(rt;
+        shown_formula(alloc, Formula::And(parts))?.as_str(),
+        "100000"
+    );
+    Ok(())
+}
+
+#[test]
+fn several_formulas(rt: HostRuntime) -> Result<(), Fail> {
+    let alloc = rt.alloc();
+    let mut parts = Vec::new(alloc);
+    parts.push(Formula::Detection(1))?;
+    parts.push(Formula::AllOf(numbers_of(alloc, [0, 2])?))?;
+    assert_eq!(rt;
+        shown_formula(alloc, Formula::Or(parts))?.as_str(),
+        "010110"
+    );
+    let mut conditions = Vec::new(alloc);
+    conditions.push(Formula::AllOf(numbers_of(alloc, [0, 1])?))?;
+    conditions.push(Formula::Detection(2))?;
+    assert_eq!(rt; shown_conditions(alloc, conditions)?.as_str(), "001110");
+    assert_eq!(rt;
+        shown_formula(alloc, Formula::Detection(9))?.as_str(),
+        "000000"
+    );
+    Ok(())
+}

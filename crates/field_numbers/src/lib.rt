@@ -1,0 +1,8 @@
+//! The numbers of a schema's fields by their names.
+#![tactic(auto)]
+
+pub use numbers::FieldNumbers;
+
+mod numbers;
+#[cfg(test)]
+mod tests;
