@@ -30,18 +30,18 @@ logsource:
 detection:
   image:
     Image|endswith:
-      - '\\\\powershell.exe'
-      - '\\\\pwsh.exe'
+      - '\powershell.exe'
+      - '\pwsh.exe'
   line:
     CommandLine|contains: ' -enc '
   filter:
     User: SYSTEM
-    ParentImage|endswith: '\\\\services.exe'
+    ParentImage|endswith: '\services.exe'
   condition: image and line and not filter
 """
-FILTER = r"""select((.Image // "" | ascii_downcase | (endswith("\\\\powershell.exe") or endswith("\\\\pwsh.exe")))
+FILTER = r"""select((.Image // "" | ascii_downcase | (endswith("\\powershell.exe") or endswith("\\pwsh.exe")))
     and (.CommandLine // "" | ascii_downcase | contains(" -enc "))
-    and (((.User // "" | ascii_downcase) == "system" and (.ParentImage // "" | ascii_downcase | endswith("\\\\services.exe"))) | not))"""
+    and (((.User // "" | ascii_downcase) == "system" and (.ParentImage // "" | ascii_downcase | endswith("\\services.exe"))) | not))"""
 FIELDS = ["Image", "CommandLine", "User", "ParentImage"]
 
 
