@@ -1,6 +1,6 @@
 //! The rule that a file is run as.
 
-ghost use Rattle.std.specs.Prelude.{◌≡◌, ◌×◌, None, Some};
+ghost use Rattle.std.specs.Prelude.{◌≡◌, None, Some};
 ghost use Rattle.rule_model.specs.Plain.{rule_view};
 ghost use Rattle.rule_runs.specs.Answers.{Answers, IsBare};
 ghost use Rattle.rule_runs.specs.Runs.{IsRun, IsNotRun};

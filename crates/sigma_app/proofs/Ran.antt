@@ -3,17 +3,16 @@ use Rattle.std.proofs.Common.{◌≡◌, ℕ, suc, ◌+◌, ◌<◌, Bool, true,
 use Rattle.std.specs.Prelude.{◌⊎◌, MatchOption, unwrap_or, Contains}
 use Rattle.answer_parts.proofs.Behind.{ends_behind}
 use Rattle.answer_parts.proofs.Ending.{ends_written}
-use Rattle.answer_parts.proofs.Rows.{each_parts, parts_one}
+use Rattle.answer_parts.proofs.Lined.{each_answer, lines_one}
 use Rattle.answer_parts.proofs.Shares.{cut_nothing}
 use Rattle.answer_parts.proofs.Unread.{Begins, ends_unread}
-use Rattle.answer_parts.specs.EventLines.{ByLine, EachLine, EventLines, StepPart, StepGives, UnlessBlank, is_blank, line_refused}
+use Rattle.answer_parts.specs.EventLines.{ByLine, EventLines}
 use Rattle.answer_parts.specs.Input.{Input, World, Needs, File, Events, IsTold}
 use Rattle.answer_parts.specs.Parts.{Share, Part, share_of, no_share}
 use Rattle.answer_parts.specs.Stands.{Writes, Ends, StopsBefore}
 use Rattle.answer_parts.specs.State.{State}
 use Rattle.answer_parts.specs.declared.stop.Stop.{Stop}
 use Rattle.answer_parts.specs.declared.stop.Stop.TheVariants.{Memory}
-use Rattle.event_lines.specs.Lines.{lines_of}
 use Rattle.event_schema.specs.declared.schema.Schema.{Schema}
 use Rattle.rule_model.specs.Plain.{PlainRule}
 use Rattle.rule_runs.proofs.Fronts.{run_front, not_run_front}
@@ -21,8 +20,6 @@ use Rattle.rule_runs.specs.Laws as files
 use Rattle.rule_runs.specs.Runs.{IsRun, IsNotRun}
 use Rattle.rule_schema.specs.Inferred.{schema_for}
 use Rattle.sig_base.specs.Files.{file_at, IsFront}
-use Rattle.sig_base.specs.declared.faults.LineStep.{LineStep}
-use Rattle.sig_base.specs.declared.faults.LineStep.TheVariants.{Line, TooLong, TooMuch, End}
 use Rattle.sig_base.specs.declared.limits.Limits.{Limits}
 use Rattle.sig_base.specs.declared.refusal.Refusal.{Refusal}
 use Rattle.sigma_app.specs.Laws.{EachRan, EachSelected, EachUnder, OneUnder}
@@ -31,46 +28,9 @@ use Rattle.sigma_app.specs.Reports.{refusal_share}
 use Rattle.sigma_app.specs.RuleFiles.{contents}
 use Rattle.sigma_app.specs.UnderSchema.{file_part}
 
--- ---- the lines of events, answered by line
-
-each_step : (by : ByLine) → EachLine by → (step : LineStep) (world : World) → (part : Part) × StepPart by step world part
-each_step by each step world = let one = given step in (record { input = Some Events; share = one.0 }, record { input = refl; share = one.1 })
-  where
-    unless : (blank : Bool) (number : ℕ) (line : List ℕ) → (share : Share) × UnlessBlank blank (by number line) share
-    unless true number line = (no_share, refl)
-    unless false number line = each number line
-
-    given : (s : LineStep) → (share : Share) × StepGives by s share
-    given (Line number line) = unless (is_blank line) number line
-    given (TooLong number) = (line_refused number 30, refl)
-    given (TooMuch number) = (line_refused number 31, refl)
-    given End = (no_share, refl)
-
-each_lines : (by : ByLine) → EachLine by → (limits : Limits) (world : World) → (parts : List Part) × EventLines by limits world parts
-each_lines by each limits world = each_parts (StepPart by) (each_step by each) (lines_of limits world.events) world
-
 -- each line is answered in one way
 abbrev pub OneLine : ByLine → Type 0
 OneLine by = (number : ℕ) (line : List ℕ) (a b : Share) → by number line a → by number line b → a ≡ b
-
-one_step : (by : ByLine) → OneLine by → (step : LineStep) (world : World) (p q : Part) → StepPart by step world p → StepPart by step world q → p ≡ q
-one_step by one step world p q first second = same_part (first.input ∙ sym second.input) (same step first.share second.share)
-  where
-    unless : (blank : Bool) (number : ℕ) (line : List ℕ) → UnlessBlank blank (by number line) p.share → UnlessBlank blank (by number line) q.share → p.share ≡ q.share
-    unless true number line a b = a ∙ sym b
-    unless false number line a b = one number line p.share q.share a b
-
-    same : (s : LineStep) → StepGives by s p.share → StepGives by s q.share → p.share ≡ q.share
-    same (Line number line) a b = unless (is_blank line) number line a b
-    same (TooLong number) a b = a ∙ sym b
-    same (TooMuch number) a b = a ∙ sym b
-    same End a b = a ∙ sym b
-
-    same_part : p.input ≡ q.input → p.share ≡ q.share → p ≡ q
-    same_part input share = ap (λ (i : Option Input). record { input = i; share = p.share }) input ∙ ap (λ (s : Share). record { input = q.input; share = s }) share
-
-one_lines : (by : ByLine) → OneLine by → (limits : Limits) (world : World) (a b : List Part) → EventLines by limits world a → EventLines by limits world b → a ≡ b
-one_lines by one limits world a b first second = parts_one (StepPart by) (one_step by one) (lines_of limits world.events) world a b first second
 
 -- ---- exactly one answer
 
@@ -80,7 +40,7 @@ each_ran each lines limits file given world = by (each limits given (contents wo
     by : ((rule : PlainRule) × IsRun limits given (contents world.files file) rule) ⊎ ((r : Refusal) × IsNotRun limits given (contents world.files file) r)
         → (parts : List Part) × RanUnder limits file given world parts
     by (inl (rule, run)) =
-        let all = each_lines (RunGives (schema_for given rule) rule) (lines (schema_for given rule) rule) limits world in
+        let all = each_answer (RunGives (schema_for given rule) rule) limits (lines (schema_for given rule) rule) world in
         (file_part file no_share ∷ all.0, runs rule run all.0 all.1 refl)
     by (inr (r, is)) = (file_part file (refusal_share file r) ∷ [], isnt_run r is refl)
 
@@ -88,7 +48,7 @@ pub one_ran : files.NeverBoth → files.OneRun → files.OneCause → ((schema :
     → OneUnder (RanUnder limits file)
 one_ran never one cause line limits file given world a b (runs rule run lines each same) (runs other other_run other_lines other_each same_too) =
     let is : other ≡ rule = one limits given (contents world.files file) other rule other_run run in
-    let lines_same : lines ≡ other_lines = one_lines (RunGives (schema_for given rule) rule) (line (schema_for given rule) rule) limits world lines other_lines each
+    let lines_same : lines ≡ other_lines = lines_one (RunGives (schema_for given rule) rule) limits (line (schema_for given rule) rule) world lines other_lines each
     (subst (λ (r : PlainRule). EventLines (RunGives (schema_for given r) r) limits world other_lines) is other_each) in
     same ∙ (ap (λ (l : List Part). file_part file no_share ∷ l) lines_same ∙ sym same_too)
 one_ran never one cause line limits file given world a b (runs rule run lines each same) (isnt_run r is same_too) = absurd (never limits given (contents world.files file) rule r run is)
