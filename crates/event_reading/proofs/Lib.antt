@@ -1,5 +1,4 @@
 pub mod EachLemmas
-pub mod Epochs
 pub mod Jsons
 pub mod MomentLemmas
 pub mod Nuls
@@ -11,5 +10,4 @@ pub mod RowLemmas
 pub mod SchemaLemmas
 pub mod SchemaNames
 pub mod SchemaShapes
-pub mod Sums
 pub mod Takings

@@ -3,7 +3,6 @@ pub mod EventOf
 pub mod Json
 pub mod Keys
 pub mod Moments
-pub mod Nearness
 pub mod Paths
 pub mod Quads
 pub mod SchemaOf

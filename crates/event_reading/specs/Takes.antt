@@ -6,6 +6,7 @@ use Rattle.std.specs.Str.{chars}
 use Rattle.std.specs.Str.Parse.{signed_digits_value}
 use Rattle.serde_json.specs.Data.{Num, unsigned, negative, float, Data, null, boolean, number, string, array, object, Items, no_items, item}
 use Rattle.event_reading.specs.Quads.{is_address}
+pub use Rattle.event_moments.specs.Wholes.{is_whole}
 use Rattle.event_schema.specs.Addresses.{is_digit}
 use Rattle.event_schema.specs.declared.schema.FieldKind.{FieldKind}
 use Rattle.event_schema.specs.declared.schema.FieldKind.TheVariants as kinds
@@ -19,11 +20,6 @@ Taking = Result (Option Value) ℕ
 -- a list of values, or the code for which nothing is taken
 abbrev pub Takings : Type 0
 Takings = Result (List Value) ℕ
-
--- a whole number from -(2^63 - 1) to 2^63 - 1
-abbrev pub is_whole : ℤ → Bool
-is_whole (pos n) = nat_lt n (2 ^ 63)
-is_whole (negsuc n) = nat_lt n (2 ^ 63 - 1)
 
 -- a digit 1 to 9 and any digits
 abbrev pub is_positive : List ℕ → Bool

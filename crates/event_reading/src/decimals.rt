@@ -1,15 +1,9 @@
 //! Texts that are canonical decimals.
 
 ghost use Rattle.std.specs.Prelude.{◌≡◌};
-ghost use Rattle.std.specs.List.{list_all};
-ghost use Rattle.event_schema.specs.Addresses as addresses;
 ghost use Rattle.event_reading.specs.Takes as spec;
 
-pub(super) fn are_digits(bytes: &[u8]) -> bool
-    ensures { result ≡ list_all addresses.is_digit bytes.now }
-{
-    bytes.iter().all(|byte| 48 <= *byte && *byte <= 57)
-}
+use event_moments::are_digits;
 
 /// Whether the bytes are a digit 1 to 9 and any digits.
 fn is_positive(bytes: &[u8]) -> bool

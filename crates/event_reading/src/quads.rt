@@ -1,15 +1,10 @@
 //! Texts that a field of addresses takes.
 
-ghost use Rattle.std.specs.Prelude.{◌≡◌, ◌≤◌, length, true};
-ghost use Rattle.std.specs.List.{prefix_len, before_first, after_first, position};
-ghost use Rattle.event_schema.specs.Addresses as addresses;
+ghost use Rattle.std.specs.Prelude.{◌≡◌, true};
+ghost use Rattle.std.specs.List.{before_first, after_first, position};
 ghost use Rattle.event_reading.specs.Quads as spec;
 
-pub(super) fn is_digit(byte: u8) -> bool
-    ensures { result ≡ addresses.is_digit byte }
-{
-    48 <= byte && byte <= 57
-}
+use event_moments::{digits, is_digit};
 
 fn is_within(low: u8, high: u8, byte: u8) -> bool
     ensures { result ≡ spec.is_within low high byte }
@@ -59,15 +54,6 @@ fn is_quad(bytes: &[u8]) -> bool
     let (second, behind_second) = around_dot(behind_first);
     let (third, fourth) = around_dot(behind_second);
     is_octet(first) && is_octet(second) && is_octet(third) && is_octet(fourth)
-}
-
-/// How many digits stand at the front.
-#[tactic(auto, using(crate::proofs::Sums::digits_within))]
-pub(super) fn digits(bytes: &[u8]) -> usize
-    ensures count { result ≡ prefix_len addresses.is_digit bytes.now }
-    ensures within { result ≤ length bytes.now }
-{
-    bytes.iter().take_while(|byte| is_digit(**byte)).count()
 }
 
 fn begins_as_quad(bytes: &[u8]) -> bool

@@ -15,16 +15,11 @@ ghost use Rattle.serde_json.specs.View.{view, items_view, number_view};
 
 use crate::decimals::is_decimal;
 use crate::quads::is_address;
+use event_moments::is_whole;
 use event_schema::{Field, FieldKind, FieldValues, Value as FieldValue, decimal};
 use serde_json::{Number, Value};
 use sig_base::{Code, Fault, Place, Text, refused};
 use std::alloc::Global;
-
-pub(super) fn is_whole(number: i64) -> bool
-    ensures { result ≡ spec.is_whole number }
-{
-    number != i64::MIN
-}
 
 /// What a field of texts takes of a text.
 fn as_text(alloc: Global, text: &str, place: Place) -> Result<Option<FieldValue>, Fault>

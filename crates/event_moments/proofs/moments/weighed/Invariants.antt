@@ -1,6 +1,6 @@
 use Rattle.std.proofs.Common.{◌≡◌, ◌≤◌, ◌+◌, ◌*◌, drop}
-use Rattle.event_reading.specs.Moments as spec
-use Rattle.event_reading.proofs.moments.weighed.Given as goal
+use Rattle.event_moments.specs.Moments as spec
+use Rattle.event_moments.proofs.moments.weighed.Given as goal
 
 abbrev pub invariant-loop-digit : goal.invariant-loop-digit
 invariant-loop-digit l =

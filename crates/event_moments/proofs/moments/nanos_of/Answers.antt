@@ -1,9 +1,9 @@
 use Rattle.std.proofs.Common.{◌∙◌, sym, ap, subst, arith, FitsSigned, to_z-of_z, ℤ, pos, ◌*ℤ◌}
 use Rattle.std.specs.Int.{w128}
 use Rattle.jiff.proofs.SpanFacts.{signed_arith}
-use Rattle.event_reading.proofs.Epochs.{from_epoch}
-use Rattle.event_reading.specs.Nearness.{IsNear}
-use Rattle.event_reading.proofs.moments.nanos_of.Goals as goal
+use Rattle.event_moments.proofs.Epochs.{from_epoch}
+use Rattle.event_moments.specs.Nearness.{IsNear}
+use Rattle.event_moments.proofs.moments.nanos_of.Goals as goal
 
 pub returns-clause-value : goal.returns-clause-value
 returns-clause-value c =

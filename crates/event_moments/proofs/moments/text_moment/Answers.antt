@@ -1,9 +1,9 @@
 use Rattle.std.proofs.Common.{◌∙◌, ap, arith, ℤ, FitsSigned, to_z-of_z, Some}
 use Rattle.std.specs.Int.{w128}
 use Rattle.jiff.proofs.SpanFacts.{signed_arith}
-use Rattle.event_reading.proofs.MomentLemmas.{text_is}
-use Rattle.event_reading.specs.Moments as spec
-use Rattle.event_reading.proofs.moments.text_moment.Goals as goal
+use Rattle.event_moments.proofs.MomentLemmas.{text_is}
+use Rattle.event_moments.specs.Moments as spec
+use Rattle.event_moments.proofs.moments.text_moment.Goals as goal
 
 pub returns-clause-value : goal.returns-clause-value
 returns-clause-value c =

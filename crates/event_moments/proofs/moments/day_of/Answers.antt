@@ -1,6 +1,6 @@
 use Rattle.std.proofs.Common.{◌∙◌, sym}
-use Rattle.event_reading.proofs.MomentLemmas.{day_is}
-use Rattle.event_reading.proofs.moments.day_of.Goals as goal
+use Rattle.event_moments.proofs.MomentLemmas.{day_is}
+use Rattle.event_moments.proofs.moments.day_of.Goals as goal
 
 pub returns-clause-value : goal.returns-clause-value
 returns-clause-value c =

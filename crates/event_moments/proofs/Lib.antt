@@ -1,0 +1,3 @@
+pub mod Epochs
+pub mod MomentLemmas
+pub mod Sums

@@ -1,0 +1,10 @@
+//! Moments in JSON values: texts by the calendar, and seconds or milliseconds since 1970, as nanoseconds.
+#![tactic(auto)]
+
+pub use moments::moment_in;
+pub use numerals::{are_digits, digits, is_digit, is_whole};
+
+mod moments;
+mod numerals;
+#[cfg(test)]
+mod tests;
