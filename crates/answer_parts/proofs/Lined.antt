@@ -553,8 +553,8 @@ module _ (gives : ByLine) (limits : Limits) where
           )
       stand Memory world done parts behind rest each_done w f gains t =
           subst (λ (s : Share). Cut None s old.streams new.streams) (sym (share_append parts behind))
-              (cut_then None (share_of parts) (share_of behind) old.streams now.streams new.streams gains
-              (subst (λ (s : Streams). Cut None (share_of behind) now.streams s) (sym (t ∙ asks.streams)) (cut_nothing None (share_of behind) now.streams)))
+          (cut_then None (share_of parts) (share_of behind) old.streams now.streams new.streams gains
+          (subst (λ (s : Streams). Cut None (share_of behind) now.streams s) (sym (t ∙ asks.streams)) (cut_nothing None (share_of behind) now.streams)))
 
       stopped : (world : World) → Answered r refused old now world → (ps : List Part) × Lines world ps × Stands Lines world (Err stop) (unread_at stop) ps old new
       stopped world a = by a.at.stands
