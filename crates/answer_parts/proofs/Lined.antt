@@ -1,12 +1,12 @@
 -- Lines of the events that are answered one after the other.
-use Rattle.std.proofs.Common.{◌≡◌, ℕ, ◌+◌, ◌<◌, ◌≤◌, Bool, true, false, cond, List, [], ◌∷◌, ◌++◌, length, refl, ap, sym, ◌∙◌, subst, append_assoc, append-nil, arith, Option, None, Some, Result, Ok, Err, inl, inr}
+use Rattle.std.proofs.Common.{◌≡◌, ℕ, ◌+◌, ◌<◌, Bool, true, false, cond, List, [], ◌∷◌, ◌++◌, refl, ap, sym, ◌∙◌, subst, append_assoc, append-nil, arith, Option, None, Some, Result, Ok, Err, inl, inr}
 use Rattle.std.specs.Prelude.{◌||◌, ◌⊎◌, not, ◌==◌}
 use Rattle.std.specs.Io.KnownBytes.{Appends}
-use Rattle.std.specs.List.{list_all, list_any}
+use Rattle.std.specs.List.{list_all}
 use Rattle.std.proofs.lemmas.Grind.{flat_map-append}
 use Rattle.std.proofs.lemmas.List.{append_cancel_left}
 use Rattle.sig_base.proofs.Puts.{Appends-then, front_longer, front_whole}
-use Rattle.sig_base.specs.Causes.{Rose, AppendsFront}
+use Rattle.sig_base.specs.Causes.{Rose}
 use Rattle.sig_base.specs.declared.faults.LineFault.{LineFault}
 use Rattle.sig_base.specs.declared.faults.LineFault.TheVariants.{Read}
 use Rattle.sig_base.specs.declared.faults.LineStep.{LineStep}
@@ -14,18 +14,18 @@ use Rattle.sig_base.specs.declared.faults.LineStep.TheVariants.{Line, TooLong, T
 use Rattle.sig_base.specs.declared.limits.Limits.{Limits}
 use Rattle.event_lines.proofs.Coming.{next_line, last_bytes}
 use Rattle.event_lines.specs.Lines.{line_step, steps_from, lines_of}
-use Rattle.event_lines.specs.Reading.{Reading, coming, has_feed, AnswersNext, IsNext, PassesLine, Passes, IsPassed, IsOver, IsLine, HasLineCause}
+use Rattle.event_lines.specs.Reading.{Reading, coming, has_feed, IsNext, PassesLine, IsPassed, IsOver, IsLine, HasLineCause}
 use Rattle.answer_parts.proofs.Ending.{Kind, EachHas}
 use Rattle.answer_parts.proofs.Rows.{each_parts, parts_append, parts_aside, parts_one}
 use Rattle.answer_parts.proofs.Shares.{gains_nothing, gains_then, cut_longer, cut_then, cut_nothing, join_nothing, share_append}
-use Rattle.answer_parts.proofs.Wrote.{badly_since, well_then, writes_as, writes_nothing}
-use Rattle.answer_parts.specs.Cut.{Cut, DiagnosticsCut, of_unread}
+use Rattle.answer_parts.proofs.Wrote.{badly_since, well_then}
+use Rattle.answer_parts.specs.Cut.{Cut, of_unread}
 use Rattle.answer_parts.specs.Each.{EachPart}
-use Rattle.answer_parts.specs.EventLines.{ByLine, EachLine, AnswersWithin, UnlessBlank, LineGives, StepGives, StepPart, EventLines, is_blank, is_end, line_refused}
-use Rattle.answer_parts.specs.Input.{Input, Events, World, Needs, IsTold, unread_diagnostic}
+use Rattle.answer_parts.specs.EventLines.{ByLine, EachLine, AnswersWithin, UnlessBlank, StepGives, StepPart, EventLines, is_blank, is_end, line_refused}
+use Rattle.answer_parts.specs.Input.{Input, Events, World, Needs, unread_diagnostic}
 use Rattle.answer_parts.specs.Lines.{ended, diagnostics_text}
 use Rattle.answer_parts.specs.Parts.{Share, Part, no_share, join, share_of, Gains}
-use Rattle.answer_parts.specs.Stands.{Outcome, Writes, Cause, AreWhole, GivenWhole, StopsAt, Stands, Ends, ToldUnread}
+use Rattle.answer_parts.specs.Stands.{Outcome, Writes, Cause, AreWhole, GivenWhole, Stands, Ends, ToldUnread}
 use Rattle.answer_parts.specs.State.{State, Inputs, Streams, NoReadFailed, NoWriteFailed, SomeWriteFailed}
 use Rattle.answer_parts.specs.declared.stop.Stop.{Stop}
 use Rattle.answer_parts.specs.declared.stop.Stop.TheVariants.{Unread, Unwritten, Memory}
@@ -553,8 +553,8 @@ module _ (gives : ByLine) (limits : Limits) where
           )
       stand Memory world done parts behind rest each_done w f gains t =
           subst (λ (s : Share). Cut None s old.streams new.streams) (sym (share_append parts behind))
-              (cut_then None (share_of parts) (share_of behind) old.streams now.streams new.streams gains
-              (subst (λ (s : Streams). Cut None (share_of behind) now.streams s) (sym (t ∙ asks.streams)) (cut_nothing None (share_of behind) now.streams)))
+          (cut_then None (share_of parts) (share_of behind) old.streams now.streams new.streams gains
+          (subst (λ (s : Streams). Cut None (share_of behind) now.streams s) (sym (t ∙ asks.streams)) (cut_nothing None (share_of behind) now.streams)))
 
       stopped : (world : World) → Answered r refused old now world → (ps : List Part) × Lines world ps × Stands Lines world (Err stop) (unread_at stop) ps old new
       stopped world a = by a.at.stands

@@ -5,9 +5,9 @@ mod events;
 mod outside;
 mod reading;
 mod stop;
-mod writing;
 #[cfg(test)]
 mod tests;
+mod writing;
 
 pub use events::{LineCommand, answer_lines, tell_line_refusal};
 pub use outside::{Lent, Outside};

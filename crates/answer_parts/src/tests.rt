@@ -131,7 +131,10 @@ fn answers_lines_in_pieces(rt: HostRuntime) -> Result<(), Fail> {
             ("", "done||"),
             (" \n\t\r\n", "done||"),
             ("+a\n\n- b\n+c", "done|+a\n+c\n|"),
-            ("+a\r\n!b\n\n!\n+c", "found|+a\r\n+c\n|events:2: 25 EventJson\nevents:4: 25 EventJson\n"),
+            (
+                "+a\r\n!b\n\n!\n+c",
+                "found|+a\r\n+c\n|events:2: 25 EventJson\nevents:4: 25 EventJson\n",
+            ),
         ] {
             let got = told(alloc, &limits, still(events, read))?;
             assert_eq!(rt; got.as_str(), want);
@@ -147,11 +150,20 @@ fn refuses_past_the_limits(rt: HostRuntime) -> Result<(), Fail> {
     limits.line_bytes = 4;
     limits.events_bytes = 20;
     for (events, want) in [
-        ("+abc\n+abcd\n+e", "found|+abc\n+e\n|events:2: 30 LineTooLong\n"),
+        (
+            "+abc\n+abcd\n+e",
+            "found|+abc\n+e\n|events:2: 30 LineTooLong\n",
+        ),
         ("     \n+e\n", "found|+e\n|events:1: 30 LineTooLong\n"),
         ("+abc\n+def\n+ghi\n+jkl\n", "done|+abc\n+def\n+ghi\n+jkl\n|"),
-        ("+abc\n+def\n+ghi\n+jklm", "found|+abc\n+def\n+ghi\n|events:4: 30 LineTooLong\n"),
-        ("+abc\n!\n+def\n+ghi\n+jkl\n", "found|+abc\n+def\n+ghi\n|events:2: 25 EventJson\nevents:5: 31 TooMuch\n"),
+        (
+            "+abc\n+def\n+ghi\n+jklm",
+            "found|+abc\n+def\n+ghi\n|events:4: 30 LineTooLong\n",
+        ),
+        (
+            "+abc\n!\n+def\n+ghi\n+jkl\n",
+            "found|+abc\n+def\n+ghi\n|events:2: 25 EventJson\nevents:5: 31 TooMuch\n",
+        ),
     ] {
         let got = told(alloc, &limits, still(events, 3))?;
         assert_eq!(rt; got.as_str(), want);
@@ -163,8 +175,7 @@ fn refuses_past_the_limits(rt: HostRuntime) -> Result<(), Fail> {
 fn wrong_read(alloc: Global, limits: &Limits, table: &str) -> Result<String, Fail> {
     for row in table.lines() {
         let mut parts = row.split('~');
-        let (Some(read), Some(call), Some(want)) = (parts.next(), parts.next(), parts.next())
-        else {
+        let (Some(read), Some(call), Some(want)) = (parts.next(), parts.next(), parts.next()) else {
             return Ok(String::from_str(alloc, row)?);
         };
         let (Ok(read), Ok(call)) = (read.parse::<usize>(), call.parse::<u64>()) else {
@@ -239,6 +250,9 @@ fn faults_beside_one_another(rt: HostRuntime) -> Result<(), Fail> {
     world.out = 0;
     world.written = 10;
     world.err = 2;
-    assert_eq!(rt; told(alloc, &limits, world)?.as_str(), "unwritten|+a\n|sigma: can");
+    assert_eq!(rt;
+        told(alloc, &limits, world)?.as_str(),
+        "unwritten|+a\n|sigma: can"
+    );
     Ok(())
 }

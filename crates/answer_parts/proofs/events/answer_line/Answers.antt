@@ -1,4 +1,4 @@
-use Rattle.std.proofs.Common.{sym, ◌∙◌, subst, ap, Ok, Bool, List, ℕ, true, false}
+use Rattle.std.proofs.Common.{sym, ◌∙◌, subst, ap, Ok, Bool, List, ℕ, false}
 use Rattle.answer_parts.proofs.Wrote.{writes_nothing}
 use Rattle.answer_parts.specs.EventLines.{UnlessBlank, is_blank}
 use Rattle.answer_parts.specs.Stands.{Writes}
