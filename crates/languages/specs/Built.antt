@@ -1,10 +1,14 @@
 -- What builders of regular expressions answer.
-use Rattle.std.specs.Prelude.{ℕ, ◌≡◌, false, List, [], ◌∷◌, ◌++◌, Result, Ok, Err, ⊤}
+use Rattle.std.specs.Prelude.{ℕ, ◌≡◌, false, List, [], ◌∷◌, ◌++◌, ◌⊎◌, Result, Ok, Err, ⊤}
 use Rattle.std.specs.Str.{chars}
 use Rattle.regex.specs.declared.string.regex.Regex.{Regex}
 use Rattle.regex.specs.Strings.{regex_source, regex_config, regex_pattern, matcher_pattern, IsReadFromSource}
 use Rattle.regex.specs.declared.string.matcher.Matcher.{Matcher}
 use Rattle.regex.specs.Patterns.{default_config}
+use Rattle.sig_base.specs.declared.refusal.Fault.{Fault}
+use Rattle.sig_base.specs.declared.refusal.Fault.TheVariants as fault
+use Rattle.sig_base.specs.declared.refusal.Place.{Place}
+use Rattle.sig_base.specs.Judged.{refusal}
 use Rattle.languages.specs.Patterns.{is_pattern}
 use Rattle.languages.specs.declared.builder.BuildFault.{BuildFault}
 use Rattle.languages.specs.declared.builder.BuildFault.TheVariants.{Syntax, Refused, Memory}
@@ -33,3 +37,10 @@ BuildAnswers old new text (Ok built) = new ≡ old
 BuildAnswers old new text (Err Memory) = new ≡ old
 BuildAnswers old new text (Err Refused) = new ≡ old ++ text ∷ []
 BuildAnswers old new text (Err Syntax) = (new ≡ old ++ text ∷ []) × (is_pattern text ≡ false)
+
+-- A refusal at a place is 47 where the text is no pattern, else 48; the list gains the text where it is refused, and nothing else.
+abbrev pub SearchAnswers : {T : Type 0} → List (List ℕ) → List (List ℕ) → List ℕ → Place → Result T Fault → Type 0
+SearchAnswers old new text place (Ok built) = new ≡ old
+SearchAnswers old new text place (Err fault.Memory) = new ≡ old
+SearchAnswers old new text place (Err (fault.Refused r)) =
+    (new ≡ old ++ text ∷ []) × (((r ≡ refusal 47 place) × (is_pattern text ≡ false)) ⊎ (r ≡ refusal 48 place))

@@ -12,3 +12,7 @@ mod crate_builder;
 mod language;
 mod search;
 mod selector;
+#[cfg(test)]
+mod small;
+#[cfg(test)]
+mod tests;

@@ -6,7 +6,7 @@ ghost use Rattle.languages.specs.Built.{IsBuilt, IsFinder};
 
 use crate::builder::{BuildFault, Builder};
 use regex::{Matcher, Regex};
-use sig_base::{Fault, Text};
+use sig_base::{Code, Fault, Place, Text, refused};
 use std::alloc::Global;
 use std::fmt;
 
@@ -28,7 +28,7 @@ pub struct Finder<'s> {
 
 impl Search {
     ghost use Rattle.languages.specs.Patterns.{finds};
-    ghost use Rattle.languages.specs.Built.{BuildAnswers};
+    ghost use Rattle.languages.specs.Built.{BuildAnswers, SearchAnswers};
 
     /// Builds the regular expression of a text.
     pub fn build<B: Builder>(
@@ -41,6 +41,24 @@ impl Search {
     {
         let regex = builder.build(alloc, text.as_str())?;
         Ok(Search { text, regex })
+    }
+
+    /// Builds the regular expression of a text that stands at a place, where it may be refused with 47 or 48.
+    pub fn read<B: Builder>(
+        alloc: Global,
+        builder: &mut B,
+        text: Text,
+        place: Place,
+    ) -> Result<Search, Fault>
+        ensures text { IfOk result (λ search. search.text ≡ text) }
+        ensures refused { SearchAnswers (B.refused builder.old) (B.refused builder.new) text place result }
+    {
+        match Search::build(alloc, builder, text) {
+            Ok(search) => Ok(search),
+            Err(BuildFault::Memory) => Err(Fault::Memory),
+            Err(BuildFault::Syntax) => Err(refused(Code::REGEX_SYNTAX, place)),
+            Err(BuildFault::Refused) => Err(refused(Code::REGEX_REFUSED, place)),
+        }
     }
 
     /// What searches with it; only want of memory is answered.
