@@ -1,5 +1,5 @@
 -- Texts as regular expressions, and places that are refused, reckoned by hand.
-use Rattle.std.proofs.Common.{ℕ, ◌≡◌, ◌⊎◌, inl, inr, refl, sym, ap, ◌∙◌, Bool, true, false, List, [], ◌∷◌, ◌++◌, codes, map}
+use Rattle.std.proofs.Common.{ℕ, ◌≡◌, inl, inr, refl, sym, ap, ◌∙◌, Bool, true, false, List, [], ◌∷◌, ◌++◌, codes, map}
 use Rattle.std.specs.Prelude.{◌==◌}
 use Rattle.std.proofs.Math.ListN.{replicate}
 use Rattle.regex.proofs.OnLiterals.{regex_on_literals}
@@ -74,13 +74,15 @@ two = at 5 (codes "a") ∷ at 9 (codes "(") ∷ []
 
 both_refused : AreRefused two (codes "a" ∷ []) (told 48 5 ∷ told 47 9 ∷ [])
 both_refused = record {
-    caused = (inl (refl, not_built refl (inl refl)), (inr (inl (refl, no_pattern refl open_only)), tt));
-    all = ((λ none. inl refl), ((λ none. inr (inl refl)), tt)) }
+  caused = (inl (refl, not_built refl (inl refl)), (inr (inl (refl, no_pattern refl open_only)), tt));
+  all = ((λ none. inl refl), ((λ none. inr (inl refl)), tt));
+}
 
 one_refused : AreRefused two [] (told 47 9 ∷ [])
 one_refused = record {
-    caused = (inr (inl (refl, no_pattern refl open_only)), tt);
-    all = ((λ none. absurd (let bad : true ≡ false = sym letter ∙ none in cc)), ((λ none. inl refl), tt)) }
+  caused = (inr (inl (refl, no_pattern refl open_only)), tt);
+  all = ((λ none. absurd (let bad : true ≡ false = sym letter ∙ none in cc)), ((λ none. inl refl), tt));
+}
 
 left_out : AreRefused two [] [] → ⊥
 left_out h = h.all.1.0 open_only

@@ -37,6 +37,6 @@ pub found_in_text : (text : List ℕ) (m : Matcher) (value : List ℕ) → IsUtf
 unfolding finds
 found_in_text text m value utf8 bytes finder =
     ∥∥₁_elim finder (Coded-set coded_bool _ _) (λ f.
-        ap (λ (re : Re). is_some (find_str re value 0)) f.same
-        ∙ found_as_built text f.regex f.built value bytes
-        ∙ ap (found_in (reading text)) (sym (encodes-chars value utf8)))
+    ap (λ (re : Re). is_some (find_str re value 0)) f.same
+    ∙ found_as_built text f.regex f.built value bytes
+    ∙ ap (found_in (reading text)) (sym (encodes-chars value utf8)))

@@ -1,5 +1,5 @@
 -- What the tests' small language answers: its bytes are one regular expression, or no text.
-use Rattle.std.proofs.Common.{ℕ, ◌≡◌, ◌⊎◌, inl, inr, Bool, true, false, List, [], ◌∷◌, ◌++◌, refl, sym, subst, ◌∙◌, append-nil, if◌then◌else◌, chars}
+use Rattle.std.proofs.Common.{ℕ, ◌≡◌, ◌⊎◌, inl, inr, Bool, true, false, List, [], ◌∷◌, ◌++◌, refl, sym, subst, ◌∙◌, append-nil, if◌then◌else◌}
 use Rattle.std.specs.Prelude.{Result, Ok, Err, IfOk, ⊤}
 use Rattle.std.proofs.lemmas.Str.{IsUtf8-from_is_utf8}
 use Rattle.std.specs.Str.{is_utf8, IsUtf8}
@@ -8,11 +8,11 @@ use Rattle.sig_base.specs.declared.refusal.Fault.TheVariants as fault
 use Rattle.sig_base.specs.declared.refusal.Place.{Place}
 use Rattle.sig_base.specs.declared.refusal.Refusal.{Refusal}
 use Rattle.sig_base.specs.Judged.{refusal}
-use Rattle.text_places.specs.Places.{CodeAt, origin, code_at}
-use Rattle.languages.specs.Answers.{ReadAnswers, IsFirst, place_of}
+use Rattle.text_places.specs.Places.{origin, code_at}
+use Rattle.languages.specs.Answers.{ReadAnswers, place_of}
 use Rattle.languages.specs.Built.{SearchAnswers}
 use Rattle.languages.specs.Patterns.{is_pattern}
-use Rattle.languages.specs.RefusedPlaces.{PatternAt, IsCause, no_pattern, not_built, AreRefused}
+use Rattle.languages.specs.RefusedPlaces.{IsCause, no_pattern, not_built, AreRefused}
 use Rattle.languages.specs.declared.search.Search.{Search}
 
 abbrev pub start : Place
@@ -42,23 +42,27 @@ module _ (text : List ℕ) (old new : List (List ℕ)) where
 
   told : (r : Refusal) → new ≡ old ++ text ∷ [] → ((r ≡ refusal 47 start) × (is_pattern text ≡ false)) ⊎ (r ≡ refusal 48 start) → Small true (Err (fault.Refused r))
   told r more (inl (is, none)) = subst (λ x. Small true (Err (fault.Refused x))) (sym is) (record {
-      gained = text ∷ [];
-      follows = more;
-      answers = record {
-          places = code_at 47 origin ∷ [];
-          are = one 47 (no_pattern refl none);
-          first = inr (refl, refl);
-          built = λ of. inl (refl, inl refl, no_pattern refl none);
-          unread = λ other. absurd (not_false other) } })
+    gained = text ∷ [];
+    follows = more;
+    answers = record {
+      places = code_at 47 origin ∷ [];
+      are = one 47 (no_pattern refl none);
+      first = inr (refl, refl);
+      built = λ of. inl (refl, inl refl, no_pattern refl none);
+      unread = λ other. absurd (not_false other);
+    };
+  })
   told r more (inr is) = subst (λ x. Small true (Err (fault.Refused x))) (sym is) (record {
-      gained = text ∷ [];
-      follows = more;
-      answers = record {
-          places = code_at 48 origin ∷ [];
-          are = one 48 (not_built refl (inl refl));
-          first = inr (refl, refl);
-          built = λ of. inl (refl, inl refl, not_built refl (inl refl));
-          unread = λ other. absurd (not_false other) } })
+    gained = text ∷ [];
+    follows = more;
+    answers = record {
+      places = code_at 48 origin ∷ [];
+      are = one 48 (not_built refl (inl refl));
+      first = inr (refl, refl);
+      built = λ of. inl (refl, inl refl, not_built refl (inl refl));
+      unread = λ other. absurd (not_false other);
+    };
+  })
 
   answered : (result : Result Search Fault) → IfOk result (λ s. s.text ≡ text) → SearchAnswers old new text start result → Small true result
   answered (Ok s) is same = record { gained = []; follows = same ∙ sym (append-nil old); answers = ((refl, is), tt, refl) }
@@ -70,11 +74,13 @@ module _ (text : List ℕ) (old new : List (List ℕ)) where
 
   pub read_nothing : (utf8 : Bool) → utf8 ≡ false → new ≡ old → Small utf8 (Err (fault.Refused (refusal 1 start)))
   read_nothing utf8 none same = subst (λ b. Small b (Err (fault.Refused (refusal 1 start)))) (sym none) (record {
-      gained = [];
-      follows = same ∙ sym (append-nil old);
-      answers = record {
-          places = [];
-          are = record { caused = tt; all = tt };
-          first = inl (refl, refl);
-          built = λ of. absurd (not_true of);
-          unread = λ of q query within. absurd (not_true query.0) } })
+    gained = [];
+    follows = same ∙ sym (append-nil old);
+    answers = record {
+      places = [];
+      are = record { caused = tt; all = tt };
+      first = inl (refl, refl);
+      built = λ of. absurd (not_true of);
+      unread = λ of q query within. absurd (not_true query.0);
+    };
+  })

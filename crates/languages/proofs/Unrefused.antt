@@ -1,5 +1,5 @@
 -- Where nothing is refused for its regular expression.
-use Rattle.std.proofs.Common.{ℕ, ◌≡◌, ◌⊎◌, inl, inr, Bool, true, false, List, [], ◌∷◌, ◌++◌, refl, sym, subst, ◌∙◌, Err, append-nil}
+use Rattle.std.proofs.Common.{ℕ, ◌≡◌, inl, inr, Bool, true, false, List, [], ◌∷◌, ◌++◌, refl, sym, subst, ◌∙◌, Err, append-nil}
 use Rattle.std.proofs.lemmas.List.{append_cancel_left}
 use Rattle.sig_base.specs.declared.refusal.Fault.TheVariants as fault
 use Rattle.sig_base.specs.declared.refusal.Refusal.{Refusal}

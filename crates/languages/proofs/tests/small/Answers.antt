@@ -1,5 +1,5 @@
 use Rattle.std.proofs.Common.{refl}
-use Rattle.std.specs.Str.{chars, all_scalars}
+use Rattle.std.specs.Str.{chars}
 use Rattle.languages.proofs.tests.small.Goals as goal
 
 pub sample-requires : goal.sample-requires

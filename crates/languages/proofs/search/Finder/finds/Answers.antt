@@ -1,4 +1,4 @@
-use Rattle.std.proofs.Common.{sym, ◌∙◌}
+use Rattle.std.proofs.Common.{◌∙◌}
 use mathlib.Core.Logic.{∥∥₁_map}
 use Rattle.languages.proofs.Finding.{found_in_text}
 use Rattle.languages.proofs.search.Finder.finds.Goals as goal
@@ -9,5 +9,5 @@ returns-clause-found c = rw c.is_match.ensures.found
 
 pub invariant_of-self : goal.invariant_of-self
 invariant_of-self c = record {
-    same = ∥∥₁_map c.args.self.now.same (λ f. record { regex = f.regex; built = f.built; same = c.is_match.ensures.same ∙ f.same })
+  same = ∥∥₁_map c.args.self.now.same (λ f. record { regex = f.regex; built = f.built; same = c.is_match.ensures.same ∙ f.same });
 }
