@@ -1,0 +1,86 @@
+-- What the tests' small language answers: its bytes are one regular expression, or no text.
+use Rattle.std.proofs.Common.{ℕ, ◌≡◌, ◌⊎◌, inl, inr, Bool, true, false, List, [], ◌∷◌, ◌++◌, refl, sym, subst, ◌∙◌, append-nil, if◌then◌else◌}
+use Rattle.std.specs.Prelude.{Result, Ok, Err, IfOk, ⊤}
+use Rattle.std.proofs.lemmas.Str.{IsUtf8-from_is_utf8}
+use Rattle.std.specs.Str.{is_utf8, IsUtf8}
+use Rattle.sig_base.specs.declared.refusal.Fault.{Fault}
+use Rattle.sig_base.specs.declared.refusal.Fault.TheVariants as fault
+use Rattle.sig_base.specs.declared.refusal.Place.{Place}
+use Rattle.sig_base.specs.declared.refusal.Refusal.{Refusal}
+use Rattle.sig_base.specs.Judged.{refusal}
+use Rattle.text_places.specs.Places.{origin, code_at}
+use Rattle.languages.specs.Answers.{ReadAnswers, place_of}
+use Rattle.languages.specs.Built.{SearchAnswers}
+use Rattle.languages.specs.Patterns.{is_pattern}
+use Rattle.languages.specs.RefusedPlaces.{IsCause, no_pattern, not_built, AreRefused}
+use Rattle.languages.specs.declared.search.Search.{Search}
+
+abbrev pub start : Place
+start = record { line = 1; column = 1 }
+
+not_true : false ≡ true → ⊥
+not_true h = cc
+
+not_false : true ≡ false → ⊥
+not_false h = cc
+
+pub not_utf8 : (bytes : List ℕ) → (IsUtf8 bytes → ⊥) → is_utf8 bytes ≡ false
+not_utf8 bytes none = by (is_utf8 bytes) refl where
+  by : (b : Bool) → is_utf8 bytes ≡ b → is_utf8 bytes ≡ false
+  by true e = absurd (none (IsUtf8-from_is_utf8 bytes e))
+  by false e = e
+
+module _ (text : List ℕ) (old new : List (List ℕ)) where
+  -- the answers to bytes that are this text, if they are one
+  abbrev pub Small : Bool → Result Search Fault → Type 0
+  Small utf8 result = ReadAnswers {Query = Search} (λ s. (utf8 ≡ true) × (s.text ≡ text)) (λ s. ⊤)
+      (λ places r. ((utf8 ≡ false) × (r.code ≡ 1)) ⊎ ((utf8 ≡ true) × (places ≡ code_at r.code (place_of r) ∷ [])))
+      (if utf8 then record { place = origin; pattern = text } ∷ [] else []) old new result
+
+  one : (code : ℕ) → IsCause (text ∷ []) text code → AreRefused (record { place = origin; pattern = text } ∷ []) (text ∷ []) (code_at code origin ∷ [])
+  one code cause = record { caused = (inl (refl, cause), tt); all = (λ none. inl refl, tt) }
+
+  told : (r : Refusal) → new ≡ old ++ text ∷ [] → ((r ≡ refusal 47 start) × (is_pattern text ≡ false)) ⊎ (r ≡ refusal 48 start) → Small true (Err (fault.Refused r))
+  told r more (inl (is, none)) = subst (λ x. Small true (Err (fault.Refused x))) (sym is) (record {
+    gained = text ∷ [];
+    follows = more;
+    answers = record {
+      places = code_at 47 origin ∷ [];
+      are = one 47 (no_pattern refl none);
+      first = inr (refl, refl);
+      built = λ of. inl (refl, inl refl, no_pattern refl none);
+      unread = λ other. absurd (not_false other);
+    };
+  })
+  told r more (inr is) = subst (λ x. Small true (Err (fault.Refused x))) (sym is) (record {
+    gained = text ∷ [];
+    follows = more;
+    answers = record {
+      places = code_at 48 origin ∷ [];
+      are = one 48 (not_built refl (inl refl));
+      first = inr (refl, refl);
+      built = λ of. inl (refl, inl refl, not_built refl (inl refl));
+      unread = λ other. absurd (not_false other);
+    };
+  })
+
+  answered : (result : Result Search Fault) → IfOk result (λ s. s.text ≡ text) → SearchAnswers old new text start result → Small true result
+  answered (Ok s) is same = record { gained = []; follows = same ∙ sym (append-nil old); answers = ((refl, is), tt, refl) }
+  answered (Err fault.Memory) is same = record { gained = []; follows = same ∙ sym (append-nil old); answers = tt }
+  answered (Err (fault.Refused r)) is (more, cause) = told r more cause
+
+  pub read_text : (utf8 : Bool) → utf8 ≡ true → (result : Result Search Fault) → IfOk result (λ s. s.text ≡ text) → SearchAnswers old new text start result → Small utf8 result
+  read_text utf8 yes_utf8 result is answers = subst (λ b. Small b result) (sym yes_utf8) (answered result is answers)
+
+  pub read_nothing : (utf8 : Bool) → utf8 ≡ false → new ≡ old → Small utf8 (Err (fault.Refused (refusal 1 start)))
+  read_nothing utf8 none same = subst (λ b. Small b (Err (fault.Refused (refusal 1 start)))) (sym none) (record {
+    gained = [];
+    follows = same ∙ sym (append-nil old);
+    answers = record {
+      places = [];
+      are = record { caused = tt; all = tt };
+      first = inl (refl, refl);
+      built = λ of. absurd (not_true of);
+      unread = λ of q query within. absurd (not_true query.0);
+    };
+  })
