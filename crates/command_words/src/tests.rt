@@ -157,8 +157,14 @@ fn words_of_run(rt: HostRuntime) -> Result<(), Fail> {
     let alloc = rt.alloc();
     for (words, want) in [
         (["r.yml"].as_slice(), "r.yml;"),
-        (["--schema", "s.json", "r.yml"].as_slice(), "under s.json: r.yml;"),
-        (["r.yml", "--schema=s.json"].as_slice(), "under s.json: r.yml;"),
+        (
+            ["--schema", "s.json", "r.yml"].as_slice(),
+            "under s.json: r.yml;",
+        ),
+        (
+            ["r.yml", "--schema=s.json"].as_slice(),
+            "under s.json: r.yml;",
+        ),
         (["--schema=s", "--", "-r"].as_slice(), "under s: -r;"),
         (["--schema", "s"].as_slice(), "not taken"),
         (["a", "b"].as_slice(), "not taken"),

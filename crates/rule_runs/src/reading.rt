@@ -25,11 +25,7 @@ fn read_only(alloc: Global, limits: &Limits, documents: &[Document]) -> Result<R
 
 /// Reads the rule that a file is. It's refused 2, 1 or 7 as a whole, 84 where it hasn't exactly one document, or else as its document is:
 /// by YAML, 146 as a correlation, or as a rule.
-pub(crate) fn read_single_rule(
-    alloc: Global,
-    limits: &Limits,
-    bytes: &[u8],
-) -> Result<Rule, Fault>
+pub(crate) fn read_single_rule(alloc: Global, limits: &Limits, bytes: &[u8]) -> Result<Rule, Fault>
     ensures { Answers (IsBare (IsSingleRule limits.now bytes.now)) (IsNoSingleRule limits.now bytes.now) result }
 {
     match read_documents(alloc, limits, bytes) {

@@ -91,5 +91,11 @@ pub(crate) fn answer_convert<W: Outside>(
 ) -> Result<bool, Stop>
     ensures { Ends (record { names = names_with schema.now rules.now; events = false }) (Converted (ConvertGives limits.now) limits.now schema.now rules.now) result (W.state outside.old) (W.state outside.new) }
 {
-    answer_schema(alloc, limits, &ConvertFiles { limits, rules }, schema, outside)
+    answer_schema(
+        alloc,
+        limits,
+        &ConvertFiles { limits, rules },
+        schema,
+        outside,
+    )
 }

@@ -44,7 +44,14 @@ impl SchemaCommand for RunFile<'_, '_> {
     ) -> Result<bool, Stop> {
         self.each_under();
         match read_file(alloc, self.rule, self.limits.file_bytes + 1, outside) {
-            Ok(bytes) => run_bytes(alloc, self.limits, given, self.rule, bytes.as_slice(), outside),
+            Ok(bytes) => run_bytes(
+                alloc,
+                self.limits,
+                given,
+                self.rule,
+                bytes.as_slice(),
+                outside,
+            ),
             Err(stop) => Err(stop),
         }
     }
