@@ -1,9 +1,13 @@
 -- That each line of events is answered in one way by a rule that is run.
 use Rattle.std.proofs.Common.{◌≡◌, ℕ, List, refl, ap, sym, ◌∙◌, subst, Result, Ok, Err, inl, inr}
-use Rattle.std.specs.Prelude.{◌⊎◌, ◌↔◌, IsTrue, Bool, true, false}
+use Rattle.std.specs.Prelude.{◌⊎◌, Bool}
 use Rattle.answer_parts.proofs.Wrote.{writes_as}
 use Rattle.answer_parts.specs.EventLines.{EachLine, line_refused}
 use Rattle.answer_parts.specs.Parts.{Share, no_share}
+use Rattle.answer_parts.specs.Stands.{Writes}
+use Rattle.answer_parts.specs.State.{State}
+use Rattle.answer_parts.specs.declared.stop.Stop.{Stop}
+use Rattle.event_reading.specs.Answers.{Answers}
 use Rattle.event_reading.specs.EventOf.{event_of}
 use Rattle.event_schema.specs.Occurrence.{Occurrence}
 use Rattle.event_schema.specs.declared.schema.Field.{Field}
@@ -11,6 +15,9 @@ use Rattle.event_schema.specs.declared.schema.Schema.{Schema}
 use Rattle.event_schema.specs.declared.value.Value.{Value}
 use Rattle.rule_matching.specs.Matching.{Matches}
 use Rattle.rule_model.specs.Plain.{PlainRule}
+use Rattle.sig_base.specs.declared.refusal.Fault.TheVariants.{Refused}
+use Rattle.sig_base.specs.declared.refusal.Place.{Place}
+use Rattle.sig_base.specs.declared.refusal.Refusal.{Refusal}
 use Rattle.sigma_app.specs.Laws.{EachSelected}
 use Rattle.sigma_app.specs.Ran.{RunGives}
 use Rattle.sigma_app.specs.Reports.{line_share}
@@ -54,11 +61,27 @@ every_one schema rule = one_selected schema (λ row. Matches schema.fields row r
 
 -- ---- what is left of a line
 
--- an event that was asked about
-pub picked_gives : (Picks : Picking) (number : ℕ) (line : List ℕ) (event : Occurrence) (share : Share) → Picks event.values → share ≡ line_share line
-    → EventGives Picks number line (Ok event) share
-picked_gives Picks number line event share is same = inl (is, same)
+-- a reader's answer tells what the line is
+event_answered : (place : Place) (t : Result Occurrence ℕ) (event : Occurrence) → Answers place t (Ok event) → t ≡ Ok event
+event_answered place (Ok x) event a = ap (λ (y : Occurrence). Ok y) (sym a)
+event_answered place (Err code) event a = absurd a
 
-pub passed_gives : (Picks : Picking) (number : ℕ) (line : List ℕ) (event : Occurrence) (share : Share) → (Picks event.values → ⊥) → share ≡ no_share
-    → EventGives Picks number line (Ok event) share
-passed_gives Picks number line event share not same = inr (not, same)
+event_refused : (place : Place) (t : Result Occurrence ℕ) (r : Refusal) → Answers {X = Occurrence} place t (Err (Refused r)) → (code : ℕ) × (t ≡ Err code) × (r.code ≡ code)
+event_refused place (Ok x) r a = absurd a
+event_refused place (Err code) r a = (code, refl, ap (λ (x : Refusal). x.code) a)
+
+module _ (schema : Schema) (Picks : Picking) (number : ℕ) (line : List ℕ) (place : Place) (result : Result Bool Stop) (old new : State) where
+  -- the line is an event, which was answered
+  pub event_gives : (event : Occurrence) → Answers place (event_of schema line) (Ok event) → Writes (EventGives Picks number line (Ok event)) result old new
+      → Writes (Selects schema Picks number line) result old new
+  event_gives event answers wrote =
+      subst (λ (t : Result Occurrence ℕ). Writes (EventGives Picks number line t) result old new) (sym (event_answered place (event_of schema line) event answers)) wrote
+
+  -- the line is no event, and was refused
+  pub refused_gives : (r : Refusal) → Answers {X = Occurrence} place (event_of schema line) (Err (Refused r)) → Writes (λ share. share ≡ line_refused number r.code) result old new
+      → Writes (Selects schema Picks number line) result old new
+  refused_gives r answers wrote =
+      let cause = event_refused place (event_of schema line) r answers in
+      subst (λ (t : Result Occurrence ℕ). Writes (EventGives Picks number line t) result old new) (sym cause.1)
+      (writes_as (λ share. share ≡ line_refused number r.code) (EventGives Picks number line (Err cause.0)) result old new
+      (λ share is. is ∙ ap (λ (c : ℕ). line_refused number c) cause.2) wrote)

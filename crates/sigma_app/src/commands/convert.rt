@@ -10,8 +10,8 @@ ghost use Rattle.yaml_tree.specs.View.{node_view};
 
 use crate::documents::{TreeCommand, put_refusal};
 use crate::files::answer_files;
+use crate::given_schema::{SchemaCommand, answer_schema};
 use crate::law::each_answer;
-use crate::schemed::{SchemaCommand, answer_schema};
 use answer_parts::{Outside, Stop, put_line};
 use event_schema::Schema;
 use rule_queries::convert_node;

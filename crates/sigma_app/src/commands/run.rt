@@ -10,8 +10,8 @@ ghost use Rattle.sigma_app.specs.Answers.{names_with};
 ghost use Rattle.sigma_app.specs.Ran.{RunGives, RanUnder, Ran};
 
 use crate::documents::put_refusal;
+use crate::given_schema::{SchemaCommand, answer_schema};
 use crate::law::each_answer;
-use crate::schemed::{SchemaCommand, answer_schema};
 use crate::selecting::put_picked;
 use answer_parts::{LineCommand, Outside, Stop, answer_lines, read_file, tell_line_refusal};
 use detection_eval::Ready;

@@ -1,5 +1,5 @@
 use Rattle.sigma_app.proofs.Schemed.{none_named}
-use Rattle.sigma_app.proofs.schemed.answer_schema.Goals as goal
+use Rattle.sigma_app.proofs.given_schema.answer_schema.Goals as goal
 
 pub returns-in-None : goal.returns-in-None
 returns-in-None g c =

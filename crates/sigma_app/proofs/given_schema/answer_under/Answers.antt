@@ -1,5 +1,5 @@
 use Rattle.sigma_app.proofs.Schemed.{schema_unread}
-use Rattle.sigma_app.proofs.schemed.answer_under.Goals as goal
+use Rattle.sigma_app.proofs.given_schema.answer_under.Goals as goal
 
 pub returns-in-Err : goal.returns-in-Err
 returns-in-Err g c =

@@ -1,5 +1,5 @@
 use Rattle.sigma_app.proofs.Schemed.{schema_given, schema_refused, schema_memory}
-use Rattle.sigma_app.proofs.schemed.answer_read.Goals as goal
+use Rattle.sigma_app.proofs.given_schema.answer_read.Goals as goal
 
 pub returns-in-Ok : goal.returns-in-Ok
 returns-in-Ok g c front =
