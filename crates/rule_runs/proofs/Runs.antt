@@ -1,5 +1,5 @@
 -- That each file is run as exactly one rule, or isn't run for exactly one cause.
-use Rattle.std.proofs.Common.{◌≡◌, ℕ, List, refl, ap, sym, ◌∙◌, subst, Option, Some, None, Result, Ok, Err, inl, inr}
+use Rattle.std.proofs.Common.{◌≡◌, ℕ, List, [], ◌∷◌, refl, ap, sym, ◌∙◌, subst, Option, Some, None, Result, Ok, Err, inl, inr}
 use Rattle.std.specs.Prelude.{◌⊎◌}
 use Rattle.event_schema.specs.declared.schema.Schema.{Schema}
 use Rattle.rule_model.specs.Plain.{PlainRule, rule_view, rule_with}
@@ -9,9 +9,9 @@ use Rattle.rule_runs.specs.Answers.{Answers, IsBare}
 use Rattle.rule_runs.specs.Files.{yaml_refusal, single_tree}
 use Rattle.rule_runs.specs.Laws.{EachRun, NeverBoth, OneRun, OneCause}
 use Rattle.rule_runs.specs.Runs.{AreDocuments, IsOnly, IsNoneOnly, no_tree, no_rule, IsSingleRule, IsNoSingleRule, as_one, by_document, IsRun, IsNotRun, no_single, unfit}
-use Rattle.rule_schema.specs.Inferred.{unfit_refusal}
+use Rattle.rule_schema.specs.Inferred.{unfit_refusal, schema_refusal, fit_refusal, inferred_schema}
 use Rattle.sig_base.specs.declared.limits.Limits.{Limits}
-use Rattle.sig_base.specs.Judged.{Judged}
+use Rattle.sig_base.specs.Judged.{Judged, first}
 use Rattle.sig_base.specs.declared.refusal.Detail.TheVariants as details
 use Rattle.sig_base.specs.declared.refusal.Fault.{Fault}
 use Rattle.sig_base.specs.declared.refusal.Fault.TheVariants.{Memory, Refused}
@@ -183,3 +183,47 @@ pub file_answers : (limits : Limits) (bytes : List ℕ) (fault : Fault) → IfRe
     → Answers {X = Rule} (IsBare (IsSingleRule limits bytes)) (IsNoSingleRule limits bytes) (Err fault)
 file_answers limits bytes Memory is = tt
 file_answers limits bytes (Refused r) (plain, is) = as_one (r.code, record { line = r.place.line; column = r.place.column }) is (no_detail r plain)
+
+-- ---- the file as a rule, and whether it fits
+
+-- what is no single rule isn't run
+pub isnt_single : {X Y : Type 0} (limits : Limits) (given : Option Schema) (bytes : List ℕ) (P : X → Type 0) (Q : Y → Type 0) (fault : Fault)
+    → Answers {X = X} P (IsNoSingleRule limits bytes) (Err fault) → Answers {X = Y} Q (IsNotRun limits given bytes) (Err fault)
+isnt_single limits given bytes P Q Memory answers = tt
+isnt_single limits given bytes P Q (Refused r) answers = no_single answers
+
+first_is : (a b : Option Refusal) (r : Refusal) → a ≡ Some r → first (a ∷ b ∷ []) ≡ Some r
+first_is a b r is = rw is refl
+
+second_is : (a b : Option Refusal) (r : Refusal) → a ≡ None → b ≡ Some r → first (a ∷ b ∷ []) ≡ Some r
+second_is a b r none is = rw (none, is) refl
+
+none_is : (a b : Option Refusal) → a ≡ None → b ≡ None → first (a ∷ b ∷ []) ≡ None
+none_is a b none none_too = rw (none, none_too) refl
+
+-- no schema is made of the rule
+pub isnt_made : {X Y : Type 0} (limits : Limits) (bytes : List ℕ) (rule : Rule) (P : X → Type 0) (Q : Y → Type 0) (fault : Fault) → IsBare (IsSingleRule limits bytes) rule
+    → Judged {X = X} P (schema_refusal (rule_view rule)) (Err fault) → Answers {X = Y} Q (IsNotRun limits None bytes) (Err fault)
+isnt_made limits bytes rule P Q Memory single judged = tt
+isnt_made limits bytes rule P Q (Refused r) (rest, single) is =
+    unfit (rule_with rest (rule_view rule)) single (first_is (schema_refusal (rule_view rule)) (fit_refusal (inferred_schema (rule_view rule)) (rule_view rule)) r is)
+
+-- the rule doesn't fit the given schema, or it does
+pub isnt_fit : (limits : Limits) (schema : Schema) (bytes : List ℕ) (rule : Rule) (r : Refusal) → IsBare (IsSingleRule limits bytes) rule → fit_refusal schema (rule_view rule) ≡ Some r
+    → IsNotRun limits (Some schema) bytes r
+isnt_fit limits schema bytes rule r (rest, single) is = unfit (rule_with rest (rule_view rule)) single (second_is None (fit_refusal schema (rule_view rule)) r refl is)
+
+pub is_fit : (limits : Limits) (schema : Schema) (bytes : List ℕ) (rule : Rule) → IsBare (IsSingleRule limits bytes) rule → fit_refusal schema (rule_view rule) ≡ None
+    → IsBare (IsRun limits (Some schema) bytes) rule
+is_fit limits schema bytes rule (rest, single) is = (rest, record { single = single; fits = none_is None (fit_refusal schema (rule_view rule)) refl is })
+
+-- the same of the schema that is made of it
+pub isnt_fit_alone : (limits : Limits) (bytes : List ℕ) (rule : Rule) (r : Refusal) → IsBare (IsSingleRule limits bytes) rule → schema_refusal (rule_view rule) ≡ None
+    → fit_refusal (inferred_schema (rule_view rule)) (rule_view rule) ≡ Some r → IsNotRun limits None bytes r
+isnt_fit_alone limits bytes rule r (rest, single) made is =
+    unfit (rule_with rest (rule_view rule)) single (second_is (schema_refusal (rule_view rule)) (fit_refusal (inferred_schema (rule_view rule)) (rule_view rule)) r made is)
+
+pub is_fit_alone : (limits : Limits) (bytes : List ℕ) (rule : Rule) → IsBare (IsSingleRule limits bytes) rule → schema_refusal (rule_view rule) ≡ None
+    → fit_refusal (inferred_schema (rule_view rule)) (rule_view rule) ≡ None → IsBare (IsRun limits None bytes) rule
+is_fit_alone limits bytes rule (rest, single) made is =
+    (rest, record { single = single; fits = none_is (schema_refusal (rule_view rule)) (fit_refusal (inferred_schema (rule_view rule)) (rule_view rule)) made is })

@@ -29,7 +29,10 @@ pub fn rule_under(
 ) -> Result<Rule, Fault>
     ensures { Answers (IsBare (IsRun limits.now (Some schema.now) bytes.now)) (IsNotRun limits.now (Some schema.now) bytes.now) result }
 {
-    let rule = read_single_rule(alloc, limits, bytes)?;
+    let rule = match read_single_rule(alloc, limits, bytes) {
+        Ok(rule) => rule,
+        Err(fault) => return Err(fault),
+    };
     match fit_schema(&rule, schema) {
         Err(unfit) => Err(Fault::Refused(unfit)),
         Ok(()) => Ok(rule),
@@ -41,8 +44,14 @@ pub fn rule_under(
 pub fn rule_alone(alloc: Global, limits: &Limits, bytes: &[u8]) -> Result<SchemedRule, Fault>
     ensures { Answers (λ found. IsBare (IsRun limits.now None bytes.now) found.rule × (found.schema ≡ inferred_schema (rule_view found.rule))) (IsNotRun limits.now None bytes.now) result }
 {
-    let rule = read_single_rule(alloc, limits, bytes)?;
-    let schema = infer_schema(alloc, &rule)?;
+    let rule = match read_single_rule(alloc, limits, bytes) {
+        Ok(rule) => rule,
+        Err(fault) => return Err(fault),
+    };
+    let schema = match infer_schema(alloc, &rule) {
+        Ok(schema) => schema,
+        Err(fault) => return Err(fault),
+    };
     match fit_inferred(&rule) {
         Err(unfit) => Err(Fault::Refused(unfit)),
         Ok(()) => Ok(SchemedRule { rule, schema }),

@@ -3,15 +3,17 @@
 ghost use Rattle.std.specs.Prelude.{◌≡◌, Ok, Err, IfOk, IfErr};
 ghost use Rattle.std.specs.List.{All};
 ghost use Rattle.rule_runs.specs.Files as spec;
+ghost use Rattle.sig_base.specs.declared.refusal.Detail.TheVariants as details;
 ghost use Rattle.yaml_documents.specs.Given.{IsPlain, answers_view};
-ghost use Rattle.yaml_tree.specs.View.{node_view, document_view};
+ghost use Rattle.yaml_tree.specs.Tree.{tree, refusal};
+ghost use Rattle.yaml_tree.specs.View.{node_view, document_view, place_view};
 
 use sig_base::{Code, Detail, Place, Refusal};
 use yaml_tree::{Document, Node, place_of};
 
 /// A refusal without a detail.
 fn refusal_at(code: Code, place: Place) -> Refusal
-    ensures { result ≡ record { code = code; place = place; detail = Detail.None } }
+    ensures { result ≡ record { code = code; place = place; detail = details.None } }
 {
     Refusal {
         code,
@@ -26,7 +28,7 @@ fn document_place(document: &Document) -> Place
 {
     match document {
         Document::Tree(node) => place_of(node),
-        Document::Refused(refusal) => refusal.place,
+        Document::Refused(cause) => cause.place,
     }
 }
 
@@ -34,11 +36,11 @@ fn document_place(document: &Document) -> Place
 fn tree_of(document: &Document) -> Result<&Node, Refusal>
     requires { IsPlain document.now }
     ensures ok { IfOk result (λ node. document_view document.now ≡ tree (node_view node.now)) }
-    ensures err { IfErr result (λ r. document_view document.now ≡ refusal (r.code, place_view r.place)) }
+    ensures err { IfErr result (λ r. (document_view document.now ≡ refusal (r.code, place_view r.place)) × (r.detail ≡ details.None)) }
 {
     match document {
         Document::Tree(node) => Ok(node),
-        Document::Refused(refusal) => Err(refusal_at(refusal.code, refusal.place)),
+        Document::Refused(cause) => Err(refusal_at(cause.code, cause.place)),
     }
 }
 
