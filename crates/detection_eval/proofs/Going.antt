@@ -1,9 +1,9 @@
--- Loops over lists, of which each or some element has to be so: the first one that decides ends them.
-use Rattle.std.proofs.Common.{◌≡◌, ◌↔◌, IsTrue, ℕ, zero, suc, ◌+◌, ◌<◌, ◌≤◌, Bool, true, false, List, [], ◌∷◌, length, get_or, drop, inr, refl, sym, ap, ◌∙◌, subst, arith}
+-- Loops over lists of which some element has to be so: the first one that is ends them.
+use Rattle.std.proofs.Common.{◌≡◌, ◌↔◌, IsTrue, ℕ, zero, suc, ◌+◌, ◌<◌, Bool, true, false, List, [], ◌∷◌, length, get_or, drop, inr, refl, sym, ap, ◌∙◌, subst, arith}
 use Rattle.std.proofs.lemmas.Bool.{false≢true}
-use Rattle.std.proofs.lemmas.List.{drop_all, drop_more}
-use Rattle.event_schema.proofs.ListLemmas.{some_here, some_later, none_left}
-use Rattle.event_schema.specs.Lists.{EachOf, SomeOf}
+use Rattle.std.proofs.lemmas.List.{drop_more}
+use Rattle.event_schema.proofs.ListLemmas.{some_here, some_later}
+use Rattle.event_schema.specs.Lists.{SomeOf}
 
 -- what stands at an index is read with any default
 read_same : {A : Type 0} (xs : List A) (i : ℕ) (d e : A) → i < length xs → get_or xs i d ≡ get_or xs i e
@@ -28,22 +28,3 @@ module _ {A : Type 0} (P : A → Type 0) (xs : List A) (i : ℕ) where
       (λ later. all.0 (subst (SomeOf P) (sym left_is) (inr later))),
       (λ some. some_later P xs i x within is (λ p. false≢true (sym e ∙ test.1 p)) (all.1 some)),
     )
-
-    -- an element that isn't so decides, and one that is leaves it to the others
-    pub each_stops : {b : Bool} → b ≡ false → (IsTrue b ↔ P x) → EachOf P (drop i xs) ↔ EachOf P xs → IsTrue false ↔ EachOf P xs
-    each_stops e test all = (
-      (λ never. absurd (false≢true never)),
-      (λ each. let now : P x × EachOf P (drop (i + 1) xs) = subst (EachOf P) left_is (all.1 each) in sym e ∙ test.1 now.0),
-    )
-
-    pub each_goes : {b : Bool} → b ≡ true → (IsTrue b ↔ P x) → EachOf P (drop i xs) ↔ EachOf P xs → EachOf P (drop (i + 1) xs) ↔ EachOf P xs
-    each_goes e test all = (
-      (λ others. all.0 (subst (EachOf P) (sym left_is) (test.0 e, others))),
-      (λ each. let now : P x × EachOf P (drop (i + 1) xs) = subst (EachOf P) left_is (all.1 each) in now.1),
-    )
-
-  pub some_ends : length xs ≤ i → SomeOf P (drop i xs) ↔ SomeOf P xs → IsTrue false ↔ SomeOf P xs
-  some_ends past all = ((λ never. absurd (false≢true never)), (λ some. absurd (none_left P xs i past (all.1 some))))
-
-  pub each_ends : length xs ≤ i → EachOf P (drop i xs) ↔ EachOf P xs → IsTrue true ↔ EachOf P xs
-  each_ends past all = ((λ yes. all.0 (subst (EachOf P) (sym (drop_all i xs past)) tt)), (λ each. refl))

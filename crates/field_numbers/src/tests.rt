@@ -47,7 +47,7 @@ fn names_have_numbers(rt: HostRuntime) -> Result<(), Fail> {
             name.as_str()
         );
     }
-    assert!(rt; numbers.searched() == [1, 3]);
+    assert!(rt; numbers.searched() == [1, 3].as_slice());
     Ok(())
 }
 
@@ -72,6 +72,6 @@ fn more_than_a_few_are_indexed(rt: HostRuntime) -> Result<(), Fail> {
             name.as_str()
         );
     }
-    assert!(rt; numbers.searched() == [33]);
+    assert!(rt; numbers.searched() == [33].as_slice());
     Ok(())
 }

@@ -9,9 +9,9 @@ ghost use Rattle.sig_conditions.specs.Formulas.{form_view, forms_view, forms_of,
 
 use crate::joining::{add_part, close_parts};
 use crate::lowering::lower_numbered;
-use field_numbers::FieldNumbers;
 use backend_core::Tree;
 use event_schema::Field;
+use field_numbers::FieldNumbers;
 use rule_items::Detection;
 use sig_base::Fault;
 use sig_conditions::Formula;

@@ -11,12 +11,12 @@ ghost use Rattle.rule_lowering.specs.TreeOf as spec;
 ghost use Rattle.rule_items.specs.declared.item.Fields.TheVariants.{Keyword, Names};
 ghost use Rattle.sig_modifiers.specs.declared.modifier.Joined.TheVariants.{Any};
 
+use crate::field_kind::kind_of;
 use crate::joining::{add_part, close_parts};
 use crate::leaf_tests::leaf_test;
-use crate::field_kind::kind_of;
-use field_numbers::FieldNumbers;
 use backend_core::{Leaf, LeafTest, Tree};
 use event_schema::{Field, FieldKind};
+use field_numbers::FieldNumbers;
 use rule_items::{Detection, Fields, Item};
 use sig_base::{Fault, Place, Text};
 use sig_modifiers::{Joined, Test, Tests};

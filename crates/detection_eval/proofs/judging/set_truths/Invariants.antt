@@ -1,4 +1,4 @@
-use Rattle.std.proofs.Common.{◌≡◌, length, take}
+use Rattle.std.proofs.Common.{take}
 use Rattle.detection_eval.specs.Ready.{AreTruths}
 use Rattle.detection_eval.proofs.judging.set_truths.Given as goal
 
