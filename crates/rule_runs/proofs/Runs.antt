@@ -198,9 +198,6 @@ first_is a b r is = rw is refl
 second_is : (a b : Option Refusal) (r : Refusal) → a ≡ None → b ≡ Some r → first (a ∷ b ∷ []) ≡ Some r
 second_is a b r none is = rw (none, is) refl
 
-none_is : (a b : Option Refusal) → a ≡ None → b ≡ None → first (a ∷ b ∷ []) ≡ None
-none_is a b none none_too = rw (none, none_too) refl
-
 -- no schema is made of the rule
 pub isnt_made : {X Y : Type 0} (limits : Limits) (bytes : List ℕ) (rule : Rule) (P : X → Type 0) (Q : Y → Type 0) (fault : Fault) → IsBare (IsSingleRule limits bytes) rule
     → Judged {X = X} P (schema_refusal (rule_view rule)) (Err fault) → Answers {X = Y} Q (IsNotRun limits None bytes) (Err fault)
@@ -208,22 +205,13 @@ isnt_made limits bytes rule P Q Memory single judged = tt
 isnt_made limits bytes rule P Q (Refused r) (rest, single) is =
     unfit (rule_with rest (rule_view rule)) single (first_is (schema_refusal (rule_view rule)) (fit_refusal (inferred_schema (rule_view rule)) (rule_view rule)) r is)
 
--- the rule doesn't fit the given schema, or it does
+-- the rule doesn't fit the given schema
 pub isnt_fit : (limits : Limits) (schema : Schema) (bytes : List ℕ) (rule : Rule) (r : Refusal) → IsBare (IsSingleRule limits bytes) rule → fit_refusal schema (rule_view rule) ≡ Some r
     → IsNotRun limits (Some schema) bytes r
 isnt_fit limits schema bytes rule r (rest, single) is = unfit (rule_with rest (rule_view rule)) single (second_is None (fit_refusal schema (rule_view rule)) r refl is)
-
-pub is_fit : (limits : Limits) (schema : Schema) (bytes : List ℕ) (rule : Rule) → IsBare (IsSingleRule limits bytes) rule → fit_refusal schema (rule_view rule) ≡ None
-    → IsBare (IsRun limits (Some schema) bytes) rule
-is_fit limits schema bytes rule (rest, single) is = (rest, record { single = single; fits = none_is None (fit_refusal schema (rule_view rule)) refl is })
 
 -- the same of the schema that is made of it
 pub isnt_fit_alone : (limits : Limits) (bytes : List ℕ) (rule : Rule) (r : Refusal) → IsBare (IsSingleRule limits bytes) rule → schema_refusal (rule_view rule) ≡ None
     → fit_refusal (inferred_schema (rule_view rule)) (rule_view rule) ≡ Some r → IsNotRun limits None bytes r
 isnt_fit_alone limits bytes rule r (rest, single) made is =
     unfit (rule_with rest (rule_view rule)) single (second_is (schema_refusal (rule_view rule)) (fit_refusal (inferred_schema (rule_view rule)) (rule_view rule)) r made is)
-
-pub is_fit_alone : (limits : Limits) (bytes : List ℕ) (rule : Rule) → IsBare (IsSingleRule limits bytes) rule → schema_refusal (rule_view rule) ≡ None
-    → fit_refusal (inferred_schema (rule_view rule)) (rule_view rule) ≡ None → IsBare (IsRun limits None bytes) rule
-is_fit_alone limits bytes rule (rest, single) made is =
-    (rest, record { single = single; fits = none_is (schema_refusal (rule_view rule)) (fit_refusal (inferred_schema (rule_view rule)) (rule_view rule)) made is })

@@ -9,12 +9,13 @@ use Rattle.answer_parts.specs.Stands.{Writes}
 use Rattle.answer_parts.specs.State.{State}
 use Rattle.answer_parts.specs.declared.stop.Stop.{Stop}
 use Rattle.answer_parts.specs.declared.stop.Stop.TheVariants.{Memory}
+use Rattle.rule_runs.specs.Files.{yaml_refusal}
 use Rattle.sig_base.specs.declared.limits.Limits.{Limits}
 use Rattle.sig_base.specs.declared.refusal.Detail.TheVariants as details
 use Rattle.sig_base.specs.declared.refusal.Refusal.{Refusal}
 use Rattle.sigma_app.specs.Laws.{EachTree, EachDocument, EachFile, OneTree, OneDocument, OneFile}
 use Rattle.sigma_app.specs.Reports.{refusal_share}
-use Rattle.sigma_app.specs.RuleFiles.{ByTree, yaml_refusal, DocumentGives, FileGives, as_one, by_document}
+use Rattle.sigma_app.specs.RuleFiles.{ByTree, DocumentGives, FileGives, as_one, by_document}
 use Rattle.yaml_documents.specs.Verdicts as yaml
 use Rattle.yaml_files.specs.Call.{IsCallRefusal, IsTaken}
 use Rattle.yaml_tree.specs.Tree.{At, Answer, tree, refusal}

@@ -12,6 +12,7 @@ use Rattle.event_schema.specs.declared.schema.Schema.{Schema}
 use Rattle.rule_model.specs.Plain.{PlainRule}
 use Rattle.rule_queries.specs.Queries.{query_of, Converts}
 use Rattle.rule_queries.specs.Verdicts.{IsConverted}
+use Rattle.rule_runs.specs.Files.{file_start}
 use Rattle.sig_base.specs.Judged.{refusal as refused_at}
 use Rattle.sig_base.specs.declared.limits.Limits.{Limits}
 use Rattle.sigma_app.proofs.Documented.{each_document, each_file, one_document, one_file}

@@ -23,6 +23,7 @@ use Rattle.sig_base.specs.declared.limits.Limits.{Limits}
 use Rattle.sig_base.specs.declared.refusal.Fault.TheVariants.{Refused}
 use Rattle.sig_base.specs.declared.refusal.Place.{Place}
 use Rattle.sig_base.specs.declared.refusal.Refusal.{Refusal}
+use Rattle.sigma_app.specs.Answers.{names_with}
 use Rattle.sigma_app.specs.Laws.{EachUnder}
 use Rattle.sigma_app.specs.Reports.{refusal_share}
 use Rattle.sigma_app.specs.RuleFiles.{contents}
@@ -132,6 +133,8 @@ module _ (by : BySchema) (limits : Limits) (name : List ℕ) (names : List (List
         (λ world told ps other. under name refl given (told_is world (told.files name first_there) ∙ answered_ok file_start (schema_of limits bytes) given answers) ps other refl) e
 
 -- no schema is named
-pub none_named : (by : BySchema) (limits : Limits) (needs : Needs) (result : Result Bool Stop) (old new : State)
-    → Ends needs (by None) result old new → Ends needs (UnderSchema by limits None) result old new
-none_named by limits needs result old new e = ends_as needs (by None) (UnderSchema by limits None) result old new (λ w ps other. without refl other) e
+pub none_named : (by : BySchema) (limits : Limits) (schema : Option (List ℕ)) (names : List (List ℕ)) (events : Bool) (result : Result Bool Stop) (old new : State) → schema ≡ None
+    → Ends (record { names = names; events = events }) (by None) result old new → Ends (record { names = names_with schema names; events = events }) (UnderSchema by limits schema) result old new
+none_named by limits None names events result old new is e =
+    ends_as (record { names = names; events = events }) (by None) (UnderSchema by limits None) result old new (λ w ps other. without refl other) e
+none_named by limits (Some name) names events result old new is e = absurd cc

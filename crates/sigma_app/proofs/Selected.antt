@@ -1,6 +1,6 @@
 -- That each line of events is answered in one way by a rule that is run.
 use Rattle.std.proofs.Common.{◌≡◌, ℕ, List, refl, ap, sym, ◌∙◌, subst, Result, Ok, Err, inl, inr}
-use Rattle.std.specs.Prelude.{◌⊎◌, Bool}
+use Rattle.std.specs.Prelude.{◌⊎◌, ◌↔◌, IsTrue, Bool, true, false}
 use Rattle.answer_parts.proofs.Wrote.{writes_as}
 use Rattle.answer_parts.specs.EventLines.{EachLine, line_refused}
 use Rattle.answer_parts.specs.Parts.{Share, no_share}
@@ -21,7 +21,7 @@ use Rattle.sig_base.specs.declared.refusal.Refusal.{Refusal}
 use Rattle.sigma_app.specs.Laws.{EachSelected}
 use Rattle.sigma_app.specs.Ran.{RunGives}
 use Rattle.sigma_app.specs.Reports.{line_share}
-use Rattle.sigma_app.specs.Selected.{Picking, EventGives, Selects}
+use Rattle.sigma_app.specs.Selected.{Picking, picked_share, EventGives, Selects}
 
 -- an event is picked, or it isn't
 abbrev pub IsDecided : Picking → Type 0
@@ -61,6 +61,15 @@ every_one schema rule = one_selected schema (λ row. Matches schema.fields row r
 
 -- ---- what is left of a line
 
+-- what an event gives by whether it's picked
+picked_is : (Picks : Picking) (number : ℕ) (line : List ℕ) (event : Occurrence) (picked : Bool) (share : Share) → IsTrue picked ↔ Picks event.values → share ≡ picked_share picked line
+    → EventGives Picks number line (Ok event) share
+picked_is Picks number line event true share iff is = inl (iff.0 refl, is)
+picked_is Picks number line event false share iff is = inr ((λ picks. not_true (iff.1 picks)), is)
+  where
+    not_true : false ≡ true → ⊥
+    not_true same = cc
+
 -- a reader's answer tells what the line is
 event_answered : (place : Place) (t : Result Occurrence ℕ) (event : Occurrence) → Answers place t (Ok event) → t ≡ Ok event
 event_answered place (Ok x) event a = ap (λ (y : Occurrence). Ok y) (sym a)
@@ -71,11 +80,13 @@ event_refused place (Ok x) r a = absurd a
 event_refused place (Err code) r a = (code, refl, ap (λ (x : Refusal). x.code) a)
 
 module _ (schema : Schema) (Picks : Picking) (number : ℕ) (line : List ℕ) (place : Place) (result : Result Bool Stop) (old new : State) where
-  -- the line is an event, which was answered
-  pub event_gives : (event : Occurrence) → Answers place (event_of schema line) (Ok event) → Writes (EventGives Picks number line (Ok event)) result old new
-      → Writes (Selects schema Picks number line) result old new
-  event_gives event answers wrote =
-      subst (λ (t : Result Occurrence ℕ). Writes (EventGives Picks number line t) result old new) (sym (event_answered place (event_of schema line) event answers)) wrote
+  -- the line is an event, which is picked or isn't
+  pub event_gives : (event : Occurrence) (picked : Bool) → Answers place (event_of schema line) (Ok event) → IsTrue picked ↔ Picks event.values
+      → Writes (λ share. share ≡ picked_share picked line) result old new → Writes (Selects schema Picks number line) result old new
+  event_gives event picked answers iff wrote =
+      subst (λ (t : Result Occurrence ℕ). Writes (EventGives Picks number line t) result old new) (sym (event_answered place (event_of schema line) event answers))
+      (writes_as (λ share. share ≡ picked_share picked line) (EventGives Picks number line (Ok event)) result old new
+      (λ share is. picked_is Picks number line event picked share iff is) wrote)
 
   -- the line is no event, and was refused
   pub refused_gives : (r : Refusal) → Answers {X = Occurrence} place (event_of schema line) (Err (Refused r)) → Writes (λ share. share ≡ line_refused number r.code) result old new

@@ -1,5 +1,5 @@
 -- What a line of events is answered by a command that selects events.
-use Rattle.std.specs.Prelude.{◌≡◌, ◌⊎◌, ℕ, List, Result, Ok, Err}
+use Rattle.std.specs.Prelude.{◌≡◌, ◌⊎◌, ℕ, Bool, true, false, List, Result, Ok, Err}
 use Rattle.answer_parts.specs.EventLines.{ByLine, line_refused}
 use Rattle.answer_parts.specs.Parts.{Share, no_share}
 use Rattle.event_reading.specs.EventOf.{event_of}
@@ -11,6 +11,11 @@ use Rattle.sigma_app.specs.Reports.{line_share}
 -- which events are picked, by their values in the fields' order
 abbrev pub Picking : Type 1
 Picking = List (List Value) → Type 0
+
+-- what an event's line gives, by whether the event is picked: the line as it was read, or nothing
+abbrev pub picked_share : Bool → List ℕ → Share
+picked_share true line = line_share line
+picked_share false line = no_share
 
 -- An event that is picked is written as its line was read, and another one isn't. A line that is no event of the schema is refused.
 abbrev pub EventGives : Picking → ℕ → List ℕ → Result Occurrence ℕ → Share → Type 0

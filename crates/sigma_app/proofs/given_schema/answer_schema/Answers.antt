@@ -4,5 +4,5 @@ use Rattle.sigma_app.proofs.given_schema.answer_schema.Goals as goal
 pub returns-in-None : goal.returns-in-None
 returns-in-None g c =
     let command = c.args.command.now in
-    none_named (g.T.SchemaCommand.by command) c.args.limits.now (record { names = g.T.SchemaCommand.names command; events = g.T.SchemaCommand.events command }) c.answer.result
-    (g.W.Outside.state c.args.outside.now) (g.W.Outside.state c.answer.new.outside) c.answer.ensures
+    none_named (g.T.SchemaCommand.by command) c.args.limits.now c.args.schema.now (g.T.SchemaCommand.names command) (g.T.SchemaCommand.events command) c.answer.result
+    (g.W.Outside.state c.args.outside.now) (g.W.Outside.state c.answer.new.outside) c.in-None.is c.answer.ensures

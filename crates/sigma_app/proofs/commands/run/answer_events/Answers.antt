@@ -1,0 +1,13 @@
+use Rattle.std.specs.Prelude.{[], true}
+use Rattle.answer_parts.proofs.Ending.{ends_memory}
+use Rattle.answer_parts.proofs.Lined.{each_answer}
+use Rattle.answer_parts.specs.EventLines.{EventLines}
+use Rattle.rule_model.specs.Plain.{rule_view}
+use Rattle.sigma_app.specs.Ran.{RunGives}
+use Rattle.sigma_app.proofs.commands.run.answer_events.Goals as goal
+
+pub returns : goal.returns
+returns g c =
+    let gives = RunGives c.args.schema.now (rule_view c.args.rule.now) in
+    ends_memory (record { names = []; events = true }) (EventLines gives c.args.limits.now) (g.W.Outside.state c.args.outside.now)
+    (each_answer gives c.args.limits.now (c.each_answer.ensures.selected c.args.schema.now (rule_view c.args.rule.now)))
