@@ -1,5 +1,5 @@
 -- A file's first bytes, up to one past the limit, are run as the file is.
-use Rattle.std.proofs.Common.{◌≡◌, ℕ, ◌+◌, ◌<◌, List, length, take, subst, arith, Option, inl, inr}
+use Rattle.std.proofs.Common.{ℕ, ◌+◌, ◌<◌, List, length, take, subst, arith, Option, inl, inr}
 use Rattle.std.proofs.lemmas.Bool.{cases_lt}
 use Rattle.std.proofs.lemmas.List.{take_all, length-take-le}
 use Rattle.event_schema.specs.declared.schema.Schema.{Schema}

@@ -7,7 +7,7 @@ use Rattle.rule_model.specs.Rules.{lone_refusal, IsLoneRule, IsRule}
 use Rattle.rule_model.specs.declared.rule.Rule.{Rule}
 use Rattle.rule_runs.specs.Answers.{Answers, IsBare}
 use Rattle.rule_runs.specs.Files.{yaml_refusal, single_tree}
-use Rattle.rule_runs.specs.Laws.{EachRun, NeverBoth, OneRun, OneCause}
+use Rattle.rule_runs.specs.Laws.{EachRun}
 use Rattle.rule_runs.specs.Runs.{AreDocuments, IsOnly, IsNoneOnly, no_tree, no_rule, IsSingleRule, IsNoSingleRule, as_one, by_document, IsRun, IsNotRun, no_single, unfit}
 use Rattle.rule_schema.specs.Inferred.{unfit_refusal, schema_refusal, fit_refusal, inferred_schema}
 use Rattle.sig_base.specs.declared.limits.Limits.{Limits}

@@ -1,5 +1,5 @@
 -- The laws of the answers.
-use Rattle.std.proofs.Common.{◌≡◌, ℕ, List, [], ◌∷◌, refl, ap, sym, ◌∙◌, subst, Option, None, Some, Result, Ok, Err}
+use Rattle.std.proofs.Common.{◌≡◌, ℕ, List, [], ◌∷◌, ap, sym, ◌∙◌, subst, Option, None, Some, Result, Ok, Err}
 use Rattle.std.specs.Prelude.{IfSome}
 use Rattle.std.specs.List.{AllByRecursion}
 use Rattle.answer_parts.proofs.Rows.{each_parts, parts_one}
@@ -21,8 +21,8 @@ use Rattle.sigma_app.proofs.Judged.{each_checks, each_converts, one_checks, one_
 use Rattle.sigma_app.proofs.Schemed.{each_schema}
 use Rattle.sigma_app.specs.Check.{CheckGives}
 use Rattle.sigma_app.specs.Convert.{ConvertGives, has_query, no_query, ConvertMeans, means_rule, means_none}
-use Rattle.sigma_app.specs.Converted.{Converted, RulesBy}
-use Rattle.sigma_app.specs.Laws.{EachDocument, EachFile, EachUnder, EachAnswer, EachConverted, EachRan, OneDocument, OneFile, OneUnder, OneAnswer, OfBoth, EachRule, OneRule, EachLone, OneLone, QueriesMean, AnswersMean}
+use Rattle.sigma_app.specs.Converted.{RulesBy}
+use Rattle.sigma_app.specs.Laws.{EachDocument, EachFile, EachAnswer, EachConverted, EachRan, OneDocument, OneFile, OneUnder, OneAnswer, OfBoth, EachRule, OneRule, EachLone, OneLone, QueriesMean, AnswersMean}
 use Rattle.sigma_app.specs.Reports.{refusal_share}
 use Rattle.sigma_app.specs.Ran.{RanUnder}
 use Rattle.sigma_app.specs.RuleFiles.{DocumentGives, as_one, by_document, RuleFile, contents}

@@ -1,5 +1,5 @@
 -- What running the rule of a file leaves, and that there is exactly one answer.
-use Rattle.std.proofs.Common.{◌≡◌, ℕ, suc, ◌+◌, ◌<◌, Bool, true, false, List, [], ◌∷◌, length, take, refl, ap, sym, ◌∙◌, subst, arith, Option, Some, None, Result, Ok, Err, inl, inr}
+use Rattle.std.proofs.Common.{◌≡◌, ℕ, ◌+◌, Bool, true, List, [], ◌∷◌, take, refl, ap, sym, ◌∙◌, subst, arith, Option, Some, None, Result, Err, inl, inr}
 use Rattle.std.specs.Prelude.{◌⊎◌, MatchOption, unwrap_or, Contains}
 use Rattle.answer_parts.proofs.Behind.{ends_behind}
 use Rattle.answer_parts.proofs.Ending.{ends_written}
@@ -7,7 +7,7 @@ use Rattle.answer_parts.proofs.Lined.{each_answer, lines_one}
 use Rattle.answer_parts.proofs.Shares.{cut_nothing}
 use Rattle.answer_parts.proofs.Unread.{Begins, ends_unread}
 use Rattle.answer_parts.specs.EventLines.{ByLine, EventLines}
-use Rattle.answer_parts.specs.Input.{Input, World, Needs, File, Events, IsTold}
+use Rattle.answer_parts.specs.Input.{World, Needs, File}
 use Rattle.answer_parts.specs.Parts.{Share, Part, share_of, no_share}
 use Rattle.answer_parts.specs.Stands.{Writes, Ends, StopsBefore}
 use Rattle.answer_parts.specs.State.{State}

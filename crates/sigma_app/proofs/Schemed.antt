@@ -1,5 +1,5 @@
 -- What answering a command leaves that a schema's file may be named for, where one is named and where none is.
-use Rattle.std.proofs.Common.{◌≡◌, ℕ, suc, ◌+◌, ◌<◌, Bool, true, false, List, [], ◌∷◌, length, take, refl, ap, sym, ◌∙◌, subst, arith, Option, Some, None, Result, Ok, Err, inl, inr}
+use Rattle.std.proofs.Common.{◌≡◌, ℕ, suc, ◌+◌, ◌<◌, Bool, List, [], ◌∷◌, length, take, refl, ap, sym, ◌∙◌, subst, arith, Option, Some, None, Result, Ok, Err, inl, inr}
 use Rattle.std.specs.Prelude.{MatchOption, unwrap_or, Contains}
 use Rattle.std.proofs.lemmas.Bool.{cases_lt, lt-ltb}
 use Rattle.std.proofs.lemmas.List.{take_all, length-take-le}
@@ -7,7 +7,7 @@ use Rattle.answer_parts.proofs.Behind.{ends_behind}
 use Rattle.answer_parts.proofs.Ending.{ends_as, ends_written}
 use Rattle.answer_parts.proofs.Shares.{cut_nothing}
 use Rattle.answer_parts.proofs.Unread.{Begins, ends_unread}
-use Rattle.answer_parts.specs.Input.{World, Needs, File, IsTold}
+use Rattle.answer_parts.specs.Input.{World, Needs, File}
 use Rattle.answer_parts.specs.Parts.{Share, Part, share_of, no_share}
 use Rattle.answer_parts.specs.Stands.{Writes, Ends, StopsBefore}
 use Rattle.answer_parts.specs.State.{State}

@@ -98,7 +98,7 @@ fn refuses_what_is_not_run(rt: HostRuntime) -> Result<(), Fail> {
     let cases: [(&str, &str); 7] = [
         (FOUR, "r.yml:4:1: 84 NotOneRule\n"),
         ("# none\n", "r.yml:1:1: 84 NotOneRule\n"),
-        ("a: \"b\n", "r.yml:1:4: 4 Syntax\n"),
+        ("a: \"b\n", "r.yml:1:1: 4 Syntax\n"),
         ("a: b\n---\na: b\n", "r.yml:3:1: 84 NotOneRule\n"),
         (
             "title: T\ncorrelation:\n  type: event_count\n",

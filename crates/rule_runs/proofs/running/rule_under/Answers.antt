@@ -1,5 +1,4 @@
 use Rattle.std.specs.Prelude.{Some}
-use Rattle.rule_model.specs.declared.rule.Rule.{Rule}
 use Rattle.rule_runs.proofs.Runs.{isnt_single, isnt_fit}
 use Rattle.rule_runs.specs.Answers.{IsBare}
 use Rattle.rule_runs.specs.Runs.{IsSingleRule, IsRun}
