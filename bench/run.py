@@ -15,7 +15,6 @@ import json
 import math
 import os
 import random
-import resource
 import shutil
 import sqlite3
 import subprocess
@@ -68,15 +67,28 @@ for row in table.execute({query!r}):
 """
 
 
+def peak_of(child):
+    """The peak of a child's memory in KiB, looked at until it ends; a child that ends at once has none."""
+    peak = 0
+    while child.poll() is None:
+        try:
+            with open(f"/proc/{child.pid}/status", encoding="ascii") as file:
+                peak = max([peak] + [int(line.split()[1]) for line in file if line.startswith("VmHWM")])
+        except (FileNotFoundError, ProcessLookupError):
+            break
+        time.sleep(0.005)
+    return peak
+
+
 def spent(words, path, out):
     """The seconds of the clock, and the peak of memory in KiB, of a child that reads the file."""
     with open(path, "rb") as source, open(out, "wb") as sink:
         start = time.monotonic()
         child = subprocess.Popen(words, stdin=source, stdout=sink)
-        _, status, usage = os.wait4(child.pid, 0)
-        if status:
-            sys.exit(f"{words[0]} ended with {status}")
-        return time.monotonic() - start, usage.ru_maxrss
+        peak = peak_of(child)
+        if child.wait():
+            sys.exit(f"{words[0]} ended with {child.returncode}")
+        return time.monotonic() - start, peak
 
 
 def main():
@@ -91,9 +103,9 @@ def main():
         with open(rule, "w", encoding="utf-8", newline="") as file:
             file.write(RULE)
         rng = random.Random(1)
-        with open(path, "w", encoding="utf-8", newline="\\n") as file:
+        with open(path, "w", encoding="utf-8", newline="\n") as file:
             for number in range(told.events):
-                file.write(json.dumps(event(rng, number), separators=(",", ":")) + "\\n")
+                file.write(json.dumps(event(rng, number), separators=(",", ":")) + "\n")
         with open(path, "rb") as file, open(few, "wb") as front:
             for _ in range(told.events // 10):
                 front.write(file.readline())
