@@ -27,7 +27,7 @@ pub(super) const FOUR_LINES: &str =
 #[derive(Clone, Copy)]
 pub(super) struct World<'a> {
     pub(super) files: &'a [(&'a str, &'a [u8])],
-    pub(super) events: &'a str,
+    pub(super) events: &'static str,
     pub(super) shelf: u64,
     pub(super) unread: u64,
     pub(super) out: u64,

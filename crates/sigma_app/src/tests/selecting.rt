@@ -13,11 +13,19 @@ const RULE: &str =
 
 const IMAGE: &str = "{\"fields\":[{\"name\":\"Image\",\"kind\":\"text\"}]}";
 
+const NESTED: &str = "{\"fields\":[{\"name\":\"Image\",\"kind\":\"text\",\"at\":[\"p\",\"i\"]}]}";
+
+/// Three lines of which the second is no event and the last has no line feed.
+const THREE: &str = "{\"Image\":\"CMD.EXE\"}\n7\n{\"Image\":\"cmd.exe\"}";
+
+/// Two lines that are selected.
+const TWO: &str = "{\"Image\":\"CMD.EXE\"}\n{\"Image\":\"cmd.exe\"}\n";
+
 const EVENTS: &str =
     "{\"Image\":\"CMD.EXE\"}\n{\"Image\":\n{\"Image\":9223372036854775808}\n{\"Image\":\"a\\u0000\"}\n{\"Image\":\"x\"}\n";
 
 /// Runs the rule `r.yml` over events.
-fn run_rule(alloc: Global, limits: &Limits, rule: &str, events: &str) -> Result<Ran, Fail> {
+fn run_rule(alloc: Global, limits: &Limits, rule: &str, events: &'static str) -> Result<Ran, Fail> {
     let files: [(&str, &[u8]); 1] = [("r.yml", rule.as_bytes())];
     let mut world = still(&files);
     world.events = events;
@@ -27,7 +35,7 @@ fn run_rule(alloc: Global, limits: &Limits, rule: &str, events: &str) -> Result<
 /// A value that is empty, no value, and a rule that asks for none; texts without regard to case; no value under `not`.
 #[test]
 fn selects_events(rt: HostRuntime) -> Result<(), Fail> {
-    let cases: [(&str, &str, &str); 5] = [
+    let cases: [(&'static str, &'static str, &'static str); 5] = [
         (
             "Field: ''\n  condition: selection",
             "{\"Field\":\"\"}\n{\"Field\":null}\n{}\n",
@@ -121,11 +129,19 @@ fn refuses_what_is_not_run(rt: HostRuntime) -> Result<(), Fail> {
     Ok(())
 }
 
+/// Runs the rule over events under this schema.
+fn run_under(alloc: Global, schema: &str, events: &'static str) -> Result<Ran, Fail> {
+    let files: [(&str, &[u8]); 2] = [("s.json", schema.as_bytes()), ("r.yml", RULE.as_bytes())];
+    let mut world = still(&files);
+    world.events = events;
+    let words = ["run", "--schema", "s.json", "r.yml"];
+    run_over(alloc, &words, &Limits::standard(), world)
+}
+
 /// The events are read through the schema that is named.
 #[test]
 fn runs_under_a_schema(rt: HostRuntime) -> Result<(), Fail> {
-    let whole = "{\"fields\":[{\"name\":\"Image\",\"kind\":\"text\",\"at\":[\"p\",\"i\"]}]}";
-    let cases: [(&str, &str, u8, &str, &str); 4] = [
+    let cases: [(&'static str, &'static str, u8, &'static str, &'static str); 4] = [
         (
             IMAGE,
             "{\"Image\":\"CMD.EXE\"}\n{}\n{\"Image\":\"x\"}\n{\"Image\":\"cmd.exe\"}\n",
@@ -134,7 +150,7 @@ fn runs_under_a_schema(rt: HostRuntime) -> Result<(), Fail> {
             "",
         ),
         (
-            whole,
+            NESTED,
             "{\"Image\":\"cmd.exe\"}\n{\"p\":{\"i\":\"cmd.exe\"}}\n",
             0,
             "{\"p\":{\"i\":\"cmd.exe\"}}\n",
@@ -150,21 +166,24 @@ fn runs_under_a_schema(rt: HostRuntime) -> Result<(), Fail> {
         ("{", "{}\n", 1, "", "s.json:1:1: 20 SchemaJson\n"),
     ];
     for (schema, events, code, out, err) in cases {
-        let files: [(&str, &[u8]); 2] = [("s.json", schema.as_bytes()), ("r.yml", RULE.as_bytes())];
-        let mut world = still(&files);
-        world.events = events;
-        let words = ["run", "--schema", "s.json", "r.yml"];
-        let run = run_over(rt.alloc(), &words, &Limits::standard(), world)?;
-        check(&rt, &run, code, out, err);
+        check(&rt, &run_under(rt.alloc(), schema, events)?, code, out, err);
     }
     Ok(())
 }
 
-/// Each read of the events fails in turn, in pieces of 8 bytes: what stands belongs to the lines whose line feed had come.
+/// Runs the rule over the three lines in pieces of 8 bytes; this read of them fails (0: none).
+fn run_three(alloc: Global, unread: u64) -> Result<Ran, Fail> {
+    let files: [(&str, &[u8]); 1] = [("r.yml", RULE.as_bytes())];
+    let mut world = still(&files);
+    world.events = THREE;
+    world.read = 8;
+    world.unread = unread;
+    run_over(alloc, &["run", "r.yml"], &Limits::standard(), world)
+}
+
+/// Some read of the events fails: what stands belongs to the lines whose line feed had come.
 #[test]
 fn stands_before_a_read_that_fails(rt: HostRuntime) -> Result<(), Fail> {
-    let files: [(&str, &[u8]); 1] = [("r.yml", RULE.as_bytes())];
-    let events = "{\"Image\":\"CMD.EXE\"}\n7\n{\"Image\":\"cmd.exe\"}";
     let cases: [(u64, u8, &str, &str); 7] = [
         (1, 3, "", "sigma: cannot read events\n"),
         (3, 3, "", "sigma: cannot read events\n"),
@@ -200,28 +219,27 @@ fn stands_before_a_read_that_fails(rt: HostRuntime) -> Result<(), Fail> {
         ),
     ];
     for (unread, code, out, err) in cases {
-        let mut world = still(&files);
-        world.events = events;
-        world.read = 8;
-        world.unread = unread;
-        let run = run_over(rt.alloc(), &["run", "r.yml"], &Limits::standard(), world)?;
-        check(&rt, &run, code, out, err);
+        check(&rt, &run_three(rt.alloc(), unread)?, code, out, err);
     }
     Ok(())
+}
+
+/// Runs the rule over the two lines with writes of 10 bytes; this write of the output fails.
+fn run_two(alloc: Global, call: u64) -> Result<Ran, Fail> {
+    let files: [(&str, &[u8]); 1] = [("r.yml", RULE.as_bytes())];
+    let mut world = still(&files);
+    world.events = TWO;
+    world.piece = 10;
+    world.out = call;
+    run_over(alloc, &["run", "r.yml"], &Limits::standard(), world)
 }
 
 /// A write that fails ends the run: what stands is a front.
 #[test]
 fn stands_before_a_write_that_fails(rt: HostRuntime) -> Result<(), Fail> {
-    let files: [(&str, &[u8]); 1] = [("r.yml", RULE.as_bytes())];
-    let out = "{\"Image\":\"CMD.EXE\"}\n{\"Image\":\"cmd.exe\"}\n";
     for (call, kept) in [(1, 0), (2, 10), (3, 20), (4, 30)] {
-        let mut world = still(&files);
-        world.events = out;
-        world.piece = 10;
-        world.out = call;
-        let run = run_over(rt.alloc(), &["run", "r.yml"], &Limits::standard(), world)?;
-        assert_eq!(rt; run.out.as_slice(), front(out, kept));
+        let run = run_two(rt.alloc(), call)?;
+        assert_eq!(rt; run.out.as_slice(), front(TWO, kept));
         assert_eq!(rt; run.status.code(), 4);
     }
     Ok(())
