@@ -24,7 +24,7 @@ fn copy_names(alloc: Global, entries: &[Entry]) -> Result<Texts, Fault>
     ensures ok { IfOk result (λ names. names ≡ map (λ e. e.key) (filter (λ e. not (is_key (codes "condition") e)) (entries_view entries.now))) }
     ensures err { IfErr result (λ e. e ≡ Fault.Memory) }
 {
-    let mut names = Texts::new(alloc);
+    let mut names = Texts::with_capacity(alloc, entries.len())?;
     for entry in entries {
         if !entry.key.is("condition") {
             names.push(Text::copy(alloc, entry.key.as_str())?)?;

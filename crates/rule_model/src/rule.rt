@@ -55,8 +55,9 @@ impl Rule {
         let Some(detection) = value_at(node, "detection") else {
             return Err(refused(Code::MISSING_KEY, place_of(node)));
         };
+        let conditions = read_conditions(alloc, limits, detection);
         let detections = read_detections(alloc, limits, detection)?;
-        let conditions = read_conditions(alloc, limits, detection)?;
+        let conditions = conditions?;
         Ok(Rule {
             head,
             source,
@@ -70,6 +71,7 @@ impl Rule {
     pub fn read_lone(alloc: Global, limits: &Limits, node: &Node) -> Result<Rule, Fault>
         ensures judged { Judged (λ r. IsRule (node_view node.now) (rule_with (rest_of (node_view node.now)) (rule_view r)))
             (lone_refusal limits.now (node_view node.now)) result }
+        ensures bare { IfOk result (λ r. (rule_view r).head.rest ≡ []) }
         ensures whole { IfOk result (λ r. IsWhole (rule_view r)) }
     {
         refuse_correlation(node)?;
