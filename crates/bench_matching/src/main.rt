@@ -19,7 +19,7 @@ fn pattern_of(alloc: Global, runs: bool, pieces: usize) -> Result<Pattern, Fault
         parts.push(Part::Char('a'))?;
     }
     parts.push(Part::Char('b'))?;
-    Pattern::of_parts(parts)
+    Ok(Pattern::of_parts(parts))
 }
 
 fn text_of(alloc: Global, characters: usize) -> Result<String, AllocError> {

@@ -8,7 +8,7 @@ use rule_model::Rule;
 use sig_base::{Limits, Place, Text, Texts};
 use sig_conditions::{DetectionNumbers, Formula};
 use sig_modifiers::{Joined, Test, Tests};
-use sig_strings::Pattern;
+use sig_strings::{Pattern, SharedPattern};
 use std::alloc::Global;
 use std::test::Fail;
 
@@ -85,6 +85,7 @@ fn test(alloc: Global, text: &str) -> Result<Test, Fail> {
         "#7" => Ok(Test::Equals(7)),
         _ => {
             let pattern = Pattern::read(alloc, &Limits::standard(), text, false, PLACE)?;
+            let pattern = SharedPattern::share(alloc, pattern)?;
             Ok(Test::Fits {
                 pattern,
                 cased: false,

@@ -14,11 +14,11 @@ use event_schema::{FieldKind, decimal_in};
 use itoa::Buffer;
 use sig_base::{Fault, first_char};
 use sig_modifiers::Test;
-use sig_strings::{Part, Pattern};
+use sig_strings::{Part, Pattern, SharedPattern};
 use std::alloc::Global;
 
 /// The pattern of a number's decimal.
-fn decimal_pattern(alloc: Global, number: i64) -> Result<Pattern, Fault>
+fn decimal_pattern(alloc: Global, number: i64) -> Result<SharedPattern, Fault>
     ensures ok { IfOk result (λ pattern. pattern ≡ map Char (signed_decimal number)) }
     ensures err { IfErr result (λ e. e ≡ Fault.Memory) }
 {
@@ -29,7 +29,7 @@ fn decimal_pattern(alloc: Global, number: i64) -> Result<Pattern, Fault>
         parts.push(Part::Char(c))?;
         left = rest;
     }
-    Pattern::of_parts(parts)
+    SharedPattern::share(alloc, Pattern::of_parts(parts))
 }
 
 /// What a leaf asks of a field of texts or addresses.
@@ -67,7 +67,11 @@ fn equals(number: Option<i64>) -> Option<LeafTest>
 }
 
 /// What a pattern asks of a field of whole numbers.
-fn whole_pattern(alloc: Global, pattern: &Pattern, cased: bool) -> Result<Option<LeafTest>, Fault>
+fn whole_pattern(
+    alloc: Global,
+    pattern: &SharedPattern,
+    cased: bool,
+) -> Result<Option<LeafTest>, Fault>
     ensures ok { IfOk result (λ t. t ≡ (if has_wildcard pattern.now then Some (leaf_tests.Fits pattern.now cased)
         else option_map leaf_tests.Equals (written_number (plain_text pattern.now)))) }
     ensures err { IfErr result (λ e. e ≡ Fault.Memory) }

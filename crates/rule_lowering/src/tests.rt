@@ -11,7 +11,7 @@ use rule_model::Rule;
 use sig_base::{Code, Detail, Fault, Limits, Place, Text, Texts};
 use sig_conditions::{DetectionNumbers, Formula};
 use sig_modifiers::{Joined, Test, Tests};
-use sig_strings::Pattern;
+use sig_strings::{Pattern, SharedPattern};
 use std::alloc::Global;
 use std::test::Fail;
 
@@ -51,6 +51,7 @@ fn schema(alloc: Global, names: &[(&str, bool)]) -> Result<Schema, Fail> {
 
 fn fits(alloc: Global, text: &str) -> Result<Tests, Fail> {
     let pattern = Pattern::read(alloc, &Limits::standard(), text, false, KEY)?;
+    let pattern = SharedPattern::share(alloc, pattern)?;
     let mut tests = Tests::new(alloc);
     tests.push(Test::Fits {
         pattern,

@@ -11,7 +11,7 @@ ghost use Rattle.sig_strings.specs.Fits.{Fits};
 use crate::test::Test;
 use event_schema::{Event, Schema, Value, decimal_in};
 use itoa::Buffer;
-use sig_strings::Pattern;
+use sig_strings::SharedPattern;
 
 fn is_decimal(text: &str, number: i64) -> bool
     ensures { IsTrue result ↔ (chars text.now ≡ signed_decimal number) }
@@ -33,7 +33,7 @@ fn is_number(value: &Value, number: &i64) -> bool
     }
 }
 
-fn fits_value(pattern: &Pattern, cased: bool, value: &Value) -> bool
+fn fits_value(pattern: &SharedPattern, cased: bool, value: &Value) -> bool
     ensures { IsTrue result ↔ Fits pattern.now (value_text value.now) cased }
 {
     match value {
@@ -62,7 +62,7 @@ fn some_is_number(values: &[Value], number: &i64) -> bool
     false
 }
 
-fn some_fits(values: &[Value], pattern: &Pattern, cased: bool) -> bool
+fn some_fits(values: &[Value], pattern: &SharedPattern, cased: bool) -> bool
     ensures { IsTrue result ↔ SomeOf (λ value. Fits pattern.now (value_text value) cased) values.now }
 {
     for value in values {

@@ -3,7 +3,7 @@
 use crate::Test;
 use event_schema::{Event, Field, FieldKind, FieldList, FieldValues, Schema, Value};
 use sig_base::{Limits, Place, Text, Texts};
-use sig_strings::Pattern;
+use sig_strings::{Pattern, SharedPattern};
 use std::alloc::Global;
 use std::test::Fail;
 
@@ -43,6 +43,7 @@ fn event(alloc: Global, image: &str, size: i64) -> Result<Event, Fail> {
 fn fits(alloc: Global, text: &str, cased: bool) -> Result<Test, Fail> {
     let place = Place::START;
     let pattern = Pattern::read(alloc, &Limits::standard(), text, false, place)?;
+    let pattern = SharedPattern::share(alloc, pattern)?;
     Ok(Test::Fits { pattern, cased })
 }
 

@@ -16,7 +16,7 @@ use crate::test::{Test, Tests};
 use event_schema::decimal_in;
 use itoa::Buffer;
 use sig_base::{Code, Fault, Limits, Place, Text, refused};
-use sig_strings::Pattern;
+use sig_strings::{Pattern, SharedPattern};
 use std::alloc::Global;
 use yaml_tree::{Kind, Node};
 
@@ -67,6 +67,7 @@ fn resolve_text(
 {
     let pattern = read_pattern(alloc, limits, text, place)?;
     let pattern = chain.pattern_of(pattern)?;
+    let pattern = SharedPattern::share(alloc, pattern)?;
     one_test(
         alloc,
         Test::Fits {

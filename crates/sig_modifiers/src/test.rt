@@ -1,7 +1,7 @@
 //! Tests of a field's values.
 
 use sig_base::Sequence;
-use sig_strings::Pattern;
+use sig_strings::SharedPattern;
 
 /// What a rule asks of the values of a field.
 #[derive(Drop, Debug)]
@@ -12,7 +12,7 @@ pub enum Test {
     Exists(bool),
     /// some value's text, or a number's decimal, fits the pattern, read exactly where `cased`, else without regard to the case
     /// of A to Z
-    Fits { pattern: Pattern, cased: bool },
+    Fits { pattern: SharedPattern, cased: bool },
     /// some value's text is the decimal of this number, or the value is this number
     Equals(i64),
 }

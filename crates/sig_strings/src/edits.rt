@@ -6,7 +6,6 @@ use crate::part::Part;
 use crate::pattern::Pattern;
 use sig_base::{Fault, Text};
 use std::alloc::Global;
-use std::rc::Rc;
 
 fn is_char(part: &Part) -> bool
     ensures { result ≡ edits.is_char part.now }
@@ -118,10 +117,9 @@ impl Pattern {
         if starts_with_run(self.parts()) {
             return Ok(self);
         }
-        let mut pattern = self;
-        let parts = Rc::make_mut(&mut pattern.shared)?;
+        let mut parts = self.into_parts();
         parts.insert(0, Part::Run)?;
-        Ok(pattern)
+        Ok(Pattern::of_parts(parts))
     }
 
     /// Puts a run behind the parts, unless one is there.
@@ -132,21 +130,19 @@ impl Pattern {
         if ends_with_run(self.parts()) {
             return Ok(self);
         }
-        let mut pattern = self;
-        let parts = Rc::make_mut(&mut pattern.shared)?;
+        let mut parts = self.into_parts();
         parts.push(Part::Run)?;
-        Ok(pattern)
+        Ok(Pattern::of_parts(parts))
     }
 
     /// Each `-` and `/` that begins a word, and doesn't stand behind one, becomes a dash. (Which ones do is
     /// this converter's own choice for `windash`.)
-    pub fn dashes(self) -> Result<Pattern, Fault>
-        ensures ok { IfOk result (λ pattern. pattern ≡ edits.dashes_of self) }
-        ensures err { IfErr result (λ e. e ≡ Fault.Memory) }
+    pub fn dashes(self) -> Pattern
+        ensures { result ≡ edits.dashes_of self }
     {
-        let mut pattern = self;
-        make_dashes(Rc::make_mut(&mut pattern.shared)?);
-        Ok(pattern)
+        let mut parts = self.into_parts();
+        make_dashes(&mut parts);
+        Pattern::of_parts(parts)
     }
 
     /// Whether some part isn't a character.

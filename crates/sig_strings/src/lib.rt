@@ -9,6 +9,7 @@ mod name;
 mod part;
 mod pattern;
 mod reading;
+mod shared;
 mod sign;
 #[cfg(test)]
 mod tests;
@@ -18,3 +19,4 @@ pub use law::{joined_fits, one_pattern, plain_fits, runs_fit, stays_written};
 pub use name::HoleName;
 pub use part::Part;
 pub use pattern::Pattern;
+pub use shared::SharedPattern;

@@ -1,15 +1,12 @@
-ghost use Rattle.std.specs.Prelude.{◌≡◌, IfOk, IfErr};
+ghost use Rattle.std.specs.Prelude.{◌≡◌};
 
 use crate::part::Part;
-use sig_base::Fault;
 use std::marker::Model;
-use std::rc::Rc;
 
-/// What a text of a rule asks of an event's text: its parts, from left to right, which contracts see as a list.
-/// Copies share them, and only a pattern that isn't the parts' one holder is copied when it's changed.
+/// What a text of a rule asks of an event's text: its parts, from left to right.
 #[derive(Drop, Debug)]
 pub struct Pattern {
-    pub(crate) shared: Rc<Vec<Part>>,
+    parts: Vec<Part>,
 }
 
 impl Model for Pattern {
@@ -18,32 +15,28 @@ impl Model for Pattern {
 
     ghost Value = { List Part };
 
-    ghost view = { λ p. p.shared.value.items };
+    ghost view = { λ p. p.parts.items };
 }
 
 impl Pattern {
-    /// The pattern of these parts, without a copy of them; only want of memory is answered.
-    pub fn of_parts(parts: Vec<Part>) -> Result<Pattern, Fault>
-        ensures ok { IfOk result (λ pattern. pattern ≡ parts.items) }
-        ensures err { IfErr result (λ e. e ≡ Fault.Memory) }
+    /// The pattern of these parts, without a copy.
+    pub fn of_parts(parts: Vec<Part>) -> Pattern
+        ensures { result ≡ parts.items }
     {
-        let shared = Rc::new(*parts.allocator(), parts)?;
-        Ok(Pattern { shared })
+        Pattern { parts }
     }
 
     /// Lends the parts.
     pub fn parts(&self) -> &[Part]
         ensures { result.now ≡ self.now }
     {
-        self.shared.as_slice()
+        self.parts.as_slice()
     }
 
-    /// The same pattern, without a copy of its parts; only want of memory is answered.
-    pub fn copy(&self) -> Result<Pattern, Fault>
-        ensures ok { IfOk result (λ pattern. pattern ≡ self.now) }
-        ensures err { IfErr result (λ e. e ≡ Fault.Memory) }
+    pub(crate) fn into_parts(self) -> Vec<Part>
+        ensures { result.items ≡ self }
     {
-        let shared = self.shared.clone()?;
-        Ok(Pattern { shared })
+        let Pattern { parts } = self;
+        parts
     }
 }

@@ -107,7 +107,7 @@ fn read_parts(alloc: Global, text: &str, expand: bool) -> Result<Pattern, Fault>
         }
         let (sign, rest) = read_front(left, expand);
         let Some(part) = part_of(alloc, left, sign)? else {
-            return Pattern::of_parts(parts);
+            return Ok(Pattern::of_parts(parts));
         };
         parts.push(part)?;
         left = rest;

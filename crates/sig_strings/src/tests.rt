@@ -1,4 +1,4 @@
-use crate::{HoleName, Part, Pattern};
+use crate::{HoleName, Part, Pattern, SharedPattern};
 use sig_base::{Detail, Fault, Limits, Place, Text};
 use std::alloc::Global;
 use std::test::Fail;
@@ -106,11 +106,11 @@ fn dashes_begin_words(rt: HostRuntime) -> Result<(), Fail> {
         ("a-b", "'a'-'b"),
         ("--a - *-b", "'-#'a' '-' *#'b"),
     ] {
-        let pattern = read(rt.alloc(), text, false)?.dashes()?;
+        let pattern = read(rt.alloc(), text, false)?.dashes();
         let parts = shown(rt.alloc(), &pattern)?;
         assert_eq!(rt; parts.as_str(), want, "the dashes of {text}");
     }
-    let pattern = read(rt.alloc(), "-a", false)?.dashes()?;
+    let pattern = read(rt.alloc(), "-a", false)?.dashes();
     assert!(rt; pattern.fits("\u{2015}a", true));
     assert!(rt; !pattern.fits("+a", true));
     assert!(rt; !pattern.is_written());
@@ -123,8 +123,12 @@ fn patterns_are_edited_and_written(rt: HostRuntime) -> Result<(), Fail> {
     assert!(rt; !pattern.has_wildcard());
     let plain = pattern.plain_text(rt.alloc())?;
     assert!(rt; matches!(&plain, Some(text) if text.is("a*")));
-    let around = pattern
-        .copy()?
+    let shared = SharedPattern::share(rt.alloc(), pattern)?;
+    let copy = shared.copy()?;
+    assert!(rt; copy.is_written() && !copy.has_wildcard());
+    assert!(rt; copy.fits("a*", true) && !copy.fits("ab", true));
+    assert_eq!(rt; copy.parts().len(), 2);
+    let around = read(rt.alloc(), r"a\*", false)?
         .with_run_before()?
         .with_run_after()?
         .with_run_before()?
@@ -134,7 +138,8 @@ fn patterns_are_edited_and_written(rt: HostRuntime) -> Result<(), Fail> {
     assert!(rt; around.is_written());
     assert!(rt; around.fits("xa*y", true));
     assert!(rt; around.write_sigma(rt.alloc())?.is(r"*a\**"));
-    assert!(rt; !pattern.has_wildcard());
+    let plain = shared.plain_text(rt.alloc())?;
+    assert!(rt; matches!(&plain, Some(text) if text.is("a*")));
     Ok(())
 }
 
@@ -145,7 +150,7 @@ fn parts_make_patterns(rt: HostRuntime) -> Result<(), Fail> {
         parts.push(Part::Char(c))?;
     }
     parts.push(Part::One)?;
-    let pattern = Pattern::of_parts(parts)?;
+    let pattern = Pattern::of_parts(parts);
     assert!(rt; pattern.is_written());
     assert!(rt; pattern.write_sigma(rt.alloc())?.is(r"\\\?\*?"));
     let name = HoleName::new(rt.alloc(), Text::copy(rt.alloc(), "name")?)?;

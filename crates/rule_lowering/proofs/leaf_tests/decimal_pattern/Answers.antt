@@ -12,4 +12,4 @@ returns-clause-ok c =
     let parts = c.loop-c.parts.items in
     let all : parts ≡ map Char (signed_decimal c.args.number) =
     sym (append-nil parts) ∙ (sym (ap (λ t. parts ++ map Char t) (ap chars c.in_default.ensures ∙ chars-nil)) ∙ (c.loop-c.invariant.all ∙ ap (λ n. map Char (signed_decimal n)) (to_z-of_z c.ranges.number))) in
-    IfOk-weaker c.of_parts.result _ (λ (p : List Part). p ≡ map Char (signed_decimal c.args.number)) (λ p is. is ∙ all) c.of_parts.ensures.ok
+    IfOk-weaker c.share.result _ (λ (p : List Part). p ≡ map Char (signed_decimal c.args.number)) (λ p is. is ∙ (c.of_parts.ensures ∙ all)) c.share.ensures.ok

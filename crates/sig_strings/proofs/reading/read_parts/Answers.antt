@@ -22,11 +22,9 @@ loop-c-preserved-in-Some c = record {
 
 pub returns-in_default-2-clause-spelled : goal.returns-in_default-2-clause-spelled
 returns-in_default-2-clause-spelled c =
-    IfOk-weaker c.of_parts.result (λ p. p ≡ c.loop-c.parts.items) (λ p. Spells c.args.expand (chars c.args.text.now) p)
-    (λ p is. subst (λ (parts : List Part). Spells c.args.expand (chars c.args.text.now) parts) (sym is)
+    subst (λ (parts : List Part). Spells c.args.expand (chars c.args.text.now) parts) (sym c.of_parts.ensures)
     (reads_end c.args.expand (chars c.loop-c.left.now) (chars c.read_front-sign.result.1.now) (chars c.args.text.now) _ c.in_ok-part.field-0 c.loop-c.parts.items
-    c.read_front-sign.ensures c.in_ok-part.ensures.ok c.in_default-2.is c.loop-c.invariant.read))
-    c.of_parts.ensures.ok
+    c.read_front-sign.ensures c.in_ok-part.ensures.ok c.in_default-2.is c.loop-c.invariant.read)
 
 pub loop-c-preserved : goal.loop-c-preserved
 loop-c-preserved c = record {
