@@ -1,8 +1,8 @@
 //! What backends lack.
 
-ghost use Rattle.std.specs.Prelude.{◌≡◌, List, Option};
+ghost use Rattle.std.specs.Prelude.{◌≡◌, Option};
 ghost use Rattle.std.specs.Str.{chars};
-ghost use Rattle.event_schema.specs.declared.schema.Field.{Field};
+ghost use Rattle.event_schema.specs.declared.schema.Schema.{Schema};
 ghost use Rattle.backend_core.specs.Lacks.{lack_name, leaf_refusal, lack_refusal, lacks_refusal};
 ghost use Rattle.backend_core.specs.View.{tree_view, plains_of};
 ghost use Rattle.backend_core.specs.declared.lack.Lack.{Lack};
@@ -34,11 +34,11 @@ impl Lack {
 
 /// A backend, which may not be able to say every leaf.
 pub trait Lacking {
-    ghost lacking: { Self → List Field → Leaf → Option Lack };
+    ghost missing: { Schema → Leaf → Option Lack };
 
     /// What it lacks for a leaf, if anything. Takes no memory.
     fn lacks(&self, schema: &Schema, leaf: &Leaf) -> Option<Lack>
-        ensures { result ≡ lacking self.now schema.now.fields leaf.now };
+        ensures { result ≡ missing schema.now leaf.now };
 }
 
 /// Refuses a leaf at its place where something is lacking for it (111).
@@ -64,7 +64,7 @@ pub fn judge_lacks<B: Lacking>(
     schema: &Schema,
     tree: &Tree,
 ) -> Result<(), Fault>
-    ensures { Judged (λ done. Unit {0}) (lack_refusal (B.lacking backend.now schema.now.fields) (tree_view tree.now)) result }
+    ensures { Judged (λ done. Unit {0}) (lack_refusal (B.missing schema.now) (tree_view tree.now)) result }
 {
     match tree {
         Tree::All(parts) => judge_parts(alloc, backend, schema, parts.as_slice()),
@@ -82,7 +82,7 @@ fn judge_parts<B: Lacking>(
     schema: &Schema,
     parts: &[Tree],
 ) -> Result<(), Fault>
-    ensures { Judged (λ done. Unit {0}) (lacks_refusal (B.lacking backend.now schema.now.fields) (plains_of parts.now)) result }
+    ensures { Judged (λ done. Unit {0}) (lacks_refusal (B.missing schema.now) (plains_of parts.now)) result }
 {
     for part in parts {
         judge_lacks(alloc, backend, schema, part)?;

@@ -1,11 +1,13 @@
 //! Trees of tests: what a rule asks of an event, in a form that every query language can write.
 #![tactic(auto)]
 
+mod backend;
 mod copying;
 mod lack;
 #[cfg(test)]
 mod tests;
 mod tree;
 
+pub use backend::Backend;
 pub use lack::{Lack, Lacking, judge_lacks};
 pub use tree::{Leaf, LeafTest, Tree};

@@ -2,7 +2,7 @@
 
 use crate::{Leaf, LeafTest, Tree};
 use sig_base::{Limits, Place};
-use sig_strings::Pattern;
+use sig_strings::{Pattern, SharedPattern};
 use std::test::Fail;
 
 #[test]
@@ -12,6 +12,7 @@ fn copies_are_the_same(rt: HostRuntime) -> Result<(), Fail> {
     let mut parts = Vec::new(alloc);
     for (field, text) in [(1, "cmd*"), (2, "a?b")] {
         let pattern = Pattern::read(alloc, &Limits::standard(), text, false, place)?;
+        let pattern = SharedPattern::share(alloc, pattern)?;
         parts.push(Tree::Leaf(Leaf {
             field,
             test: LeafTest::Fits {

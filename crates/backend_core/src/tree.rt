@@ -1,7 +1,7 @@
 //! Trees of tests on the fields of a schema.
 
 use sig_base::Place;
-use sig_strings::Pattern;
+use sig_strings::SharedPattern;
 
 /// All of some parts, any of them, not a part, one test, or what never holds.
 #[derive(Drop, Debug)]
@@ -30,7 +30,7 @@ pub enum LeafTest {
     /// there is none
     Absent,
     /// the pattern fits some value's text, or a number's decimal, as written or without regard to the case of A to Z
-    Fits { pattern: Pattern, cased: bool },
+    Fits { pattern: SharedPattern, cased: bool },
     /// some value is this number; of fields of whole numbers alone
     Equals(i64),
 }

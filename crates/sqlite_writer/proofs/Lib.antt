@@ -1,3 +1,4 @@
+mod Answered
 mod Apart
 mod Calm
 mod DepthLemmas

@@ -91,7 +91,7 @@ fn fields_of_several_values_are_lacking(rt: HostRuntime) -> Result<(), Fail> {
     for (tree, want, want_shallow) in &cases {
         let answer = shown(
             alloc,
-            Sqlite.write(alloc, &Limits::standard(), &schema, tree, RULE),
+            Sqlite.text(alloc, &Limits::standard(), &schema, tree, RULE),
         )?;
         assert_eq!(rt; answer.as_str(), *want);
         let answer = shown(alloc, Sqlite.text(alloc, &shallow, &schema, tree, RULE))?;

@@ -18,7 +18,7 @@ fn is_many(fields: &[Field], number: u32) -> bool
 }
 
 impl Lacking for Sqlite {
-    ghost lacking = { λ _ fields leaf. spec.sqlite_lacks fields leaf };
+    ghost missing = { λ schema leaf. spec.sqlite_lacks schema.fields leaf };
 
     /// A column has one value, so a test of a field that may have several can't be said.
     fn lacks(&self, schema: &Schema, leaf: &Leaf) -> Option<Lack>

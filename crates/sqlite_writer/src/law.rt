@@ -6,11 +6,12 @@ ghost use Rattle.event_schema.specs.declared.schema.Schema.{Schema};
 ghost use Rattle.event_schema.specs.declared.value.Value.{Value};
 ghost use Rattle.event_schema.specs.Events.{IsEvent};
 ghost use Rattle.event_schema.specs.Rows.{first_values};
-ghost use Rattle.event_schema.specs.Schemas.{AreApart, IsSchema};
+ghost use Rattle.event_schema.specs.Schemas.{AreApart};
 ghost use Rattle.event_schema.specs.Inferred.{text_field};
 ghost use Rattle.backend_core.specs.Trees.{Plain};
 ghost use Rattle.backend_core.specs.Holds.{TreeHolds};
 ghost use Rattle.backend_core.specs.Lacks.{lack_refusal};
+ghost use Rattle.backend_core.specs.Schemas.{IsNamed};
 ghost use Rattle.backend_core.specs.Sound.{IsSound};
 ghost use Rattle.sql_lang.specs.Expression.{depth};
 ghost use Rattle.sql_lang.specs.Meaning.{Yes, No};
@@ -67,9 +68,9 @@ pub fn lists_are_shallow()
     halves_are_shallow();
 }
 
-/// Every schema has its fields found by their names.
+/// Every schema has its fields found by their names, of however many fields.
 pub fn schemas_are_found()
-    ensures { (schema : Schema) → IsSchema schema → IsFoundSchema schema }
+    ensures { (schema : Schema) → IsNamed schema → IsFoundSchema schema }
 {}
 
 /// The table `events` with a field of texts for each name has its fields found by these names, where they are of

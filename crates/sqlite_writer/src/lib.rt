@@ -2,6 +2,7 @@
 //! missing value unknown, and with long lists in halves.
 #![tactic(auto)]
 
+mod backend;
 mod deep;
 mod guarding;
 #[cfg(test)]

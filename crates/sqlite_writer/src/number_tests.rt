@@ -4,7 +4,7 @@ use crate::Sqlite;
 use backend_core::{Leaf, LeafTest, Tree};
 use event_schema::{Field, FieldKind, FieldList, Schema};
 use sig_base::{Code, Detail, Fault, Limits, Place, Refusal, Text, Texts};
-use sig_strings::Pattern;
+use sig_strings::{Pattern, SharedPattern};
 use std::alloc::Global;
 use std::test::Fail;
 
@@ -44,6 +44,7 @@ fn equals(field: u32, number: i64) -> Tree {
 
 fn fits(alloc: Global, field: u32, text: &str, cased: bool) -> Result<Tree, Fail> {
     let pattern = Pattern::read(alloc, &Limits::standard(), text, false, PLACE)?;
+    let pattern = SharedPattern::share(alloc, pattern)?;
     Ok(Tree::Leaf(Leaf {
         field,
         test: LeafTest::Fits { pattern, cased },
@@ -68,7 +69,7 @@ fn is_written(alloc: Global, tree: &Tree, condition: &str) -> Result<bool, Fail>
     want.extend_from_slice(b"SELECT * FROM \"events\" WHERE ")?;
     want.extend_from_slice(condition.as_bytes())?;
     let schema = schema(alloc)?;
-    let bytes = Sqlite.write(alloc, &Limits::standard(), &schema, tree, PLACE)?;
+    let bytes = Sqlite.text(alloc, &Limits::standard(), &schema, tree, PLACE)?;
     Ok(bytes.as_slice() == want.as_slice())
 }
 
@@ -77,7 +78,7 @@ fn depth_above_one(alloc: Global, tree: &Tree) -> Result<i128, Fail> {
     let schema = schema(alloc)?;
     let mut limits = Limits::standard();
     limits.sql_depth = 1;
-    match Sqlite.write(alloc, &limits, &schema, tree, PLACE) {
+    match Sqlite.text(alloc, &limits, &schema, tree, PLACE) {
         Ok(_) => Ok(0),
         Err(
             Fault::Refused(

@@ -4,7 +4,7 @@ use crate::Sqlite;
 use backend_core::{Leaf, LeafTest, Tree};
 use event_schema::{Field, FieldKind, FieldList, Schema};
 use sig_base::{Bytes, Code, Detail, Fault, Limits, Place, Refusal, Text, Texts};
-use sig_strings::Pattern;
+use sig_strings::{Pattern, SharedPattern};
 use std::alloc::Global;
 use std::test::Fail;
 
@@ -32,6 +32,7 @@ fn schema(alloc: Global) -> Result<Schema, Fail> {
 
 fn fits(alloc: Global, field: u32, text: &str, cased: bool) -> Result<Tree, Fail> {
     let pattern = Pattern::read(alloc, &Limits::standard(), text, false, PLACE)?;
+    let pattern = SharedPattern::share(alloc, pattern)?;
     Ok(Tree::Leaf(Leaf {
         field,
         test: LeafTest::Fits { pattern, cased },
@@ -61,7 +62,7 @@ fn two(alloc: Global, first: Tree, second: Tree) -> Result<Vec<Tree>, Fail> {
 /// The query under this schema.
 fn query(alloc: Global, tree: &Tree) -> Result<Bytes, Fail> {
     let schema = schema(alloc)?;
-    Ok(Sqlite.write(alloc, &Limits::standard(), &schema, tree, PLACE)?)
+    Ok(Sqlite.text(alloc, &Limits::standard(), &schema, tree, PLACE)?)
 }
 
 /// Whether this is the condition of the tree's query.
@@ -167,7 +168,7 @@ fn depth_of(alloc: Global, tree: &Tree) -> Result<i128, Fail> {
     let schema = schema(alloc)?;
     let mut limits = Limits::standard();
     limits.sql_depth = 1;
-    match Sqlite.write(alloc, &limits, &schema, tree, PLACE) {
+    match Sqlite.text(alloc, &limits, &schema, tree, PLACE) {
         Err(
             Fault::Refused(
                 Refusal {
@@ -281,11 +282,11 @@ fn too_deep_and_too_long(rt: HostRuntime) -> Result<(), Fail> {
     let mut limits = Limits::standard();
     limits.sql_depth = 69;
     let many = Tree::Any(copies(alloc, 2000)?);
-    let answer = Sqlite.write(alloc, &limits, &schema, &many, PLACE);
+    let answer = Sqlite.text(alloc, &limits, &schema, &many, PLACE);
     assert!(rt; is_refused(answer, Code::QUERY_TOO_DEEP, 70, 69));
     limits.query_bytes = 10;
     let tree = fits(alloc, 0, "cmd.exe", false)?;
-    let answer = Sqlite.write(alloc, &limits, &schema, &tree, PLACE);
+    let answer = Sqlite.text(alloc, &limits, &schema, &tree, PLACE);
     assert!(rt; is_refused(answer, Code::QUERY_TOO_LONG, 63, 10));
     limits.query_bytes = 63;
     let text = Sqlite.text(alloc, &limits, &schema, &tree, PLACE)?;

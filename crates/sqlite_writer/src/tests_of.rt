@@ -14,7 +14,7 @@ use backend_core::LeafTest;
 use event_schema::decimal_in;
 use itoa::Buffer;
 use sig_base::{Fault, Text};
-use sig_strings::{Part, Pattern};
+use sig_strings::{Part, SharedPattern};
 
 /// Adds the test that a field has a value.
 fn put_has(out: &mut Text, field: &str) -> Result<(), Fault>
@@ -66,7 +66,7 @@ fn put_plain(out: &mut Text, field: &str, cased: bool, parts: &[Part]) -> Result
     Ok(())
 }
 
-fn put_fits(out: &mut Text, field: &str, cased: bool, pattern: &Pattern) -> Result<(), Fault>
+fn put_fits(out: &mut Text, field: &str, cased: bool, pattern: &SharedPattern) -> Result<(), Fault>
     ensures ok { OnOk result (out.new ≡ out.old ++ test_text (chars field.now) (LeafTest.Fits pattern.now cased)) }
     ensures err { IfErr result (λ e. e ≡ Fault.Memory) }
 {

@@ -127,31 +127,6 @@ impl Sqlite {
         self.written(alloc, limits, schema, tree, place)
     }
 
-    /// The same, as the backend's query.
-    pub fn write(
-        &self,
-        alloc: Global,
-        limits: &Limits,
-        schema: &Schema,
-        tree: &Tree,
-        place: Place,
-    ) -> Result<Bytes, Fault>
-        ensures bytes { IsSound schema.now.fields (tree_view tree.now)
-            → IfOk result (λ bytes. bytes ≡ query_bytes schema.now (tree_view tree.now)) }
-        ensures lacks { OnOk result (lack_refusal (sqlite_lacks schema.now.fields) (tree_view tree.now) ≡ None) }
-        ensures law { IsSound schema.now.fields (tree_view tree.now) → IsFoundSchema schema.now
-            → IfOk result (λ bytes. IsQueryOf limits.now.sql_depth schema.now (tree_view tree.now) bytes) }
-        ensures deep { IsSound schema.now.fields (tree_view tree.now)
-            → IfOk result (λ bytes. depth (query_expr schema.now (tree_view tree.now)) ≤ limits.now.sql_depth) }
-        ensures long { IfOk result (λ bytes. length bytes ≤ limits.now.query_bytes) }
-        ensures refused { IsSound schema.now.fields (tree_view tree.now)
-            → IfErr result (λ e. IsRefused (lack_refusal (sqlite_lacks schema.now.fields) (tree_view tree.now))
-            (IsUnwritten limits.now.sql_depth limits.now.query_bytes place
-            (depth (query_expr schema.now (tree_view tree.now))) (length (query_bytes schema.now (tree_view tree.now)))) e) }
-    {
-        self.text(alloc, limits, schema, tree, place)
-    }
-
     /// The query of a tree, refused for its depth or else its bytes alone.
     fn written(
         &self,

@@ -10,14 +10,14 @@ use Rattle.backend_core.proofs.lack.+lacks.Goals as goal
 
 pub judge_lacks-returns-in-All : goal.judge_lacks-returns-in-All
 judge_lacks-returns-in-All g t c =
-    let lacks = g.B.Lacking.lacking c.args.backend.now c.args.schema.now.fields in
+    let lacks = g.B.Lacking.missing c.args.schema.now in
     let is : tree_view c.args.tree.now ≡ all (plains_of c.in-All.parts.items) = search (rules, the_lemmas, row_plains) in
     subst (λ (t : Plain). Judged (λ done. Unit {0}) (lack_refusal lacks t) c.judge_parts.result) (sym is)
     (subst (λ (ts : List Tree). Judged (λ done. Unit {0}) (lacks_refusal lacks (plains_of ts)) c.judge_parts.result) c.as_slice.ensures.value c.judge_parts.ensures)
 
 pub judge_lacks-returns-in-Any : goal.judge_lacks-returns-in-Any
 judge_lacks-returns-in-Any g t c =
-    let lacks = g.B.Lacking.lacking c.args.backend.now c.args.schema.now.fields in
+    let lacks = g.B.Lacking.missing c.args.schema.now in
     let is : tree_view c.args.tree.now ≡ any (plains_of c.in-Any.parts.items) = search (rules, the_lemmas, row_plains) in
     subst (λ (t : Plain). Judged (λ done. Unit {0}) (lack_refusal lacks t) c.judge_parts-in-Any.result) (sym is)
     (subst (λ (ts : List Tree). Judged (λ done. Unit {0}) (lacks_refusal lacks (plains_of ts)) c.judge_parts-in-Any.result) c.as_slice-in-Any.ensures.value c.judge_parts-in-Any.ensures)

@@ -5,5 +5,5 @@ use Rattle.backend_core.proofs.lack.+lacks.Given as goal
 
 abbrev pub invariant-judge_parts-loop-part : goal.invariant-judge_parts-loop-part
 invariant-judge_parts-loop-part g l =
-    lacks_refusal (g.B.Lacking.lacking l.backend l.schema.fields) (plains_of (drop l.part-index l.parts))
-    ≡ lacks_refusal (g.B.Lacking.lacking l.backend l.schema.fields) (plains_of l.parts)
+    lacks_refusal (g.B.Lacking.missing l.schema) (plains_of (drop l.part-index l.parts))
+    ≡ lacks_refusal (g.B.Lacking.missing l.schema) (plains_of l.parts)
