@@ -1,2 +1,3 @@
 pub mod Queries
+pub mod SqlQueries
 pub mod Verdicts

@@ -9,81 +9,95 @@ ghost use Rattle.rule_queries.specs.Verdicts.{ConvertAnswers, CheckAnswers};
 ghost use Rattle.sig_base.specs.Judged.{Judged, first};
 ghost use Rattle.yaml_tree.specs.View.{node_view};
 
+use backend_core::Backend;
 use event_schema::Schema;
 use rule_lowering::lower;
 use rule_model::Rule;
 use rule_schema::{fit_inferred, fit_schema, infer_schema};
 use sig_base::{Bytes, Fault, Limits, Place};
-use sqlite_writer::Sqlite;
 use std::alloc::Global;
 use yaml_tree::Node;
 
-/// The query of a rule that fits the schema. In this order it is refused 110, 111, 112 and 114.
-fn write_rule(alloc: Global, limits: &Limits, rule: &Rule, schema: &Schema) -> Result<Bytes, Fault>
+/// The query of a rule that fits the schema. In this order it is refused 110, 111, 112 or 113, and 114.
+fn write_rule<B: Backend>(
+    backend: &B,
+    alloc: Global,
+    limits: &Limits,
+    rule: &Rule,
+    schema: &Schema,
+) -> Result<Bytes, Fault>
     requires whole { IsWhole (rule_view rule.now) }
     requires fits { fit_refusal schema.now (rule_view rule.now) ≡ None }
-    ensures { Judged (λ bytes. bytes ≡ query_under schema.now (rule_view rule.now)) (first (query_checks limits.now schema.now (rule_view rule.now))) result }
+    ensures { Judged (λ bytes. bytes ≡ query_under B.text schema.now (rule_view rule.now)) (first (query_checks B.missing B.text B.too_deep limits.now schema.now (rule_view rule.now))) result }
 {
     let tree = lower(alloc, limits, rule, schema)?;
-    Sqlite.write(alloc, limits, schema, &tree, rule.head.place)
+    backend.write(alloc, limits, schema, &tree, rule.head.place)
 }
 
-/// The query of a rule under a schema. In this order it is refused 81 or 83, 110, 111, 112 and 114.
-fn convert_under(
+/// The query of a rule under a schema. In this order it is refused 81 or 83, 110, 111, 112 or 113, and 114.
+fn convert_under<B: Backend>(
+    backend: &B,
     alloc: Global,
     limits: &Limits,
     rule: &Rule,
     schema: &Schema,
 ) -> Result<Bytes, Fault>
     requires { IsWhole (rule_view rule.now) }
-    ensures { Judged (λ bytes. bytes ≡ query_under schema.now (rule_view rule.now)) (first (checks_under limits.now schema.now (rule_view rule.now))) result }
+    ensures { Judged (λ bytes. bytes ≡ query_under B.text schema.now (rule_view rule.now)) (first (checks_under B.missing B.text B.too_deep limits.now schema.now (rule_view rule.now))) result }
 {
     match fit_schema(rule, schema) {
         Err(unfit) => Err(Fault::Refused(unfit)),
-        Ok(()) => write_rule(alloc, limits, rule, schema),
+        Ok(()) => write_rule(backend, alloc, limits, rule, schema),
     }
 }
 
-/// The query of a rule under the schema that is made of it. In this order it is refused 80, 83, 110, 112 and 114.
-fn convert_made(alloc: Global, limits: &Limits, rule: &Rule) -> Result<Bytes, Fault>
+/// The query of a rule under the schema that is made of it. In this order it is refused 80, 83, 110, 111, 112 or 113, and 114.
+fn convert_made<B: Backend>(
+    backend: &B,
+    alloc: Global,
+    limits: &Limits,
+    rule: &Rule,
+) -> Result<Bytes, Fault>
     requires { IsWhole (rule_view rule.now) }
-    ensures { Judged (λ bytes. bytes ≡ query_of None (rule_view rule.now)) (query_refusal limits.now None (rule_view rule.now)) result }
+    ensures { Judged (λ bytes. bytes ≡ query_of B.text None (rule_view rule.now)) (query_refusal B.missing B.text B.too_deep limits.now None (rule_view rule.now)) result }
 {
     let schema = infer_schema(alloc, rule)?;
     match fit_inferred(rule) {
         Err(refusal) => Err(Fault::Refused(refusal)),
-        Ok(()) => write_rule(alloc, limits, rule, &schema),
+        Ok(()) => write_rule(backend, alloc, limits, rule, &schema),
     }
 }
 
 /// The query of a rule under the given schema, or else the one that is made of it.
-fn convert_rule(
+fn convert_rule<B: Backend>(
+    backend: &B,
     alloc: Global,
     limits: &Limits,
     rule: &Rule,
     given: Option<&Schema>,
 ) -> Result<Bytes, Fault>
     requires { IsWhole (rule_view rule.now) }
-    ensures { Judged (λ bytes. bytes ≡ query_of (option_map (λ s. s.now) given.entry) (rule_view rule.now)) (query_refusal limits.now (option_map (λ s. s.now) given.entry) (rule_view rule.now)) result }
+    ensures { Judged (λ bytes. bytes ≡ query_of B.text (option_map (λ s. s.now) given.entry) (rule_view rule.now)) (query_refusal B.missing B.text B.too_deep limits.now (option_map (λ s. s.now) given.entry) (rule_view rule.now)) result }
 {
     match given {
-        Some(schema) => convert_under(alloc, limits, rule, schema),
-        None => convert_made(alloc, limits, rule),
+        Some(schema) => convert_under(backend, alloc, limits, rule, schema),
+        None => convert_made(backend, alloc, limits, rule),
     }
 }
 
 /// The query of the rule that a node is, under the given schema or else the one that is made of the rule. What is refused is
-/// refused as `Rule::read_lone` says, and then 80 (where no schema is given), 81 or 83, 110, 111, 112 and 114.
-pub fn convert_node(
+/// refused as `Rule::read_lone` says, and then 80 (where no schema is given), 81 or 83, 110, 111, 112 or 113, and 114.
+pub fn convert_node<B: Backend>(
+    backend: &B,
     alloc: Global,
     limits: &Limits,
     given: Option<&Schema>,
     node: &Node,
 ) -> Result<Bytes, Fault>
-    ensures { ConvertAnswers limits.now (option_map (λ s. s.now) given.entry) (node_view node.now) result }
+    ensures { ConvertAnswers B.missing B.text B.too_deep limits.now (option_map (λ s. s.now) given.entry) (node_view node.now) result }
 {
     let rule = Rule::read_lone(alloc, limits, node)?;
-    convert_rule(alloc, limits, &rule, given)
+    convert_rule(backend, alloc, limits, &rule, given)
 }
 
 /// The place of the rule that a node is, refused as `Rule::read` says.

@@ -11,6 +11,8 @@ ghost use Rattle.sig_base.specs.declared.limits.Limits.{Limits};
 ghost use Rattle.yaml_tree.specs.Texts.{HasScalarTexts};
 ghost use Rattle.yaml_tree.specs.Tree.{Tree};
 
+use backend_core::Backend;
+
 /// A node that isn't refused is a rule, and one rule only.
 pub fn one_verdict()
     ensures each { (limits : Limits) (t : Tree) → rule_refusal limits t ≡ None → (rule : PlainRule) × IsChecked limits t rule }
@@ -21,14 +23,13 @@ pub fn one_verdict()
 }
 
 /// The query of each rule that has one means the rule.
-pub fn queries_mean_rules()
+pub fn queries_mean_rules<B: Backend>()
     ensures { (limits : Limits) (given : Option Schema) (t : Tree) (rule : PlainRule) → IfSome given IsSchema → HasScalarTexts t
-        → IsConverted limits given t rule → Converts limits given rule (query_of given rule) }
+        → IsConverted B.missing B.text B.too_deep limits given t rule
+        → Converts B.Lang.is_query B.Lang.is_within B.Lang.picks limits given rule (query_of B.text given rule) }
 {
     rule_model::rules_are_whole();
     rule_lowering::tree_means_rule();
     rule_lowering::tree_is_sound();
-    sqlite_writer::text_schemas();
-    sqlite_writer::schemas_are_found();
-    sqlite_writer::tree_is_query();
+    B::law();
 }

@@ -6,3 +6,6 @@ pub use law::{one_verdict, queries_mean_rules};
 
 mod converting;
 mod law;
+pub mod sqlite;
+#[cfg(test)]
+mod tests;

@@ -195,18 +195,18 @@ rule_apart rule e = distinct_apart [] (uses_of (items_of rule.detections)) e
 
 -- ---- schemas
 
-fields_kept : (names : List (List ℕ)) → EachOf IsName names → EachOf IsField (map text_field names)
+pub fields_kept : (names : List (List ℕ)) → EachOf IsName names → EachOf IsField (map text_field names)
 fields_kept [] each = tt
 fields_kept (name ∷ names) each = (record { name = each.0; at = tt; search = λ e. absurd (false_true e); cased = λ e. absurd (false_true e) }, fields_kept names each.1) where
   false_true : false ≡ true → ⊥
   false_true e = cc
 
-own_names : (names : List (List ℕ)) → names_of (map text_field names) ≡ names
+pub own_names : (names : List (List ℕ)) → names_of (map text_field names) ≡ names
 own_names [] = refl
 own_names (name ∷ names) = ap (λ (ns : List (List ℕ)). name ∷ ns) (own_names names)
 
 -- no field that is made of a name has a twin
-no_twins : (all names : List (List ℕ)) → EachOf (λ field. field.cased ≡ true → IsOther (twin field.name) all) (map text_field names)
+pub no_twins : (all names : List (List ℕ)) → EachOf (λ field. field.cased ≡ true → IsOther (twin field.name) all) (map text_field names)
 no_twins all [] = tt
 no_twins all (name ∷ names) = ((λ e. absurd (false_true e)), no_twins all names) where
   false_true : false ≡ true → ⊥

@@ -6,6 +6,7 @@ use Rattle.rule_queries.proofs.Judging.{bare_answers}
 use Rattle.rule_queries.proofs.converting.convert_node.Goals as goal
 
 pub returns : goal.returns
-returns c =
+returns g c =
     let t = node_view c.args.node.now in
-    bare_answers c.args.limits.now (option_map (λ s. s.now) c.args.given) t (rest_of t) (rule_view c.in_ok-rule.rule) c.convert_rule.result c.in_ok-rule.ensures.judged c.convert_rule.ensures
+    bare_answers g.B.Lacking.missing g.B.Backend.text g.B.Backend.too_deep c.args.limits.now (option_map (λ s. s.now) c.args.given) t (rest_of t) (rule_view c.in_ok-rule.rule)
+    c.convert_rule.result c.in_ok-rule.ensures.judged c.convert_rule.ensures
