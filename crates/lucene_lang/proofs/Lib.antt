@@ -1,0 +1,14 @@
+pub mod Complete
+mod Read
+mod Both
+pub mod Runs
+mod Atoms
+mod Selected
+mod Sofar
+mod Alive
+mod Judged
+mod Told
+mod Examples
+mod ExampleRefusals
+mod ExampleEvents
+mod ExampleEdges

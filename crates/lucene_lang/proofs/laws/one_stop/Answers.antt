@@ -1,0 +1,6 @@
+use Rattle.text_places.proofs.Stops.{one_stop_of}
+use Rattle.lucene_lang.specs.Grammar.{spell_group}
+use Rattle.lucene_lang.proofs.laws.one_stop.Goals as goal
+
+pub returns : goal.returns
+returns c = one_stop_of spell_group

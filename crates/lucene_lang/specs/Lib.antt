@@ -1,0 +1,9 @@
+pub mod Tokens
+pub mod Grammar
+pub mod Query
+pub mod Faults
+pub mod Reading
+pub mod Machine
+pub mod Verdict
+pub mod Meaning
+pub mod Selection
