@@ -1,14 +1,13 @@
 -- An answer behind parts for which something was read, and nothing answered.
-use Rattle.std.proofs.Common.{◌≡◌, ℕ, Bool, true, false, List, [], ◌∷◌, ◌++◌, ap, sym, ◌∙◌, subst, append_assoc, Option, None, Some, Result, Ok, Err}
+use Rattle.std.proofs.Common.{◌≡◌, ℕ, Bool, true, false, List, ◌++◌, ap, sym, ◌∙◌, subst, append_assoc, Option, None, Some, Result, Ok, Err}
 use Rattle.std.specs.Prelude.{Contains}
 use Rattle.std.specs.Io.KnownBytes.{Appends}
-use Rattle.answer_parts.proofs.Ending.{Kind, files_of}
+use Rattle.answer_parts.proofs.Ending.{Kind, files_of, none_behind}
 use Rattle.answer_parts.proofs.Shares.{share_append}
 use Rattle.answer_parts.specs.Cut.{Cut}
-use Rattle.answer_parts.specs.Input.{Input, File, Events, World, Needs, IsNeeded, IsTold, unread_diagnostic}
-use Rattle.answer_parts.specs.Lines.{diagnostics_text}
+use Rattle.answer_parts.specs.Input.{Input, File, Events, World, Needs, IsNeeded, IsTold}
 use Rattle.answer_parts.specs.Parts.{Share, Part, no_share, join, share_of, Gains}
-use Rattle.answer_parts.specs.Stands.{Cause, IsHere, Stands, Ends}
+use Rattle.answer_parts.specs.Stands.{Cause, IsHere, TellsUnread, StopsAt, Stands, Ends}
 use Rattle.answer_parts.specs.State.{State}
 use Rattle.answer_parts.specs.declared.stop.Stop.{Stop}
 use Rattle.answer_parts.specs.declared.stop.Stop.TheVariants.{Unread, Unwritten, Memory}
@@ -28,7 +27,7 @@ module _ (more needs : Needs) (quiet : List Part) (silent : share_of quiet ≡ n
   behind_cause : (result : Result Bool Stop) (unread : Option Input) (old new : State) → Cause needs result unread old new → Cause more result unread old new
   behind_cause (Ok refused) unread old new c = c
   behind_cause (Err Unread) None old new c = c
-  behind_cause (Err Unread) (Some input) old new c = (needed input c.0, c.1)
+  behind_cause (Err Unread) (Some input) old new c = (needed input c.0, c.1, c.2)
   behind_cause (Err Unwritten) None old new c = c
   behind_cause (Err Unwritten) (Some input) old new c = (needed input c.0, c.1, c.2)
   behind_cause (Err Memory) unread old new c = c
@@ -40,7 +39,7 @@ module _ (more needs : Needs) (quiet : List Part) (silent : share_of quiet ≡ n
     cause = behind_cause result e.unread old new e.cause;
     stands = λ world told.
         let s = e.stands world (record { files = λ name there. told.files name (named name there); events = λ is. told.events (events ∙ is) }) in
-        (quiet ++ s.0, follows world (files_told world told) s.0 s.1, stand result e.unread world told s.0 s.2);
+        (quiet ++ s.0, follows world (files_told world told) s.0 s.1, stand result e.unread world told s.0 s.2, λ none. s.3 (none_behind quiet s.0 none));
     files = e.files;
     apart = λ aside. e.apart (sym events ∙ aside);
     kept = e.kept;
@@ -62,18 +61,23 @@ module _ (more needs : Needs) (quiet : List Part) (silent : share_of quiet ≡ n
       here Events world told before behind (whole, given, is) =
           (whole, given, follows (record { files = world.files; events = whole }) (files_told_with world whole told) before is)
 
-      stand : (r : Result Bool Stop) (unread : Option Input) (world : World) → IsTold more old.inputs world → (ps : List Part) → Stands P world r unread ps old new
-          → Stands Q world r unread (quiet ++ ps) old new
-      stand (Ok refused) unread world told ps (found, gains) =
-          (found ∙ ap (λ (s : Share). s.refused) (sym (behind_share ps)), subst (λ (s : Share). Gains s old.streams new.streams) (sym (behind_share ps)) gains)
-      stand (Err Unread) None world told ps s = s
-      stand (Err Unread) (Some input) world told ps s = record {
+      stops : (stop : Stop) (input : Input) (world : World) → IsTold more old.inputs world → (ps : List Part) → StopsAt P world stop input ps new.inputs.left old.streams new.streams
+          → StopsAt Q world stop input (quiet ++ ps) new.inputs.left old.streams new.streams
+      stops stop input world told ps s = record {
         before = quiet ++ s.before;
         behind = s.behind;
         divide = ap (λ (l : List Part). quiet ++ l) s.divide ∙ sym (append_assoc quiet s.before s.behind);
         here = here input world told s.before s.behind s.here;
         out = subst (λ (x : Share). Appends old.streams.out new.streams.out x.output) (sym (behind_share s.before)) s.out;
-        err = subst (λ (x : Share). Appends old.streams.err new.streams.err (diagnostics_text (x.diagnostics ++ unread_diagnostic input ∷ []))) (sym (behind_share s.before)) s.err;
+        err = subst (λ (x : Share). TellsUnread stop input x.diagnostics old.streams.err new.streams.err) (sym (behind_share s.before)) s.err;
       }
-      stand (Err Unwritten) unread world told ps s = subst (λ (x : Share). Cut unread x old.streams new.streams) (sym (behind_share ps)) s
-      stand (Err Memory) unread world told ps s = subst (λ (x : Share). Cut unread x old.streams new.streams) (sym (behind_share ps)) s
+
+      stand : (r : Result Bool Stop) (unread : Option Input) (world : World) → IsTold more old.inputs world → (ps : List Part) → Stands P world r unread ps old new
+          → Stands Q world r unread (quiet ++ ps) old new
+      stand (Ok refused) unread world told ps (found, gains) =
+          (found ∙ ap (λ (s : Share). s.refused) (sym (behind_share ps)), subst (λ (s : Share). Gains s old.streams new.streams) (sym (behind_share ps)) gains)
+      stand (Err Unread) None world told ps s = s
+      stand (Err Unread) (Some input) world told ps s = stops Unread input world told ps s
+      stand (Err Unwritten) None world told ps s = subst (λ (x : Share). Cut x old.streams new.streams) (sym (behind_share ps)) s
+      stand (Err Unwritten) (Some input) world told ps s = stops Unwritten input world told ps s
+      stand (Err Memory) unread world told ps s = subst (λ (x : Share). Cut x old.streams new.streams) (sym (behind_share ps)) s

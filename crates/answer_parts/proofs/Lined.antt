@@ -5,7 +5,7 @@ use Rattle.std.specs.Io.KnownBytes.{Appends}
 use Rattle.std.specs.List.{list_all}
 use Rattle.std.proofs.lemmas.Grind.{flat_map-append}
 use Rattle.std.proofs.lemmas.List.{append_cancel_left}
-use Rattle.sig_base.proofs.Puts.{Appends-then, front_longer, front_whole}
+use Rattle.sig_base.proofs.Puts.{Appends-then}
 use Rattle.sig_base.specs.Causes.{Rose}
 use Rattle.sig_base.specs.declared.faults.LineFault.{LineFault}
 use Rattle.sig_base.specs.declared.faults.LineFault.TheVariants.{Read}
@@ -19,13 +19,13 @@ use Rattle.answer_parts.proofs.Ending.{Kind, EachHas}
 use Rattle.answer_parts.proofs.Rows.{each_parts, parts_append, parts_aside, parts_one}
 use Rattle.answer_parts.proofs.Shares.{gains_nothing, gains_then, cut_longer, cut_then, cut_nothing, join_nothing, share_append}
 use Rattle.answer_parts.proofs.Wrote.{badly_since, well_then}
-use Rattle.answer_parts.specs.Cut.{Cut, of_unread}
+use Rattle.answer_parts.specs.Cut.{Cut}
 use Rattle.answer_parts.specs.Each.{EachPart}
-use Rattle.answer_parts.specs.EventLines.{ByLine, EachLine, AnswersWithin, UnlessBlank, StepGives, StepPart, EventLines, is_blank, is_end, line_refused}
-use Rattle.answer_parts.specs.Input.{Input, Events, World, Needs, unread_diagnostic}
+use Rattle.answer_parts.specs.EventLines.{ByLine, EachLine, AnswersWithin, UnlessBlank, StepGives, StepPart, events_part, EventLines, is_blank, is_end, line_refused}
+use Rattle.answer_parts.specs.Input.{Input, File, Events, World, Needs, EventsStay, unread_diagnostic}
 use Rattle.answer_parts.specs.Lines.{ended, diagnostics_text}
-use Rattle.answer_parts.specs.Parts.{Share, Part, no_share, join, share_of, Gains}
-use Rattle.answer_parts.specs.Stands.{Outcome, Writes, Cause, AreWhole, GivenWhole, Stands, Ends, ToldUnread}
+use Rattle.answer_parts.specs.Parts.{Share, Part, no_share, join, share_of, NoneOfEvents, Gains}
+use Rattle.answer_parts.specs.Stands.{Outcome, Writes, Cause, AreWhole, GivenWhole, IsHere, StopsAt, Stands, Ends, ToldUnread}
 use Rattle.answer_parts.specs.State.{State, Inputs, Streams, NoReadFailed, NoWriteFailed, SomeWriteFailed}
 use Rattle.answer_parts.specs.declared.stop.Stop.{Stop}
 use Rattle.answer_parts.specs.declared.stop.Stop.TheVariants.{Unread, Unwritten, Memory}
@@ -155,6 +155,10 @@ step_within by other within End share is = is
 -- ---- what is answered so far
 
 module _ (gives : ByLine) (limits : Limits) where
+  -- what the steps through the events are answered, and that with the part before them
+  abbrev Steps : Kind
+  Steps world parts = EachPart (StepPart gives) (lines_of limits world.events) world parts
+
   abbrev Lines : Kind
   Lines = EventLines gives limits
 
@@ -290,7 +294,7 @@ module _ (gives : ByLine) (limits : Limits) where
       (subst (λ (l : Option (List ℕ)). IsPassed r l later mid.inputs.left (Ok step)) at.stays asks.passed)
 
   steps_are : (xs ys : List LineStep) (world : World) → lines_of limits world.events ≡ xs ++ ys → (ps qs : List Part) → EachPart (StepPart gives) xs world ps → EachPart (StepPart gives) ys world qs
-      → Lines world (ps ++ qs)
+      → Steps world (ps ++ qs)
   steps_are xs ys world come ps qs first second =
       subst (λ (l : List LineStep). EachPart (StepPart gives) l world (ps ++ qs)) (sym come) (parts_append (StepPart gives) xs ys world ps qs first second)
 
@@ -331,6 +335,35 @@ module _ (gives : ByLine) (limits : Limits) where
   not_quiet : true ≡ false → ⊥
   not_quiet same = cc
 
+  -- ---- the part before the steps
+
+  opened : (result : Result Bool Stop) (unread : Option Input) (old new : State) (world : World) → (ps : List Part) × Steps world ps × Stands Steps world result unread ps old new
+      → (ps : List Part) × Lines world ps × Stands Lines world result unread ps old new × (NoneOfEvents ps → EventsStay old.inputs new.inputs)
+  opened result unread old new world (ps, steps, s) = (events_part ∷ ps, (ps, steps, refl), stand result unread s, λ none. absurd (none.0 refl))
+    where
+      here : (input : Input) (before behind : List Part) → IsHere Steps world input before behind new.inputs.left → IsHere Lines world input (events_part ∷ before) behind new.inputs.left
+      here (File name) before behind is = is
+      here Events before behind (whole, given, is) = (whole, given, (before, is, refl))
+
+      stops : (stop : Stop) (input : Input) → StopsAt Steps world stop input ps new.inputs.left old.streams new.streams
+          → StopsAt Lines world stop input (events_part ∷ ps) new.inputs.left old.streams new.streams
+      stops stop input at = record {
+        before = events_part ∷ at.before;
+        behind = at.behind;
+        divide = ap (λ (l : List Part). events_part ∷ l) at.divide;
+        here = here input at.before at.behind at.here;
+        out = at.out;
+        err = at.err;
+      }
+
+      stand : (r : Result Bool Stop) (u : Option Input) → Stands Steps world r u ps old new → Stands Lines world r u (events_part ∷ ps) old new
+      stand (Ok found) u st = st
+      stand (Err Unread) None st = st
+      stand (Err Unread) (Some input) st = stops Unread input st
+      stand (Err Unwritten) None st = st
+      stand (Err Unwritten) (Some input) st = stops Unwritten input st
+      stand (Err Memory) u st = st
+
   -- ---- the end of the events
 
   pub lines_end : (r later : Reading) (step : LineStep) (refused : Bool) (old now mid : State) → is_end step ≡ true → Asks r later now mid (Ok step) → Going r refused old now
@@ -338,7 +371,7 @@ module _ (gives : ByLine) (limits : Limits) where
   lines_end r later step refused old now mid last asks going = record {
     unread = None;
     cause = (refl, (asks.failed ∙ going.reads.0, asks.cause.same ∙ going.reads.1), subst (λ (s : Streams). NoWriteFailed old.streams s) (sym asks.streams) going.writes);
-    stands = λ world told. whole world (going.answered world (told.events refl));
+    stands = λ world told. opened (Ok refused) None old mid world (whole world (going.answered world (told.events refl)));
     files = asks.files ∙ going.files;
     apart = λ quiet. absurd (not_quiet quiet);
     kept = asks.kept ∙ going.kept;
@@ -348,7 +381,7 @@ module _ (gives : ByLine) (limits : Limits) where
       all world a = a.at.come ∙ ap (λ (l : List LineStep). a.done ++ l)
           (none_comes r later a.at.rest mid.inputs.left step last (subst (λ (l : Option (List ℕ)). IsNext r l later mid.inputs.left (Ok step)) a.at.stays asks.next))
 
-      whole : (world : World) → Answered r refused old now world → (ps : List Part) × Lines world ps × Stands Lines world (Ok refused) None ps old mid
+      whole : (world : World) → Answered r refused old now world → (ps : List Part) × Steps world ps × Stands Steps world (Ok refused) None ps old mid
       whole world a = (
         a.parts,
         subst (λ (l : List LineStep). EachPart (StepPart gives) l world a.parts) (sym (all world a ∙ append-nil a.done)) a.each,
@@ -378,11 +411,14 @@ module _ (gives : ByLine) (limits : Limits) where
   rest_of each r refused old now world a = each_parts (StepPart gives) (each_step each) (coming r a.at.rest) world
 
   pub each_answer : EachLine gives → EachHas Lines
-  each_answer each world = each_parts (StepPart gives) (each_step each) (lines_of limits world.events) world
+  each_answer each world =
+      let steps = each_parts (StepPart gives) (each_step each) (lines_of limits world.events) world in
+      (events_part ∷ steps.0, (steps.0, steps.1, refl))
 
   -- where each line has one answer, all have one
   pub lines_one : ((number : ℕ) (line : List ℕ) (a b : Share) → gives number line a → gives number line b → a ≡ b) → (world : World) (ps qs : List Part) → Lines world ps → Lines world qs → ps ≡ qs
-  lines_one one world ps qs first second = parts_one (StepPart gives) one_part (lines_of limits world.events) world ps qs first second
+  lines_one one world ps qs (first, steps, is) (second, steps_too, is_too) =
+      is ∙ (ap (λ (l : List Part). events_part ∷ l) (parts_one (StepPart gives) one_part (lines_of limits world.events) world first second steps steps_too) ∙ sym is_too)
     where
       unless : (blank : Bool) (number : ℕ) (line : List ℕ) (a b : Share) → UnlessBlank blank (gives number line) a → UnlessBlank blank (gives number line) b → a ≡ b
       unless true number line a b x y = x ∙ sym y
@@ -406,7 +442,7 @@ module _ (gives : ByLine) (limits : Limits) where
   lines_stop each r later step refused stop old now mid new some asks going wrote = record {
     unread = None;
     cause = caused stop wrote.outcome;
-    stands = λ world told. stopped world (going.answered world (told.events refl));
+    stands = λ world told. opened (Err stop) None old new world (stopped world (going.answered world (told.events refl)));
     files = ap (λ (i : Inputs). i.files) wrote.inputs ∙ (asks.files ∙ going.files);
     apart = λ quiet. absurd (not_quiet quiet);
     kept = wrote.kept ∙ (asks.kept ∙ going.kept);
@@ -414,25 +450,28 @@ module _ (gives : ByLine) (limits : Limits) where
     where
       caused : (s : Stop) → Outcome wrote.share (Err s) mid.streams new.streams → Cause events_alone (Err s) None old new
       caused Unread outcome = absurd outcome
-      caused Unwritten outcome = badly_since old.streams now.streams new.streams going.writes (subst (λ (s : Streams). SomeWriteFailed s new.streams) asks.streams outcome.1)
+      caused Unwritten outcome = (
+        (ap (λ (i : Inputs). i.failed) wrote.inputs ∙ (asks.failed ∙ going.reads.0), ap (λ (i : Inputs). i.faults) wrote.inputs ∙ (asks.cause.same ∙ going.reads.1)),
+        badly_since old.streams now.streams new.streams going.writes (subst (λ (s : Streams). SomeWriteFailed s new.streams) asks.streams outcome.1),
+      )
       caused Memory outcome = refl
 
-      cut : (a : Share) (s : Stop) → Gains a old.streams now.streams → Outcome wrote.share (Err s) mid.streams new.streams → (more : Share) → Cut None (join a (join wrote.share more)) old.streams new.streams
+      cut : (a : Share) (s : Stop) → Gains a old.streams now.streams → Outcome wrote.share (Err s) mid.streams new.streams → (more : Share) → Cut (join a (join wrote.share more)) old.streams new.streams
       cut a Unread gains outcome more = absurd outcome
-      cut a Unwritten gains outcome more = cut_then None a (join wrote.share more) old.streams now.streams new.streams gains
-          (subst (λ (s : Streams). Cut None (join wrote.share more) s new.streams) asks.streams (cut_longer None wrote.share more mid.streams new.streams outcome.0))
-      cut a Memory gains outcome more = cut_then None a (join wrote.share more) old.streams now.streams new.streams gains
-          (subst (λ (s : Streams). Cut None (join wrote.share more) s new.streams) asks.streams (cut_longer None wrote.share more mid.streams new.streams outcome))
+      cut a Unwritten gains outcome more = cut_then a (join wrote.share more) old.streams now.streams new.streams gains
+          (subst (λ (s : Streams). Cut (join wrote.share more) s new.streams) asks.streams (cut_longer wrote.share more mid.streams new.streams outcome.0))
+      cut a Memory gains outcome more = cut_then a (join wrote.share more) old.streams now.streams new.streams gains
+          (subst (λ (s : Streams). Cut (join wrote.share more) s new.streams) asks.streams (cut_longer wrote.share more mid.streams new.streams outcome))
 
       stand : (s : Stop) (world : World) (ps qs : List Part) → Gains (share_of ps) old.streams now.streams → Outcome wrote.share (Err s) mid.streams new.streams
-          → Stands Lines world (Err s) None (ps ++ part_of wrote.share ∷ qs) old new
+          → Stands Steps world (Err s) None (ps ++ part_of wrote.share ∷ qs) old new
       stand Unread world ps qs gains outcome = absurd outcome
       stand Unwritten world ps qs gains outcome =
-          subst (λ (s : Share). Cut None s old.streams new.streams) (sym (share_append ps (part_of wrote.share ∷ qs))) (cut (share_of ps) Unwritten gains outcome (share_of qs))
+          subst (λ (s : Share). Cut s old.streams new.streams) (sym (share_append ps (part_of wrote.share ∷ qs))) (cut (share_of ps) Unwritten gains outcome (share_of qs))
       stand Memory world ps qs gains outcome =
-          subst (λ (s : Share). Cut None s old.streams new.streams) (sym (share_append ps (part_of wrote.share ∷ qs))) (cut (share_of ps) Memory gains outcome (share_of qs))
+          subst (λ (s : Share). Cut s old.streams new.streams) (sym (share_append ps (part_of wrote.share ∷ qs))) (cut (share_of ps) Memory gains outcome (share_of qs))
 
-      stopped : (world : World) → Answered r refused old now world → (ps : List Part) × Lines world ps × Stands Lines world (Err stop) None ps old new
+      stopped : (world : World) → Answered r refused old now world → (ps : List Part) × Steps world ps × Stands Steps world (Err stop) None ps old new
       stopped world a =
           let c : Came r later a.at.rest mid.inputs.left step = came_at r later step now mid world.events a.done a.at some asks in
           let behind = each_parts (StepPart gives) (each_step each) (coming later c.still) world in (
@@ -449,20 +488,20 @@ module _ (gives : ByLine) (limits : Limits) where
   lines_memory each r later refused fault old now mid asks going = record {
     unread = None;
     cause = refl;
-    stands = λ world told. stopped world (going.answered world (told.events refl));
+    stands = λ world told. opened (Err Memory) None old mid world (stopped world (going.answered world (told.events refl)));
     files = asks.files ∙ going.files;
     apart = λ quiet. absurd (not_quiet quiet);
     kept = asks.kept ∙ going.kept;
   }
     where
-      stopped : (world : World) → Answered r refused old now world → (ps : List Part) × Lines world ps × Stands Lines world (Err Memory) None ps old mid
+      stopped : (world : World) → Answered r refused old now world → (ps : List Part) × Steps world ps × Stands Steps world (Err Memory) None ps old mid
       stopped world a =
           let behind = rest_of each r refused old now world a in (
             a.parts ++ behind.0,
             steps_are a.done (coming r a.at.rest) world a.at.come a.parts behind.0 a.each behind.1,
-            subst (λ (s : Share). Cut None s old.streams mid.streams) (sym (share_append a.parts behind.0))
-                (cut_then None (share_of a.parts) (share_of behind.0) old.streams now.streams mid.streams a.gains
-                (subst (λ (s : Streams). Cut None (share_of behind.0) now.streams s) (sym asks.streams) (cut_nothing None (share_of behind.0) now.streams))),
+            subst (λ (s : Share). Cut s old.streams mid.streams) (sym (share_append a.parts behind.0))
+                (cut_then (share_of a.parts) (share_of behind.0) old.streams now.streams mid.streams a.gains
+                (subst (λ (s : Streams). Cut (share_of behind.0) now.streams s) (sym asks.streams) (cut_nothing (share_of behind.0) now.streams))),
           )
 
   -- ---- the events can't be read
@@ -477,7 +516,7 @@ module _ (gives : ByLine) (limits : Limits) where
   lines_unread each r later refused stop old now mid new asks going told inputs kept = record {
     unread = unread_at stop;
     cause = caused stop told;
-    stands = λ world is. stopped world (going.answered world (is.events refl));
+    stands = λ world is. opened (Err stop) (unread_at stop) old new world (stopped world (going.answered world (is.events refl)));
     files = ap (λ (i : Inputs). i.files) inputs ∙ (asks.files ∙ going.files);
     apart = λ quiet. absurd (not_quiet quiet);
     kept = kept ∙ (asks.kept ∙ going.kept);
@@ -487,9 +526,14 @@ module _ (gives : ByLine) (limits : Limits) where
       rose = subst (λ (n : ℕ). Rose n new.inputs.faults) going.reads.1
           (subst (λ (i : Inputs). Rose now.inputs.faults i.faults) (sym inputs) (asks.cause.failed refl))
 
+      -- and no file did
+      alone : new.inputs.failed ≡ old.inputs.failed
+      alone = ap (λ (i : Inputs). i.failed) inputs ∙ (asks.failed ∙ going.reads.0)
+
       caused : (s : Stop) → ToldUnread Events s mid new → Cause events_alone (Err s) (unread_at s) old new
-      caused Unread t = (refl, rose)
-      caused Unwritten t = (refl, rose, badly_since old.streams now.streams new.streams going.writes (subst (λ (s : Streams). SomeWriteFailed s new.streams) asks.streams t.1))
+      caused Unread t =
+          (refl, (rose, alone), well_then old.streams now.streams new.streams going.writes (subst (λ (s : Streams). NoWriteFailed s new.streams) asks.streams t.1))
+      caused Unwritten t = (refl, (rose, alone), badly_since old.streams now.streams new.streams going.writes (subst (λ (s : Streams). SomeWriteFailed s new.streams) asks.streams t.1))
       caused Memory t = refl
 
       lined : (xs ys : List (List ℕ)) → diagnostics_text xs ++ diagnostics_text ys ≡ diagnostics_text (xs ++ ys)
@@ -507,7 +551,7 @@ module _ (gives : ByLine) (limits : Limits) where
 
       -- what stands behind whole lines
       here : (world : World) (done : List LineStep) (parts behind : List Part) (rest : List ℕ) → EachPart (StepPart gives) done world parts → Whole r rest world.events done
-          → Failed r rest mid.inputs.left → (whole : List ℕ) × GivenWhole world.events new.inputs.left whole × Lines (record { files = world.files; events = whole }) parts
+          → Failed r rest mid.inputs.left → (whole : List ℕ) × GivenWhole world.events new.inputs.left whole × Steps (record { files = world.files; events = whole }) parts
       here world done parts behind rest each_done w f = (
         w.whole,
         record {
@@ -527,36 +571,36 @@ module _ (gives : ByLine) (limits : Limits) where
               ∙ (ap (λ (l : List LineStep). done ++ l) (last_bytes limits.line_bytes r.room w.number [] refl (omega arith)) ∙ append-nil done))
 
       stand : (s : Stop) (world : World) (done : List LineStep) (parts behind : List Part) (rest : List ℕ) → EachPart (StepPart gives) done world parts → Whole r rest world.events done
-          → Failed r rest mid.inputs.left → Gains (share_of parts) old.streams now.streams → ToldUnread Events s mid new → Stands Lines world (Err s) (unread_at s) (parts ++ behind) old new
+          → Failed r rest mid.inputs.left → Gains (share_of parts) old.streams now.streams → ToldUnread Events s mid new → Stands Steps world (Err s) (unread_at s) (parts ++ behind) old new
       stand Unread world done parts behind rest each_done w f gains t = record {
         before = parts;
         behind = behind;
         divide = refl;
         here = here world done parts behind rest each_done w f;
-        out = out_still (share_of parts) gains t.1;
+        out = out_still (share_of parts) gains t.2;
         err = subst (λ (l : List ℕ). Appends old.streams.err new.streams.err l) (lined (share_of parts).diagnostics (unread_diagnostic Events ∷ []))
             (Appends-then old.streams.err now.streams.err new.streams.err (diagnostics_text (share_of parts).diagnostics) (diagnostics_text (unread_diagnostic Events ∷ [])) gains.1
             (subst (λ (l : List ℕ). Appends now.streams.err new.streams.err l) (sym (append-nil (ended (unread_diagnostic Events)))) (err_since (ended (unread_diagnostic Events)) t.0)));
       }
-      stand Unwritten world done parts behind rest each_done w f gains t =
-          subst (λ (s : Share). Cut (Some Events) s old.streams new.streams) (sym (share_append parts behind)) (
-            front_longer old.streams.out new.streams.out (share_of parts).output (share_of behind).output
-                (front_whole old.streams.out new.streams.out (share_of parts).output (out_still (share_of parts) gains t.2)),
-            record {
-              whole = (share_of parts).diagnostics;
-              later = (share_of behind).diagnostics;
-              begun = t.0.front;
-              divide = refl;
-              is_begun = of_unread Events t.0.rest refl t.0.parts;
-              grown = Appends-then old.streams.err now.streams.err new.streams.err (diagnostics_text (share_of parts).diagnostics) t.0.front gains.1 (err_since t.0.front t.0.grown);
-            },
-          )
+      stand Unwritten world done parts behind rest each_done w f gains t = record {
+        before = parts;
+        behind = behind;
+        divide = refl;
+        here = here world done parts behind rest each_done w f;
+        out = out_still (share_of parts) gains t.2;
+        err = record {
+          begun = t.0.front;
+          rest = t.0.rest;
+          divide = t.0.parts;
+          grown = Appends-then old.streams.err now.streams.err new.streams.err (diagnostics_text (share_of parts).diagnostics) t.0.front gains.1 (err_since t.0.front t.0.grown);
+        };
+      }
       stand Memory world done parts behind rest each_done w f gains t =
-          subst (λ (s : Share). Cut None s old.streams new.streams) (sym (share_append parts behind))
-          (cut_then None (share_of parts) (share_of behind) old.streams now.streams new.streams gains
-          (subst (λ (s : Streams). Cut None (share_of behind) now.streams s) (sym (t ∙ asks.streams)) (cut_nothing None (share_of behind) now.streams)))
+          subst (λ (s : Share). Cut s old.streams new.streams) (sym (share_append parts behind))
+          (cut_then (share_of parts) (share_of behind) old.streams now.streams new.streams gains
+          (subst (λ (s : Streams). Cut (share_of behind) now.streams s) (sym (t ∙ asks.streams)) (cut_nothing (share_of behind) now.streams)))
 
-      stopped : (world : World) → Answered r refused old now world → (ps : List Part) × Lines world ps × Stands Lines world (Err stop) (unread_at stop) ps old new
+      stopped : (world : World) → Answered r refused old now world → (ps : List Part) × Steps world ps × Stands Steps world (Err stop) (unread_at stop) ps old new
       stopped world a = by a.at.stands
         where
           f : Failed r a.at.rest mid.inputs.left
@@ -565,7 +609,7 @@ module _ (gives : ByLine) (limits : Limits) where
           behind : (qs : List Part) × EachPart (StepPart gives) (coming r a.at.rest) world qs
           behind = rest_of each r refused old now world a
 
-          by : (r.ended ≡ true) ⊎ Whole r a.at.rest world.events a.done → (ps : List Part) × Lines world ps × Stands Lines world (Err stop) (unread_at stop) ps old new
+          by : (r.ended ≡ true) ⊎ Whole r a.at.rest world.events a.done → (ps : List Part) × Steps world ps × Stands Steps world (Err stop) (unread_at stop) ps old new
           by (inl ended) = absurd (not_end (asks.ended ended))
           by (inr w) = (
             a.parts ++ behind.0,

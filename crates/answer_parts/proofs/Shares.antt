@@ -1,13 +1,12 @@
 -- Shares, one behind the other, and how far they are written.
-use Rattle.std.proofs.Common.{◌≡◌, ℕ, Bool, true, false, List, [], ◌∷◌, ◌++◌, refl, ap, sym, ◌∙◌, subst, append_assoc, append-nil, Option, None, Some}
+use Rattle.std.proofs.Common.{◌≡◌, ℕ, Bool, true, false, List, [], ◌∷◌, ◌++◌, refl, ap, sym, ◌∙◌, subst, append_assoc, append-nil, Option}
 use Rattle.std.specs.Prelude.{◌||◌}
 use Rattle.std.specs.Io.KnownBytes.{Appends}
 use Rattle.std.proofs.Math.Bool.{or-false}
 use Rattle.std.proofs.lemmas.Grind.{flat_map-append}
 use Rattle.sig_base.proofs.Puts.{Appends-nothing, Appends-then, front_longer, front_nothing, front_then}
 use Rattle.sig_base.specs.Causes.{AppendsFront}
-use Rattle.answer_parts.specs.Cut.{IsBegun, nothing, of_next, of_unread, DiagnosticsCut, Cut}
-use Rattle.answer_parts.specs.Input.{Input}
+use Rattle.answer_parts.specs.Cut.{IsBegun, nothing, of_next, DiagnosticsCut, Cut}
 use Rattle.answer_parts.specs.Lines.{ended, diagnostics_text}
 use Rattle.answer_parts.specs.Parts.{Share, Part, no_share, join, joined, share_of, Gains}
 use Rattle.answer_parts.specs.State.{Streams}
@@ -42,8 +41,8 @@ share_append (x ∷ xs) ys = ap (λ (s : Share). join x.share s) (share_append x
 
 -- ---- diagnostics
 
-diagnostics_longer : (unread : Option Input) (lines more : List (List ℕ)) (eo en : Option (List ℕ)) → DiagnosticsCut unread eo en lines → DiagnosticsCut unread eo en (lines ++ more)
-diagnostics_longer unread lines more eo en c = record {
+diagnostics_longer : (lines more : List (List ℕ)) (eo en : Option (List ℕ)) → DiagnosticsCut eo en lines → DiagnosticsCut eo en (lines ++ more)
+diagnostics_longer lines more eo en c = record {
   whole = c.whole;
   later = c.later ++ more;
   begun = c.begun;
@@ -52,13 +51,12 @@ diagnostics_longer unread lines more eo en c = record {
   grown = c.grown;
 }
   where
-    begun_longer : (begun : List ℕ) (later : List (List ℕ)) → IsBegun unread begun later → IsBegun unread begun (later ++ more)
+    begun_longer : (begun : List ℕ) (later : List (List ℕ)) → IsBegun begun later → IsBegun begun (later ++ more)
     begun_longer begun later (nothing is) = nothing is
     begun_longer begun later (of_next line rest others is parts) = of_next line rest (others ++ more) (ap (λ (l : List (List ℕ)). l ++ more) is) parts
-    begun_longer begun later (of_unread input rest there parts) = of_unread input rest there parts
 
-diagnostics_then : (unread : Option Input) (first lines : List (List ℕ)) (eo em en : Option (List ℕ)) → Appends eo em (diagnostics_text first) → DiagnosticsCut unread em en lines → DiagnosticsCut unread eo en (first ++ lines)
-diagnostics_then unread first lines eo em en before c = record {
+diagnostics_then : (first lines : List (List ℕ)) (eo em en : Option (List ℕ)) → Appends eo em (diagnostics_text first) → DiagnosticsCut em en lines → DiagnosticsCut eo en (first ++ lines)
+diagnostics_then first lines eo em en before c = record {
   whole = first ++ c.whole;
   later = c.later;
   begun = c.begun;
@@ -70,12 +68,12 @@ diagnostics_then unread first lines eo em en before c = record {
 }
 
 -- no diagnostic yet
-pub no_diagnostics : (unread : Option Input) (lines : List (List ℕ)) (eo en : Option (List ℕ)) → Appends eo en [] → DiagnosticsCut unread eo en lines
-no_diagnostics unread lines eo en still = record { whole = []; later = lines; begun = []; divide = refl; is_begun = nothing refl; grown = still }
+pub no_diagnostics : (lines : List (List ℕ)) (eo en : Option (List ℕ)) → Appends eo en [] → DiagnosticsCut eo en lines
+no_diagnostics lines eo en still = record { whole = []; later = lines; begun = []; divide = refl; is_begun = nothing refl; grown = still }
 
 -- a front of the one diagnostic
-pub diagnostic_front : (unread : Option Input) (line bytes : List ℕ) (eo en : Option (List ℕ)) → bytes ≡ ended line → AppendsFront eo en bytes → DiagnosticsCut unread eo en (line ∷ [])
-diagnostic_front unread line bytes eo en is f = record {
+pub diagnostic_front : (line bytes : List ℕ) (eo en : Option (List ℕ)) → bytes ≡ ended line → AppendsFront eo en bytes → DiagnosticsCut eo en (line ∷ [])
+diagnostic_front line bytes eo en is f = record {
   whole = [];
   later = line ∷ [];
   begun = f.front;
@@ -83,18 +81,6 @@ diagnostic_front unread line bytes eo en is f = record {
   is_begun = of_next line f.rest [] refl (sym is ∙ f.parts);
   grown = f.grown;
 }
-
--- where no diagnostic of an unread input is begun, it doesn't matter which is unread
-pub no_unread : (unread : Option Input) (lines : List (List ℕ)) (eo en : Option (List ℕ)) → DiagnosticsCut None eo en lines → DiagnosticsCut unread eo en lines
-no_unread unread lines eo en c = record { whole = c.whole; later = c.later; begun = c.begun; divide = c.divide; is_begun = any c.begun c.later c.is_begun; grown = c.grown }
-  where
-    not_some : (input : Input) → None ≡ Some input → ⊥
-    not_some input same = cc
-
-    any : (begun : List ℕ) (later : List (List ℕ)) → IsBegun None begun later → IsBegun unread begun later
-    any begun later (nothing is) = nothing is
-    any begun later (of_next line rest others is parts) = of_next line rest others is parts
-    any begun later (of_unread input rest there parts) = absurd (not_some input there)
 
 -- ---- shares
 
@@ -109,17 +95,14 @@ gains_then a b old mid new first second = (
 )
 
 -- nothing is written yet
-pub cut_nothing : (unread : Option Input) (share : Share) (s : Streams) → Cut unread share s s
-cut_nothing unread share s = (front_nothing s.out s.out share.output (Appends-nothing s.out), no_diagnostics unread share.diagnostics s.err s.err (Appends-nothing s.err))
+pub cut_nothing : (share : Share) (s : Streams) → Cut share s s
+cut_nothing share s = (front_nothing s.out s.out share.output (Appends-nothing s.out), no_diagnostics share.diagnostics s.err s.err (Appends-nothing s.err))
 
 -- what is cut off is cut off too where more would follow
-pub cut_longer : (unread : Option Input) (a b : Share) (old new : Streams) → Cut unread a old new → Cut unread (join a b) old new
-cut_longer unread a b old new cut = (front_longer old.out new.out a.output b.output cut.0, diagnostics_longer unread a.diagnostics b.diagnostics old.err new.err cut.1)
+pub cut_longer : (a b : Share) (old new : Streams) → Cut a old new → Cut (join a b) old new
+cut_longer a b old new cut = (front_longer old.out new.out a.output b.output cut.0, diagnostics_longer a.diagnostics b.diagnostics old.err new.err cut.1)
 
 -- a whole share, and then one that is cut off
-pub cut_then : (unread : Option Input) (a b : Share) (old mid new : Streams) → Gains a old mid → Cut unread b mid new → Cut unread (join a b) old new
-cut_then unread a b old mid new first cut =
-    (front_then old.out mid.out new.out a.output b.output first.0 cut.0, diagnostics_then unread a.diagnostics b.diagnostics old.err mid.err new.err first.1 cut.1)
-
-pub cut_any : (unread : Option Input) (a : Share) (old new : Streams) → Cut None a old new → Cut unread a old new
-cut_any unread a old new cut = (cut.0, no_unread unread a.diagnostics old.err new.err cut.1)
+pub cut_then : (a b : Share) (old mid new : Streams) → Gains a old mid → Cut b mid new → Cut (join a b) old new
+cut_then a b old mid new first cut =
+    (front_then old.out mid.out new.out a.output b.output first.0 cut.0, diagnostics_then a.diagnostics b.diagnostics old.err mid.err new.err first.1 cut.1)

@@ -4,7 +4,6 @@ use Rattle.std.specs.Io.KnownBytes.{Appends}
 use Rattle.sig_base.proofs.Puts.{Appends-nothing, front_nothing}
 use Rattle.answer_parts.proofs.Ending.{Kind}
 use Rattle.answer_parts.proofs.Shares.{no_diagnostics}
-use Rattle.answer_parts.specs.Cut.{of_unread}
 use Rattle.answer_parts.specs.Input.{Input, File, World, Needs, IsNeeded, unread_diagnostic}
 use Rattle.answer_parts.specs.Lines.{ended}
 use Rattle.answer_parts.specs.Parts.{Part, share_of}
@@ -27,8 +26,8 @@ unread_at name Memory = None
 
 module _ (needs : Needs) (P : Kind) (name : List ℕ) (old new : State) (there : IsNeeded needs (File name)) where
   unread_cause : (stop : Stop) → StopsBefore name stop old new → Cause needs (Err stop) (unread_at name stop) old new
-  unread_cause Unread s = (there, s.told.0)
-  unread_cause Unwritten s = (there, s.told.0, s.told.2)
+  unread_cause Unread s = (there, (s.told.0, (s.left, s.faults)), s.told.2)
+  unread_cause Unwritten s = (there, (s.told.0, (s.left, s.faults)), s.told.2)
   unread_cause Memory s = refl
 
   nothing_out : (stop : Stop) → StopsBefore name stop old new → Appends old.streams.out new.streams.out []
@@ -43,20 +42,17 @@ module _ (needs : Needs) (P : Kind) (name : List ℕ) (old new : State) (there :
     out = nothing_out Unread s;
     err = subst (λ (l : List ℕ). Appends old.streams.err new.streams.err l) (sym (append-nil (ended (unread_diagnostic (File name))))) s.told.1;
   }
-  unread_stands Unwritten world ps begins s = (
-    front_nothing old.streams.out new.streams.out (share_of ps).output (nothing_out Unwritten s),
-    record {
-      whole = [];
-      later = (share_of ps).diagnostics;
-      begun = s.told.1.front;
-      divide = refl;
-      is_begun = of_unread (File name) s.told.1.rest refl s.told.1.parts;
-      grown = s.told.1.grown;
-    },
-  )
+  unread_stands Unwritten world ps begins s = record {
+    before = [];
+    behind = ps;
+    divide = refl;
+    here = begins;
+    out = nothing_out Unwritten s;
+    err = record { begun = s.told.1.front; rest = s.told.1.rest; divide = s.told.1.parts; grown = s.told.1.grown };
+  }
   unread_stands Memory world ps begins s = (
     front_nothing old.streams.out new.streams.out (share_of ps).output (nothing_out Memory s),
-    no_diagnostics None (share_of ps).diagnostics old.streams.err new.streams.err
+    no_diagnostics (share_of ps).diagnostics old.streams.err new.streams.err
         (same_appends old.streams.err old.streams.err new.streams.err s.told (Appends-nothing old.streams.err)),
   )
 
@@ -64,7 +60,7 @@ module _ (needs : Needs) (P : Kind) (name : List ℕ) (old new : State) (there :
   ends_unread stop each s = record {
     unread = unread_at name stop;
     cause = unread_cause stop s;
-    stands = λ world told. let a = each world in (a.0, a.1, unread_stands stop world a.0 a.2 s);
+    stands = λ world told. let a = each world in (a.0, a.1, unread_stands stop world a.0 a.2 s, λ _. (s.left, s.faults));
     files = s.files;
     apart = λ _. (s.left, s.faults);
     kept = s.kept;

@@ -1,5 +1,5 @@
 -- What writing shares leaves, one behind the other.
-use Rattle.std.proofs.Common.{◌≡◌, ℕ, Bool, false, List, [], refl, ap, sym, ◌∙◌, subst, append-nil, inl, inr, true, Option, None, Result, Ok, Err}
+use Rattle.std.proofs.Common.{◌≡◌, ℕ, Bool, false, List, [], refl, ap, sym, ◌∙◌, subst, append-nil, inl, inr, true, Option, Result, Ok, Err}
 use Rattle.std.specs.Prelude.{◌||◌, ◌⊎◌}
 use Rattle.std.specs.Io.KnownBytes.{Appends}
 use Rattle.sig_base.proofs.Puts.{Appends-nothing, front_nothing}
@@ -39,13 +39,13 @@ outcome_both a b first second old mid new one two =
 
 outcome_stop : (a b : Share) (first : Bool) (stop : Stop) (old mid new : Streams) → Outcome a (Ok first) old mid → Outcome b (Err stop) mid new → Outcome (join a b) (Err stop) old new
 outcome_stop a b first Unread old mid new one two = two
-outcome_stop a b first Unwritten old mid new one two = (cut_then None a b old mid new one.1 two.0, badly_since old mid new one.2 two.1)
-outcome_stop a b first Memory old mid new one two = cut_then None a b old mid new one.1 two
+outcome_stop a b first Unwritten old mid new one two = (cut_then a b old mid new one.1 two.0, badly_since old mid new one.2 two.1)
+outcome_stop a b first Memory old mid new one two = cut_then a b old mid new one.1 two
 
 outcome_longer : (a b : Share) (stop : Stop) (old new : Streams) → Outcome a (Err stop) old new → Outcome (join a b) (Err stop) old new
 outcome_longer a b Unread old new one = one
-outcome_longer a b Unwritten old new one = (cut_longer None a b old new one.0, one.1)
-outcome_longer a b Memory old new one = cut_longer None a b old new one
+outcome_longer a b Unwritten old new one = (cut_longer a b old new one.0, one.1)
+outcome_longer a b Memory old new one = cut_longer a b old new one
 
 -- both whole
 pub writes_both : (P Q : Share → Type 0) (first second : Bool) (old mid new : State)
@@ -101,7 +101,7 @@ pub put_cut : (text : List ℕ) (old new : State) → AppendsFront old.streams.o
 put_cut text old new out err rose inputs kept = record {
   share = text_share text;
   is = refl;
-  outcome = ((out, no_diagnostics None [] old.streams.err new.streams.err (stays old.streams.err new.streams.err err)), inl rose);
+  outcome = ((out, no_diagnostics [] old.streams.err new.streams.err (stays old.streams.err new.streams.err err)), inl rose);
   inputs = inputs;
   kept = kept;
 }
@@ -128,7 +128,7 @@ tell_cut text line old new is err out rose inputs kept = record {
   share = diagnostic_share line;
   is = refl;
   outcome = (
-    (front_nothing old.streams.out new.streams.out [] (stays old.streams.out new.streams.out out), diagnostic_front None line text old.streams.err new.streams.err is err),
+    (front_nothing old.streams.out new.streams.out [] (stays old.streams.out new.streams.out out), diagnostic_front line text old.streams.err new.streams.err is err),
     inr rose,
   );
   inputs = inputs;
@@ -137,4 +137,4 @@ tell_cut text line old new is err out rose inputs kept = record {
 
 -- want of memory before anything was written
 pub writes_memory : (P : Share → Type 0) (s : State) → (share : Share) × P share → Writes P (Err Memory) s s
-writes_memory P s (share, is) = record { share = share; is = is; outcome = cut_nothing None share s.streams; inputs = refl; kept = refl }
+writes_memory P s (share, is) = record { share = share; is = is; outcome = cut_nothing share s.streams; inputs = refl; kept = refl }

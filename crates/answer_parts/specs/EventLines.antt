@@ -64,9 +64,14 @@ pub record StepPart (by : ByLine) (step : LineStep) (world : World) (part : Part
   pub input : part.input ≡ Some Events
   pub share : StepGives by step part.share
 
+-- the events are asked for, and nothing is answered yet
+abbrev pub events_part : Part
+events_part = record { input = Some Events; share = no_share }
+
 -- the answer to the lines of the events, in their order
 abbrev pub EventLines : ByLine → Limits → World → List Part → Type 0
-EventLines by limits world parts = EachPart (StepPart by) (lines_of limits world.events) world parts
+EventLines by limits world parts =
+    (lines : List Part) × EachPart (StepPart by) (lines_of limits world.events) world lines × (parts ≡ events_part ∷ lines)
 
 -- nothing comes behind it
 abbrev pub is_end : LineStep → Bool

@@ -16,10 +16,15 @@ shown_name Events = codes "events"
 abbrev pub unread_diagnostic : Input → List ℕ
 unread_diagnostic input = codes "sigma: cannot read " ++ shown_name input
 
--- Reading this input failed in between: the shelf's list gained the file's name, or the count of the events rose.
+-- nothing of the events was read in between, so far as they tell it
+abbrev pub EventsStay : Inputs → Inputs → Type 0
+EventsStay old new = (new.left ≡ old.left) × (new.faults ≡ old.faults)
+
+-- Reading this input failed in between, and reading none of the others did: the shelf's list gained the file's name, and nothing of
+-- the events was read; or the count of the events rose.
 abbrev pub WasUnread : Input → Inputs → Inputs → Type 0
-WasUnread (File name) old new = new.failed ≡ old.failed ++ name ∷ []
-WasUnread Events old new = Rose old.faults new.faults
+WasUnread (File name) old new = (new.failed ≡ old.failed ++ name ∷ []) × EventsStay old new
+WasUnread Events old new = Rose old.faults new.faults × (new.failed ≡ old.failed)
 
 -- what there is to read: the files' contents and the bytes of the events
 pub record World : Type 0 where

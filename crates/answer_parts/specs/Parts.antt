@@ -1,7 +1,7 @@
 -- Answers, part by part.
-use Rattle.std.specs.Prelude.{ℕ, Bool, true, false, ◌||◌, List, [], ◌∷◌, ◌++◌, Option}
+use Rattle.std.specs.Prelude.{◌≡◌, ⊤, ℕ, Bool, true, false, ◌||◌, List, [], ◌∷◌, ◌++◌, Option, Some}
 use Rattle.std.specs.Io.KnownBytes.{Appends}
-use Rattle.answer_parts.specs.Input.{Input}
+use Rattle.answer_parts.specs.Input.{Input, Events}
 use Rattle.answer_parts.specs.Lines.{diagnostics_text}
 use Rattle.answer_parts.specs.State.{Streams}
 
@@ -38,6 +38,11 @@ pub record Part : Type 0 where
 abbrev pub share_of : List Part → Share
 share_of [] = no_share
 share_of (part ∷ parts) = join part.share (share_of parts)
+
+-- for none of the parts the events are read
+abbrev pub NoneOfEvents : List Part → Type 0
+NoneOfEvents [] = ⊤
+NoneOfEvents (part ∷ parts) = (part.input ≡ Some Events → ⊥) × NoneOfEvents parts
 
 -- the streams gained the share's output and diagnostics
 abbrev pub Gains : Share → Streams → Streams → Type 0
