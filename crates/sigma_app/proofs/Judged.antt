@@ -4,7 +4,7 @@ use Rattle.answer_parts.specs.Parts.{Share}
 use Rattle.event_schema.specs.declared.schema.Schema.{Schema}
 use Rattle.rule_model.specs.Plain.{PlainRule}
 use Rattle.rule_model.specs.Rules.{rule_refusal, lone_refusal, IsLoneRule}
-use Rattle.rule_queries.specs.Queries.{query_of, query_refusal}
+use Rattle.rule_queries.specs.SqlQueries.{query_of, query_refusal, IsConverted, IsRefused}
 use Rattle.rule_queries.specs.Verdicts as rules
 use Rattle.sig_base.specs.declared.limits.Limits.{Limits}
 use Rattle.sig_base.specs.declared.refusal.Refusal.{Refusal}
@@ -58,12 +58,12 @@ one_checks one limits name t a b (no_rule r so is) (no_rule s so_too too) = same
 
 module _ (one : OneLone) (limits : Limits) (given : Option Schema) where
   -- what has a query isn't refused
-  not_both : (t : Tree) (rule : PlainRule) (r : Refusal) → rules.IsConverted limits given t rule → rules.IsRefused limits given t r → ⊥
+  not_both : (t : Tree) (rule : PlainRule) (r : Refusal) → IsConverted limits given t rule → IsRefused limits given t r → ⊥
   not_both t rule r converted (rules.no_rule is) = not_none _ r converted.lone.taken is
   not_both t rule r converted (rules.no_query other lone is) =
       not_none _ r (ap (query_refusal limits given) (one limits t other rule lone converted.lone) ∙ converted.written) is
 
-  one_refusal : (t : Tree) (r s : Refusal) → rules.IsRefused limits given t r → rules.IsRefused limits given t s → r ≡ s
+  one_refusal : (t : Tree) (r s : Refusal) → IsRefused limits given t r → IsRefused limits given t s → r ≡ s
   one_refusal t r s (rules.no_rule is) (rules.no_rule too) = one_cause _ r s is too
   one_refusal t r s (rules.no_rule is) (rules.no_query rule lone too) = absurd (not_none _ r lone.taken is)
   one_refusal t r s (rules.no_query rule lone is) (rules.no_rule too) = absurd (not_none _ s lone.taken too)

@@ -10,8 +10,7 @@ use Rattle.event_reading.specs.SchemaOf.{schema_of}
 use Rattle.event_schema.specs.Schemas.{IsSchema}
 use Rattle.event_schema.specs.declared.schema.Schema.{Schema}
 use Rattle.rule_model.specs.Plain.{PlainRule}
-use Rattle.rule_queries.specs.Queries.{query_of, Converts}
-use Rattle.rule_queries.specs.Verdicts.{IsConverted}
+use Rattle.rule_queries.specs.SqlQueries.{query_of, Converts, IsConverted}
 use Rattle.rule_runs.specs.Files.{file_start}
 use Rattle.sig_base.specs.Judged.{refusal as refused_at}
 use Rattle.sig_base.specs.declared.limits.Limits.{Limits}

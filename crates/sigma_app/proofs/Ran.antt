@@ -1,5 +1,5 @@
 -- What running the rule of a file leaves, and that there is exactly one answer.
-use Rattle.std.proofs.Common.{◌≡◌, ℕ, ◌+◌, Bool, true, List, [], ◌∷◌, take, refl, ap, sym, ◌∙◌, subst, arith, Option, Some, None, Result, Err, inl, inr}
+use Rattle.std.proofs.Common.{◌≡◌, ℕ, ◌+◌, Bool, true, List, [], ◌∷◌, take, refl, ap, sym, ◌∙◌, subst, arith, Option, Some, None, Result, Ok, Err, inl, inr}
 use Rattle.std.specs.Prelude.{◌⊎◌, MatchOption, unwrap_or, Contains}
 use Rattle.answer_parts.proofs.Behind.{ends_behind}
 use Rattle.answer_parts.proofs.Ending.{ends_written}
@@ -7,8 +7,9 @@ use Rattle.answer_parts.proofs.Lined.{each_answer, lines_one}
 use Rattle.answer_parts.proofs.Shares.{cut_nothing}
 use Rattle.answer_parts.proofs.Unread.{Begins, ends_unread}
 use Rattle.answer_parts.specs.EventLines.{ByLine, EventLines}
-use Rattle.answer_parts.specs.Input.{World, Needs, File}
-use Rattle.answer_parts.specs.Parts.{Share, Part, share_of, no_share}
+use Rattle.answer_parts.specs.Input.{World, Needs, File, Events}
+use Rattle.answer_parts.specs.Parts.{Share, Part, share_of, no_share, NoneOfEvents}
+use Rattle.event_reading.specs.SchemaOf.{schema_of}
 use Rattle.answer_parts.specs.Stands.{Writes, Ends, StopsBefore}
 use Rattle.answer_parts.specs.State.{State}
 use Rattle.answer_parts.specs.declared.stop.Stop.{Stop}
@@ -16,17 +17,19 @@ use Rattle.answer_parts.specs.declared.stop.Stop.TheVariants.{Memory}
 use Rattle.event_schema.specs.declared.schema.Schema.{Schema}
 use Rattle.rule_model.specs.Plain.{PlainRule}
 use Rattle.rule_runs.proofs.Fronts.{run_front, not_run_front}
+use Rattle.rule_runs.specs.Files.{file_start}
 use Rattle.rule_runs.specs.Laws as files
 use Rattle.rule_runs.specs.Runs.{IsRun, IsNotRun}
 use Rattle.rule_schema.specs.Inferred.{schema_for}
 use Rattle.sig_base.specs.Files.{file_at, IsFront}
+use Rattle.sig_base.specs.Judged.{refusal}
 use Rattle.sig_base.specs.declared.limits.Limits.{Limits}
 use Rattle.sig_base.specs.declared.refusal.Refusal.{Refusal}
-use Rattle.sigma_app.specs.Laws.{EachRan, EachSelected, EachUnder, OneUnder}
+use Rattle.sigma_app.specs.Laws.{AsksUnlessUnrun, AsksNoneUnschemed, EachRan, EachSelected, EachUnder, OneUnder}
 use Rattle.sigma_app.specs.Ran.{RunGives, RanUnder, runs, isnt_run}
 use Rattle.sigma_app.specs.Reports.{refusal_share}
 use Rattle.sigma_app.specs.RuleFiles.{contents}
-use Rattle.sigma_app.specs.UnderSchema.{file_part}
+use Rattle.sigma_app.specs.UnderSchema.{file_part, without, under, refused}
 
 -- each line is answered in one way
 abbrev pub OneLine : ByLine → Type 0
@@ -55,6 +58,38 @@ one_ran never one cause line limits file given world a b (runs rule run lines ea
 one_ran never one cause line limits file given world a b (isnt_run r is same) (runs rule run lines each same_too) = absurd (never limits given (contents world.files file) rule r run is)
 one_ran never one cause line limits file given world a b (isnt_run r is same) (isnt_run s too same_too) =
     same ∙ (ap (λ (x : Refusal). file_part file (refusal_share file x) ∷ []) (cause limits given (contents world.files file) r s is too) ∙ sym same_too)
+
+-- ---- which answers ask for events
+
+not_of_events : (file : List ℕ) → Some (File file) ≡ Some Events → ⊥
+not_of_events file is = cc
+
+quiet : (file : List ℕ) (share : Share) → NoneOfEvents (file_part file share ∷ [])
+quiet file share = (not_of_events file, tt)
+
+pub asks_unless_unrun : files.NeverBoth → AsksUnlessUnrun
+asks_unless_unrun never limits file given world parts (runs rule run lines each same) = (
+  (λ none. absurd ((subst NoneOfEvents (same ∙ ap (λ (l : List Part). file_part file no_share ∷ l) each.2) none).1.0 refl)),
+  (λ is. absurd (never limits given (contents world.files file) rule is.0 run is.1)),
+)
+asks_unless_unrun never limits file given world parts (isnt_run r is same) =
+    ((λ none. (r, is)), (λ other. subst NoneOfEvents (sym same) (quiet file (refusal_share file r))))
+
+pub asks_none_unschemed : AsksNoneUnschemed
+asks_none_unschemed limits schema file world parts code refused_so (without is other) = absurd (not_named is)
+  where
+    not_named : Some schema ≡ None → ⊥
+    not_named same = cc
+asks_none_unschemed limits schema file world parts code refused_so (under name is given so others other same) =
+    absurd (not_both (sym (subst (λ (n : List ℕ). schema_of limits (contents world.files n) ≡ Err code) (named schema name is) refused_so) ∙ so))
+  where
+    named : (a b : List ℕ) → Some a ≡ Some b → a ≡ b
+    named a b both = cc
+
+    not_both : Err code ≡ Ok given → ⊥
+    not_both both = cc
+asks_none_unschemed limits schema file world parts code refused_so (refused name is other_code so same) =
+    subst NoneOfEvents (sym same) (quiet name (refusal_share name (refusal other_code file_start)))
 
 -- ---- what was read of a file that is told, said of the file
 
@@ -91,7 +126,7 @@ module _ (limits : Limits) (file : List ℕ) (given : Option Schema) where
   run_memory each s = record {
     unread = None;
     cause = refl;
-    stands = λ world told. let a = each given world in (a.0, a.1, cut_nothing None (share_of a.0) s.streams);
+    stands = λ world told. let a = each given world in (a.0, a.1, cut_nothing (share_of a.0) s.streams, λ _. (refl, refl));
     files = refl;
     apart = λ _. (refl, refl);
     kept = refl;

@@ -1,12 +1,12 @@
 -- What a run leaves, from how answering its request ended.
-use Rattle.std.proofs.Common.{◌≡◌, ℕ, Bool, true, false, List, [], ◌∷◌, refl, ap, subst, Option, Some, None, Ok, Err, inl, inr}
+use Rattle.std.proofs.Common.{◌≡◌, ℕ, Bool, true, false, List, [], ◌∷◌, refl, ap, subst, Option, Some, None, Result, Ok, Err, inl, inr}
 use Rattle.std.specs.Prelude.{◌⊎◌}
 use Rattle.answer_parts.proofs.Shares.{cut_nothing}
 use Rattle.answer_parts.specs.Cut.{Cut}
-use Rattle.answer_parts.specs.Input.{Input, World, IsTold, WasUnread}
-use Rattle.answer_parts.specs.Parts.{Share, Part, share_of, Gains}
+use Rattle.answer_parts.specs.Input.{Input, World, IsTold, WasUnread, EventsStay}
+use Rattle.answer_parts.specs.Parts.{Share, Part, share_of, NoneOfEvents, Gains}
 use Rattle.answer_parts.specs.Stands.{Outcome, Cause, Stands, Ends, Writes}
-use Rattle.answer_parts.specs.State.{State, Inputs, SomeWriteFailed}
+use Rattle.answer_parts.specs.State.{State, Inputs, NoReadFailed, NoWriteFailed, SomeWriteFailed}
 use Rattle.answer_parts.specs.declared.stop.Stop.{Stop}
 use Rattle.answer_parts.specs.declared.stop.Stop.TheVariants as stop
 use Rattle.sig_base.specs.declared.limits.Limits.{Limits}
@@ -14,12 +14,13 @@ use Rattle.sigma_app.proofs.Wording.{one_request, decided}
 use Rattle.sigma_app.specs.Answers.{Answers, needs_of}
 use Rattle.sigma_app.specs.Convert.{ConvertMeans}
 use Rattle.sigma_app.specs.Converted.{Converted}
-use Rattle.sigma_app.specs.Laws.{EachAnswer, AnswersMean}
+use Rattle.sigma_app.specs.Laws.{EachAnswer, OneAnswer, AnswersMean}
 use Rattle.sigma_app.specs.Reports.{usage_share}
-use Rattle.sigma_app.specs.Served.{accepted, unaccepted, status_of, Serves, Tells, StandsCut, StandsUnread, MayBeUnread, IsCutOff, IsRead, ReadsNoEvents, usage_part}
+use Rattle.sigma_app.specs.Served.{Answer, accepted, unaccepted, status_of, Serves, Tells, StandsCut, StandsAfter, StandsUnread, MayBeUnread, IsCutOff, IsRead, ReadsNoEvents, usage_part}
 use Rattle.sigma_app.specs.Words.{IsAccepted, IsUnaccepted}
 use Rattle.sigma_app.specs.declared.request.Request.{Request}
 use Rattle.sigma_app.specs.declared.request.Request.TheVariants.{Convert}
+use Rattle.sigma_app.specs.declared.status.Status.{Status}
 use Rattle.sigma_app.specs.declared.status.Status.TheVariants.{Usage, ReadFault, WriteFault, Memory}
 
 -- ---- how a run of a request ends
@@ -41,13 +42,23 @@ not_cut true is = is
 not_cut false is = is
 
 module _ (limits : Limits) (words : List (List ℕ)) (request : Request) (is_accepted : IsAccepted words request) (old new : State) where
+  -- where the one answer asks for no events, none were read
+  not_asked : OneAnswer → (result : Result Bool Stop) → Ends (needs_of request) (Answers limits request) result old new
+      → (world : World) → Tells words old.inputs world → (other : Status) (parts : List Part) → Answer limits words world other parts → NoneOfEvents parts → EventsStay old.inputs new.inputs
+  not_asked one result e world tells other parts (accepted another too answers status) none =
+      let s = e.stands world (tells request is_accepted) in
+      let same : parts ≡ s.0 = one limits request world parts s.0
+      (subst (λ (r : Request). Answers limits r world parts) (one_request words another request too is_accepted) answers) s.1 in
+      s.3 (subst NoneOfEvents same none)
+  not_asked one result e world tells other parts (unaccepted is status usage) none = absurd (is request is_accepted)
+
   converted : AnswersMean → (world : World) (parts : List Part) (schema : Option (List ℕ)) (rules : List (List ℕ)) → Answers limits request world parts → IsAccepted words (Convert schema rules)
       → Converted (ConvertMeans limits) limits schema rules world parts
   converted means world parts schema rules answers too =
       means limits schema rules world parts (subst (λ (r : Request). Answers limits r world parts) (one_request words request (Convert schema rules) is_accepted too) answers)
 
-  pub serves_whole : AnswersMean → (found : Bool) → Ends (needs_of request) (Answers limits request) (Ok found) old new → Serves limits words (status_of found) old.inputs new.inputs old.streams new.streams
-  serves_whole means found e = record {
+  pub serves_whole : OneAnswer → AnswersMean → (found : Bool) → Ends (needs_of request) (Answers limits request) (Ok found) old new → Serves limits words (status_of found) old.inputs new.inputs old.streams new.streams
+  serves_whole one means found e = record {
     answer = λ _ world tells. let s = e.stands world (tells request is_accepted) in (s.0, accepted request is_accepted s.1 (ap status_of s.2.0), s.2.1);
     headline = λ _ world tells schema rules too. let s = e.stands world (tells request is_accepted) in (s.0, converted means world s.0 schema rules s.1 too, s.2.1);
     usage = λ _ other. absurd (other request is_accepted);
@@ -57,24 +68,27 @@ module _ (limits : Limits) (words : List (List ℕ)) (request : Request) (is_acc
     write_fault = λ is. absurd (not_unwritten found is);
     after_fault = λ is. absurd (not_cut found is);
     apart = λ quiet. e.apart (quiet request is_accepted);
+    unasked = not_asked one (Ok found) e;
   }
 
-  pub serves_as : AnswersMean → (found so : Bool) → found ≡ so → Ends (needs_of request) (Answers limits request) (Ok found) old new → Serves limits words (status_of so) old.inputs new.inputs old.streams new.streams
-  serves_as means found so is e = subst (λ (f : Bool). Serves limits words (status_of f) old.inputs new.inputs old.streams new.streams) is (serves_whole means found e)
+  pub serves_as : OneAnswer → AnswersMean → (found so : Bool) → found ≡ so → Ends (needs_of request) (Answers limits request) (Ok found) old new → Serves limits words (status_of so) old.inputs new.inputs old.streams new.streams
+  serves_as one means found so is e = subst (λ (f : Bool). Serves limits words (status_of f) old.inputs new.inputs old.streams new.streams) is (serves_whole one means found e)
 
   unread_by : (unread : Option Input) → Cause (needs_of request) (Err stop.Unread) unread old new
-      → ((world : World) → IsTold (needs_of request) old.inputs world → (parts : List Part) × Answers limits request world parts × Stands (Answers limits request) world (Err stop.Unread) unread parts old new)
-      → (input : Input) × IsRead words input × WasUnread input old.inputs new.inputs × ((world : World) → Tells words old.inputs world → StandsUnread limits words world input new.inputs.left old.streams new.streams)
+      → ((world : World) → IsTold (needs_of request) old.inputs world → (parts : List Part) × Answers limits request world parts × Stands (Answers limits request) world (Err stop.Unread) unread parts old new
+      × (NoneOfEvents parts → EventsStay old.inputs new.inputs))
+      → (input : Input) × IsRead words input × WasUnread input old.inputs new.inputs × NoWriteFailed old.streams new.streams × ((world : World) → Tells words old.inputs world → StandsUnread limits words world stop.Unread input new.inputs.left old.streams new.streams)
   unread_by None cause stands = absurd cause
   unread_by (Some input) cause stands = (
     input,
     (request, is_accepted, cause.0),
     cause.1,
+    cause.2,
     λ world tells. let s = stands world (tells request is_accepted) in (request, is_accepted, s.0, s.1, s.2),
   )
 
-  pub serves_unread : Ends (needs_of request) (Answers limits request) (Err stop.Unread) old new → Serves limits words ReadFault old.inputs new.inputs old.streams new.streams
-  serves_unread e = record {
+  pub serves_unread : OneAnswer → Ends (needs_of request) (Answers limits request) (Err stop.Unread) old new → Serves limits words ReadFault old.inputs new.inputs old.streams new.streams
+  serves_unread one e = record {
     answer = λ is. absurd is;
     headline = λ is. absurd is;
     usage = λ is. absurd is;
@@ -84,6 +98,7 @@ module _ (limits : Limits) (words : List (List ℕ)) (request : Request) (is_acc
     write_fault = λ is. absurd (apart_too is);
     after_fault = λ is. absurd is;
     apart = λ quiet. e.apart (quiet request is_accepted);
+    unasked = not_asked one (Err stop.Unread) e;
   }
     where
       apart : ReadFault ≡ Usage → ⊥
@@ -92,12 +107,19 @@ module _ (limits : Limits) (words : List (List ℕ)) (request : Request) (is_acc
       apart_too : ReadFault ≡ WriteFault → ⊥
       apart_too is = cc
 
-  unwritten_by : (unread : Option Input) → Cause (needs_of request) (Err stop.Unwritten) unread old new → MayBeUnread words unread old.inputs new.inputs × SomeWriteFailed old.streams new.streams
-  unwritten_by None cause = (tt, cause)
+  unwritten_by : (unread : Option Input) → Cause (needs_of request) (Err stop.Unwritten) unread old new
+      → MayBeUnread words WriteFault unread old.inputs new.inputs × SomeWriteFailed old.streams new.streams
+  unwritten_by None cause = ((λ _. cause.0), cause.1)
   unwritten_by (Some input) cause = (((request, is_accepted, cause.0), cause.1), cause.2)
 
-  pub serves_unwritten : Ends (needs_of request) (Answers limits request) (Err stop.Unwritten) old new → Serves limits words WriteFault old.inputs new.inputs old.streams new.streams
-  serves_unwritten e = record {
+  stands_after : (unread : Option Input) (world : World) (parts : List Part) → Answers limits request world parts
+      → Stands (Answers limits request) world (Err stop.Unwritten) unread parts old new → StandsAfter limits words world unread new.inputs.left old.streams new.streams
+  stands_after None world parts answers s = (status_of (share_of parts).refused, parts, accepted request is_accepted answers refl, s)
+  stands_after (Some input) world parts answers s = (request, is_accepted, parts, answers, s)
+
+  pub serves_unwritten : OneAnswer → Ends (needs_of request) (Answers limits request) (Err stop.Unwritten) old new
+      → Serves limits words WriteFault old.inputs new.inputs old.streams new.streams
+  serves_unwritten one e = record {
     answer = λ is. absurd is;
     headline = λ is. absurd is;
     usage = λ is. absurd is;
@@ -109,9 +131,10 @@ module _ (limits : Limits) (words : List (List ℕ)) (request : Request) (is_acc
       e.unread,
       (λ is. absurd (apart_from_memory is)),
       (unwritten_by e.unread e.cause).0,
-      λ world tells. let s = e.stands world (tells request is_accepted) in (status_of (share_of s.0).refused, s.0, accepted request is_accepted s.1 refl, s.2),
+      λ world tells. let s = e.stands world (tells request is_accepted) in stands_after e.unread world s.0 s.1 s.2,
     );
     apart = λ quiet. e.apart (quiet request is_accepted);
+    unasked = not_asked one (Err stop.Unwritten) e;
   }
     where
       apart : WriteFault ≡ Usage → ⊥
@@ -132,10 +155,14 @@ memory_unread is = cc
 memory_unwritten : Memory ≡ WriteFault → ⊥
 memory_unwritten is = cc
 
+abbrev Unasked : Limits → List (List ℕ) → Inputs → Inputs → Type 0
+Unasked limits words before after = (world : World) → Tells words before world → (other : Status) (parts : List Part) → Answer limits words world other parts → NoneOfEvents parts
+    → EventsStay before after
+
 -- memory was missing: what stands is cut off
-pub serves_cut : (limits : Limits) (words : List (List ℕ)) (old new : State) → (ReadsNoEvents words → (new.inputs.left ≡ old.inputs.left) × (new.inputs.faults ≡ old.inputs.faults))
-    → ((world : World) → Tells words old.inputs world → StandsCut limits words world None old.streams new.streams) → Serves limits words Memory old.inputs new.inputs old.streams new.streams
-serves_cut limits words old new quiet cut = record {
+pub serves_cut : (limits : Limits) (words : List (List ℕ)) (old new : State) → (ReadsNoEvents words → EventsStay old.inputs new.inputs) → Unasked limits words old.inputs new.inputs
+    → ((world : World) → Tells words old.inputs world → StandsCut limits words world old.streams new.streams) → Serves limits words Memory old.inputs new.inputs old.streams new.streams
+serves_cut limits words old new quiet unasked cut = record {
   answer = λ is. absurd is;
   headline = λ is. absurd is;
   usage = λ is. absurd is;
@@ -143,25 +170,25 @@ serves_cut limits words old new quiet cut = record {
   still = λ is. absurd is;
   read_fault = λ is. absurd (memory_unread is);
   write_fault = λ is. absurd (memory_unwritten is);
-  after_fault = λ _. (None, (λ _. refl), tt, cut);
+  after_fault = λ _. (None, (λ _. refl), (λ is. absurd (memory_unwritten is)), cut);
   apart = quiet;
+  unasked = unasked;
 }
 
-pub serves_memory : (limits : Limits) (words : List (List ℕ)) (request : Request) → IsAccepted words request → (old new : State)
+pub serves_memory : (limits : Limits) (words : List (List ℕ)) (request : Request) → IsAccepted words request → (old new : State) → OneAnswer
     → Ends (needs_of request) (Answers limits request) (Err stop.Memory) old new → Serves limits words Memory old.inputs new.inputs old.streams new.streams
-serves_memory limits words request is_accepted old new e =
-    serves_cut limits words old new (λ quiet. e.apart (quiet request is_accepted))
-    (λ world tells. let s = e.stands world (tells request is_accepted) in
-    (status_of (share_of s.0).refused, s.0, accepted request is_accepted s.1 refl, subst (λ u. Cut u (share_of s.0) old.streams new.streams) e.cause s.2))
+serves_memory limits words request is_accepted old new one e =
+    serves_cut limits words old new (λ quiet. e.apart (quiet request is_accepted)) (not_asked limits words request is_accepted old new one (Err stop.Memory) e)
+    (λ world tells. let s = e.stands world (tells request is_accepted) in (status_of (share_of s.0).refused, s.0, accepted request is_accepted s.1 refl, s.2))
 
 -- memory was missing for the words
 pub serves_nothing : EachAnswer → (limits : Limits) (words : List (List ℕ)) (s : State) → Serves limits words Memory s.inputs s.inputs s.streams s.streams
-serves_nothing each limits words s = serves_cut limits words s s (λ _. (refl, refl)) (λ world _. some world (decided words))
+serves_nothing each limits words s = serves_cut limits words s s (λ _. (refl, refl)) (λ world tells other parts answer none. (refl, refl)) (λ world _. some world (decided words))
   where
-    some : (world : World) → ((request : Request) × IsAccepted words request) ⊎ IsUnaccepted words → StandsCut limits words world None s.streams s.streams
+    some : (world : World) → ((request : Request) × IsAccepted words request) ⊎ IsUnaccepted words → StandsCut limits words world s.streams s.streams
     some world (inl (request, is_accepted)) =
-        let a = each limits request world in (status_of (share_of a.0).refused, a.0, accepted request is_accepted a.1 refl, cut_nothing None (share_of a.0) s.streams)
-    some world (inr other) = (Usage, usage_part ∷ [], unaccepted other refl refl, cut_nothing None (share_of (usage_part ∷ [])) s.streams)
+        let a = each limits request world in (status_of (share_of a.0).refused, a.0, accepted request is_accepted a.1 refl, cut_nothing (share_of a.0) s.streams)
+    some world (inr other) = (Usage, usage_part ∷ [], unaccepted other refl refl, cut_nothing (share_of (usage_part ∷ [])) s.streams)
 
 -- ---- words that aren't accepted
 
@@ -172,8 +199,8 @@ module _ (limits : Limits) (words : List (List ℕ)) (other : IsUnaccepted words
   same_gains : (share : Share) → IsUsage share → Gains share old.streams new.streams → Gains (share_of (usage_part ∷ [])) old.streams new.streams
   same_gains share is gains = subst (λ (s : Share). Gains s old.streams new.streams) is gains
 
-  same_cut : (share : Share) → IsUsage share → Cut None share old.streams new.streams → Cut None (share_of (usage_part ∷ [])) old.streams new.streams
-  same_cut share is cut = subst (λ (s : Share). Cut None s old.streams new.streams) is cut
+  same_cut : (share : Share) → IsUsage share → Cut share old.streams new.streams → Cut (share_of (usage_part ∷ [])) old.streams new.streams
+  same_cut share is cut = subst (λ (s : Share). Cut s old.streams new.streams) is cut
 
   pub serves_usage : (found : Bool) → Writes IsUsage (Ok found) old new → Serves limits words Usage old.inputs new.inputs old.streams new.streams
   serves_usage found w = record {
@@ -186,6 +213,7 @@ module _ (limits : Limits) (words : List (List ℕ)) (other : IsUnaccepted words
     write_fault = λ is. absurd (apart_too is);
     after_fault = λ is. absurd is;
     apart = λ _. (ap (λ (i : Inputs). i.left) w.inputs, ap (λ (i : Inputs). i.faults) w.inputs);
+    unasked = λ world tells status parts answer none. (ap (λ (i : Inputs). i.left) w.inputs, ap (λ (i : Inputs). i.faults) w.inputs);
   }
     where
       apart : Usage ≡ ReadFault → ⊥
@@ -203,8 +231,9 @@ module _ (limits : Limits) (words : List (List ℕ)) (other : IsUnaccepted words
     still = λ is. absurd is;
     read_fault = λ is. absurd (apart is);
     write_fault = λ _. w.outcome.1;
-    after_fault = λ _. (None, (λ _. refl), tt, λ world _. (Usage, usage_part ∷ [], unaccepted other refl refl, same_cut w.share w.is w.outcome.0));
+    after_fault = λ _. (None, (λ _. refl), (λ _. (ap (λ (i : Inputs). i.failed) w.inputs, ap (λ (i : Inputs). i.faults) w.inputs)), λ world _. (Usage, usage_part ∷ [], unaccepted other refl refl, same_cut w.share w.is w.outcome.0));
     apart = λ _. (ap (λ (i : Inputs). i.left) w.inputs, ap (λ (i : Inputs). i.faults) w.inputs);
+    unasked = λ world tells status parts answer none. (ap (λ (i : Inputs). i.left) w.inputs, ap (λ (i : Inputs). i.faults) w.inputs);
   }
     where
       apart : WriteFault ≡ ReadFault → ⊥
@@ -213,9 +242,10 @@ module _ (limits : Limits) (words : List (List ℕ)) (other : IsUnaccepted words
   pub usage_memory : (s : Stop) → Writes IsUsage (Err s) old new → Serves limits words Memory old.inputs new.inputs old.streams new.streams
   usage_memory s w =
       serves_cut limits words old new (λ _. (ap (λ (i : Inputs). i.left) w.inputs, ap (λ (i : Inputs). i.faults) w.inputs))
+      (λ world tells status parts answer none. (ap (λ (i : Inputs). i.left) w.inputs, ap (λ (i : Inputs). i.faults) w.inputs))
       (λ world _. (Usage, usage_part ∷ [], unaccepted other refl refl, same_cut w.share w.is (cut s w.outcome)))
     where
-      cut : (by : Stop) → Outcome w.share (Err by) old.streams new.streams → Cut None w.share old.streams new.streams
+      cut : (by : Stop) → Outcome w.share (Err by) old.streams new.streams → Cut w.share old.streams new.streams
       cut stop.Unread outcome = absurd outcome
       cut stop.Unwritten outcome = outcome.0
       cut stop.Memory outcome = outcome

@@ -106,7 +106,7 @@ module _ (by : BySchema) (limits : Limits) (name : List ℕ) (names : List (List
   schema_memory each s = record {
     unread = None;
     cause = refl;
-    stands = λ world told. let a = each_schema by limits each (Some name) world in (a.0, a.1, cut_nothing None (share_of a.0) s.streams);
+    stands = λ world told. let a = each_schema by limits each (Some name) world in (a.0, a.1, cut_nothing (share_of a.0) s.streams, λ _. (refl, refl));
     files = refl;
     apart = λ _. (refl, refl);
     kept = refl;

@@ -3,8 +3,7 @@ use Rattle.std.specs.Prelude.{◌≡◌, ℕ, List, Option}
 use Rattle.answer_parts.specs.Parts.{Share}
 use Rattle.event_schema.specs.declared.schema.Schema.{Schema}
 use Rattle.rule_model.specs.Plain.{PlainRule}
-use Rattle.rule_queries.specs.Queries.{query_of, Converts}
-use Rattle.rule_queries.specs.Verdicts.{IsConverted, IsRefused}
+use Rattle.rule_queries.specs.SqlQueries.{query_of, Converts, IsConverted, IsRefused}
 use Rattle.sig_base.specs.declared.limits.Limits.{Limits}
 use Rattle.sig_base.specs.declared.refusal.Refusal.{Refusal}
 use Rattle.sigma_app.specs.Reports.{line_share, refusal_share}

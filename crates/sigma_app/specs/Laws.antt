@@ -1,21 +1,24 @@
 -- Laws of the answers: there is exactly one to each document, file and request, and the query of each rule means the rule.
-use Rattle.std.specs.Prelude.{◌≡◌, ℕ, List, Option, None, IfSome}
+use Rattle.std.specs.Prelude.{◌≡◌, ◌↔◌, ℕ, List, Option, None, Some, IfSome, Err}
 use Rattle.answer_parts.specs.EventLines.{EachLine}
 use Rattle.answer_parts.specs.Input.{World}
-use Rattle.answer_parts.specs.Parts.{Share, Part}
+use Rattle.answer_parts.specs.Parts.{Share, Part, NoneOfEvents}
+use Rattle.event_reading.specs.SchemaOf.{schema_of}
 use Rattle.event_schema.specs.Schemas.{IsSchema}
 use Rattle.event_schema.specs.declared.schema.Schema.{Schema}
 use Rattle.rule_model.specs.Plain.{PlainRule}
 use Rattle.rule_model.specs.Rules.{rule_refusal}
 use Rattle.rule_model.specs.Rules.{lone_refusal, IsLoneRule}
 use Rattle.rule_queries.specs.Verdicts.{IsChecked}
+use Rattle.rule_runs.specs.Runs.{IsNotRun}
 use Rattle.sig_base.specs.declared.limits.Limits.{Limits}
+use Rattle.sig_base.specs.declared.refusal.Refusal.{Refusal}
 use Rattle.sigma_app.specs.Answers.{Answers}
 use Rattle.sigma_app.specs.Check.{CheckGives}
 use Rattle.sigma_app.specs.Convert.{ConvertGives, ConvertMeans}
 use Rattle.sigma_app.specs.Converted.{Converted, RulesBy}
-use Rattle.sigma_app.specs.Ran.{RunGives, RanUnder}
-use Rattle.sigma_app.specs.RuleFiles.{ByTree, DocumentGives, FileGives}
+use Rattle.sigma_app.specs.Ran.{RunGives, RanUnder, Ran}
+use Rattle.sigma_app.specs.RuleFiles.{ByTree, DocumentGives, FileGives, contents}
 use Rattle.sigma_app.specs.UnderSchema.{BySchema}
 use Rattle.sigma_app.specs.declared.request.Request.{Request}
 use Rattle.yaml_tree.specs.Tree.{Tree, Answer}
@@ -47,6 +50,16 @@ EachSelected = (schema : Schema) (rule : PlainRule) → EachLine (RunGives schem
 -- each request has an answer in each world
 abbrev pub EachAnswer : Type 0
 EachAnswer = (limits : Limits) (request : Request) (world : World) → (parts : List Part) × Answers limits request world parts
+
+-- exactly where a file isn't run, its answer asks for no events
+abbrev pub AsksUnlessUnrun : Type 0
+AsksUnlessUnrun = (limits : Limits) (file : List ℕ) (given : Option Schema) (world : World) (parts : List Part) → RanUnder limits file given world parts
+    → (NoneOfEvents parts ↔ ((r : Refusal) × IsNotRun limits given (contents world.files file) r))
+
+-- and neither does an answer whose schema is refused
+abbrev pub AsksNoneUnschemed : Type 0
+AsksNoneUnschemed = (limits : Limits) (schema file : List ℕ) (world : World) (parts : List Part) (code : ℕ) → schema_of limits (contents world.files schema) ≡ Err code
+    → Ran limits (Some schema) file world parts → NoneOfEvents parts
 
 -- each tree is answered in one way
 abbrev pub OneTree : ByTree → Type 0

@@ -1,10 +1,12 @@
 -- What a run of the program answers, and what it leaves behind.
 use Rattle.std.specs.Prelude.{◌≡◌, ℕ, Bool, if◌then◌else◌, ⊤, false, List, [], ◌∷◌, Option, None, Some}
 use Rattle.answer_parts.specs.Cut.{Cut}
-use Rattle.answer_parts.specs.Input.{Input, World, IsNeeded, IsTold, WasUnread}
-use Rattle.answer_parts.specs.Parts.{Part, share_of, Gains}
+use Rattle.answer_parts.specs.Input.{Input, World, IsNeeded, IsTold, WasUnread, EventsStay}
+use Rattle.answer_parts.specs.Parts.{Part, share_of, NoneOfEvents, Gains}
 use Rattle.answer_parts.specs.Stands.{StopsAt}
 use Rattle.answer_parts.specs.State.{Inputs, Streams, NoWriteFailed, SomeWriteFailed, NoReadFailed}
+use Rattle.answer_parts.specs.declared.stop.Stop.{Stop}
+use Rattle.answer_parts.specs.declared.stop.Stop.TheVariants.{Unread, Unwritten}
 use Rattle.sig_base.specs.declared.limits.Limits.{Limits}
 use Rattle.sigma_app.specs.Answers.{Answers, needs_of}
 use Rattle.sigma_app.specs.Convert.{ConvertMeans}
@@ -73,21 +75,28 @@ Headline limits words world old new =
     (schema : Option (List ℕ)) (rules : List (List ℕ)) → IsAccepted words (Convert schema rules)
     → (parts : List Part) × Converted (ConvertMeans limits) limits schema rules world parts × Gains (share_of parts) old new
 
--- What stands after a fault in writing or want of memory: a front of the answer's output, and of its diagnostics some whole ones
--- and the beginning of at most one more, which may be the one about this input that couldn't be read.
-abbrev pub StandsCut : Limits → List (List ℕ) → World → Option Input → Streams → Streams → Type 0
-StandsCut limits words world unread old new = (status : Status) × (parts : List Part) × Answer limits words world status parts × Cut unread (share_of parts) old new
+-- What stands where the run was cut off: a front of the answer's output, and of its diagnostics some whole ones and the beginning of at
+-- most one more.
+abbrev pub StandsCut : Limits → List (List ℕ) → World → Streams → Streams → Type 0
+StandsCut limits words world old new = (status : Status) × (parts : List Part) × Answer limits words world status parts × Cut (share_of parts) old new
 
--- What stands after a fault in reading: the answer's parts before the input, all of their output and all of their diagnostics, and
--- then the diagnostic that names the input. The whole answer goes on behind those parts. `left` is what is left of the events.
-abbrev pub StandsUnread : Limits → List (List ℕ) → World → Input → Option (List ℕ) → Streams → Streams → Type 0
-StandsUnread limits words world input left old new =
-    (request : Request) × IsAccepted words request × (parts : List Part) × Answers limits request world parts × StopsAt (Answers limits request) world input parts left old new
+-- What stands where an input couldn't be read: the answer's parts before the input, all of their output and all of their diagnostics, and
+-- then the diagnostic that names the input, or the beginning of it where it couldn't be written. The whole answer goes on behind those
+-- parts. (Of a file that the words name twice they're the parts before one of its places.) `left` is what is left of the events.
+abbrev pub StandsUnread : Limits → List (List ℕ) → World → Stop → Input → Option (List ℕ) → Streams → Streams → Type 0
+StandsUnread limits words world stop input left old new =
+    (request : Request) × IsAccepted words request × (parts : List Part) × Answers limits request world parts × StopsAt (Answers limits request) world stop input parts left old new
 
--- an input of the words' request that couldn't be read in between, if there is one
-abbrev pub MayBeUnread : List (List ℕ) → Option Input → Inputs → Inputs → Type 0
-MayBeUnread words None before after = ⊤
-MayBeUnread words (Some input) before after = IsRead words input × WasUnread input before after
+-- what stands after a fault in writing, with or without an input that couldn't be read before it, or want of memory
+abbrev pub StandsAfter : Limits → List (List ℕ) → World → Option Input → Option (List ℕ) → Streams → Streams → Type 0
+StandsAfter limits words world None left old new = StandsCut limits words world old new
+StandsAfter limits words world (Some input) left old new = StandsUnread limits words world Unwritten input left old new
+
+-- An input of the words' request that couldn't be read in between, if there is one. Where there is none, writing failed and reading
+-- didn't, or memory was missing.
+abbrev pub MayBeUnread : List (List ℕ) → Status → Option Input → Inputs → Inputs → Type 0
+MayBeUnread words status None before after = status ≡ WriteFault → NoReadFailed before after
+MayBeUnread words status (Some input) before after = IsRead words input × WasUnread input before after
 
 -- all that is said of a run: what the inputs told before it and tell after it, and the streams
 pub record Serves (limits : Limits) (words : List (List ℕ)) (status : Status) (before after : Inputs) (old new : Streams) : Type 0 where
@@ -96,12 +105,14 @@ pub record Serves (limits : Limits) (words : List (List ℕ)) (status : Status) 
   pub usage : IsAnswered status → IsUnaccepted words → status ≡ Usage
   pub unaccepted : status ≡ Usage → IsUnaccepted words
   pub still : IsAnswered status → NoReadFailed before after × NoWriteFailed old new
-  pub read_fault : status ≡ ReadFault → (input : Input) × IsRead words input × WasUnread input before after
-      × ((world : World) → Tells words before world → StandsUnread limits words world input after.left old new)
+  pub read_fault : status ≡ ReadFault → (input : Input) × IsRead words input × WasUnread input before after × NoWriteFailed old new
+      × ((world : World) → Tells words before world → StandsUnread limits words world Unread input after.left old new)
   pub write_fault : status ≡ WriteFault → SomeWriteFailed old new
-  pub after_fault : IsCutOff status → (unread : Option Input) × (status ≡ Memory → unread ≡ None) × MayBeUnread words unread before after
-      × ((world : World) → Tells words before world → StandsCut limits words world unread old new)
-  pub apart : ReadsNoEvents words → (after.left ≡ before.left) × (after.faults ≡ before.faults)
+  pub after_fault : IsCutOff status → (unread : Option Input) × (status ≡ Memory → unread ≡ None) × MayBeUnread words status unread before after
+      × ((world : World) → Tells words before world → StandsAfter limits words world unread after.left old new)
+  pub apart : ReadsNoEvents words → EventsStay before after
+  pub unasked : (world : World) → Tells words before world → (other : Status) (parts : List Part) → Answer limits words world other parts → NoneOfEvents parts
+      → EventsStay before after
 
 -- what a shelf and a source tell
 abbrev pub inputs_of : {F S : Type 0} → (F → Option (List (List ℕ × List ℕ))) → (F → List (List ℕ)) → (S → Option (List ℕ)) → (S → ℕ) → F → S → Inputs

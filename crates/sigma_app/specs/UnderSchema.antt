@@ -20,7 +20,7 @@ file_part file share = record { input = Some (File file); share = share }
 
 -- The answer in a world. No schema is named: it's the answer where none is given. Or the bytes of the named file are a schema: nothing
 -- is answered of that file, and then it's the answer under this schema. Or they are refused as a schema: this is answered of that
--- file, and nothing else, and nothing else is read.
+-- file, and nothing else, and no event is read.
 pub data UnderSchema (by : BySchema) (limits : Limits) (schema : Option (List ℕ)) (world : World) (parts : List Part) : Type 0 where
   without : schema ≡ None → by None world parts → UnderSchema by limits schema world parts
   under : (file : List ℕ) → schema ≡ Some file → (given : Schema) → schema_of limits (contents world.files file) ≡ Ok given

@@ -1,7 +1,7 @@
 //! That words are one request at most, that each request has exactly one answer, and that each rule's query means the rule.
 
 ghost use Rattle.std.specs.Prelude.{◌≡◌, ◌↔◌, List, ℕ, Some};
-ghost use Rattle.sigma_app.specs.Laws.{EachDocument, EachFile, EachConverted, EachRan, EachSelected, EachAnswer, OneDocument, OneFile, OneAnswer, OfBoth, QueriesMean, AnswersMean};
+ghost use Rattle.sigma_app.specs.Laws.{AsksUnlessUnrun, AsksNoneUnschemed, EachDocument, EachFile, EachConverted, EachRan, EachSelected, EachAnswer, OneDocument, OneFile, OneAnswer, OfBoth, QueriesMean, AnswersMean};
 ghost use Rattle.sigma_app.specs.Words.{IsAccepted, read};
 ghost use Rattle.sigma_app.specs.declared.request.Request.{Request};
 
@@ -39,12 +39,20 @@ pub fn one_answer()
     yaml_documents::laws::one_verdict();
 }
 
+/// The answer to `run` asks for events exactly where the schema is none that is refused and the file is run.
+pub fn asks_for_events()
+    ensures run { AsksUnlessUnrun }
+    ensures schema { AsksNoneUnschemed }
+{
+    rule_runs::one_run();
+}
+
 /// The query of each rule that `convert` answers means the rule.
 pub fn queries_mean_rules()
     ensures file { QueriesMean }
     ensures request { AnswersMean }
 {
     event_reading::schemas_are_kept();
-    rule_queries::queries_mean_rules();
+    rule_queries::sqlite::queries_mean_rules();
     yaml_bounds::laws::texts_are_scalars();
 }

@@ -2,17 +2,19 @@
 
 ghost use Rattle.std.specs.Prelude.{◌≡◌, ℕ, List, Option};
 ghost use Rattle.answer_parts.specs.Input.{Input, World, WasUnread};
+ghost use Rattle.answer_parts.specs.Parts.{Part, NoneOfEvents};
 ghost use Rattle.answer_parts.specs.Stands.{Ends};
 ghost use Rattle.answer_parts.specs.State.{NoWriteFailed, SomeWriteFailed, NoReadFailed};
+ghost use Rattle.answer_parts.specs.declared.stop.Stop.TheVariants.{Unread};
 ghost use Rattle.sigma_app.specs.Answers.{Answers, needs_of};
-ghost use Rattle.sigma_app.specs.Served.{Serves, IsAnswered, IsCutOff, Tells, IsRead, MayBeUnread, ReadsNoEvents, Written, Headline, StandsCut, StandsUnread, inputs_of, streams_of};
+ghost use Rattle.sigma_app.specs.Served.{Serves, Answer, IsAnswered, IsCutOff, Tells, IsRead, MayBeUnread, ReadsNoEvents, Written, Headline, StandsAfter, StandsUnread, inputs_of, streams_of};
 ghost use Rattle.sigma_app.specs.Words.{IsUnaccepted};
 
 use crate::commands::check::Check;
 use crate::commands::convert::answer_convert;
 use crate::commands::run::answer_run;
 use crate::files::answer_files;
-use crate::law::{each_answer, queries_mean_rules};
+use crate::law::{each_answer, one_answer, queries_mean_rules};
 use crate::request::Request;
 use crate::status::Status;
 use crate::words::read_words;
@@ -46,20 +48,26 @@ pub fn serve<F: Shelf, S: Source, O: Sink, E: Sink>(
         × NoWriteFailed (streams_of O.taken O.faults E.taken E.faults out.old err.old) (streams_of O.taken O.faults E.taken E.faults out.new err.new) }
     ensures read_fault { result ≡ Status.ReadFault → (input : Input) × IsRead words.now input
         × WasUnread input (inputs_of F.files F.failed S.left S.faults shelf.old events.old) (inputs_of F.files F.failed S.left S.faults shelf.new events.new)
+        × NoWriteFailed (streams_of O.taken O.faults E.taken E.faults out.old err.old) (streams_of O.taken O.faults E.taken E.faults out.new err.new)
         × ((world : World) → Tells words.now (inputs_of F.files F.failed S.left S.faults shelf.old events.old) world
-        → StandsUnread limits.now words.now world input (S.left events.new) (streams_of O.taken O.faults E.taken E.faults out.old err.old) (streams_of O.taken O.faults E.taken E.faults out.new err.new)) }
+        → StandsUnread limits.now words.now world Unread input (S.left events.new) (streams_of O.taken O.faults E.taken E.faults out.old err.old) (streams_of O.taken O.faults E.taken E.faults out.new err.new)) }
     ensures write_fault { result ≡ Status.WriteFault
         → SomeWriteFailed (streams_of O.taken O.faults E.taken E.faults out.old err.old) (streams_of O.taken O.faults E.taken E.faults out.new err.new) }
 
-    // What stands where the run was cut off: a diagnostic about an input is begun only where it couldn't be read in this call,
-    // and never where memory is missing.
+    // What stands where the run was cut off. Where an input couldn't be read and its diagnostic not be written, all before that input
+    // stands whole; else no reading had failed where writing did.
     ensures after_fault { IsCutOff result → (unread : Option Input) × (result ≡ Status.Memory → unread ≡ None)
-        × MayBeUnread words.now unread (inputs_of F.files F.failed S.left S.faults shelf.old events.old) (inputs_of F.files F.failed S.left S.faults shelf.new events.new)
+        × MayBeUnread words.now result unread (inputs_of F.files F.failed S.left S.faults shelf.old events.old) (inputs_of F.files F.failed S.left S.faults shelf.new events.new)
         × ((world : World) → Tells words.now (inputs_of F.files F.failed S.left S.faults shelf.old events.old) world
-        → StandsCut limits.now words.now world unread (streams_of O.taken O.faults E.taken E.faults out.old err.old) (streams_of O.taken O.faults E.taken E.faults out.new err.new)) }
+        → StandsAfter limits.now words.now world unread (S.left events.new) (streams_of O.taken O.faults E.taken E.faults out.old err.old) (streams_of O.taken O.faults E.taken E.faults out.new err.new)) }
 
     // Events that the words' request doesn't read stay as they are, however the run ends.
     ensures apart { ReadsNoEvents words.now → (S.left events.new ≡ S.left events.old) × (S.faults events.new ≡ S.faults events.old) }
+
+    // And so do all events, however the run ends, where the answer asks for none: where the schema or the rule is refused, say.
+    ensures unasked { (world : World) → Tells words.now (inputs_of F.files F.failed S.left S.faults shelf.old events.old) world
+        → (status : Status) (parts : List Part) → Answer limits.now words.now world status parts → NoneOfEvents parts
+        → (S.left events.new ≡ S.left events.old) × (S.faults events.new ≡ S.faults events.old) }
 {
     serve_lent(alloc, words, limits, shelf, events, out, err)
 }
@@ -97,6 +105,7 @@ fn answer_words<W: Outside>(
     ensures kept { (W.state outside.new).references ≡ (W.state outside.old).references }
 {
     each_answer();
+    one_answer();
     queries_mean_rules();
     let request = match read_words(alloc, words) {
         Ok(Some(request)) => request,

@@ -14,7 +14,7 @@ use crate::given_schema::{SchemaCommand, answer_schema};
 use crate::law::each_answer;
 use answer_parts::{Outside, Stop, put_line};
 use event_schema::Schema;
-use rule_queries::convert_node;
+use rule_queries::sqlite::convert_node;
 use sig_base::{Fault, Limits, Text};
 use std::alloc::Global;
 use yaml_tree::Node;

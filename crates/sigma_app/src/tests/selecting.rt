@@ -103,7 +103,7 @@ fn refuses_lines(rt: HostRuntime) -> Result<(), Fail> {
 /// What no rule is read of ends the run, and no event is read: the first read would fail.
 #[test]
 fn refuses_what_is_not_run(rt: HostRuntime) -> Result<(), Fail> {
-    let cases: [(&str, &str); 7] = [
+    let cases: [(&str, &str); 8] = [
         (FOUR, "r.yml:4:1: 84 NotOneRule\n"),
         ("# none\n", "r.yml:1:1: 84 NotOneRule\n"),
         ("a: \"b\n", "r.yml:1:1: 4 Syntax\n"),
@@ -117,6 +117,10 @@ fn refuses_what_is_not_run(rt: HostRuntime) -> Result<(), Fail> {
             "title: T\nlogsource:\n  product: p\ndetection:\n  s: [x]\n  condition: s\n",
             "r.yml:5:7: 83 NoSearchField\n",
         ),
+        (
+            "title: T\nlogsource:\n  product: p\ndetection:\n  k: [x]\n  s:\n    User: a\n    user: b\n  condition: s\n",
+            "r.yml:8:5: 80 KindConflict\n",
+        ),
     ];
     for (rule, err) in cases {
         let files: [(&str, &[u8]); 1] = [("r.yml", rule.as_bytes())];
@@ -125,6 +129,44 @@ fn refuses_what_is_not_run(rt: HostRuntime) -> Result<(), Fail> {
         world.unread = 1;
         let run = run_over(rt.alloc(), &["run", "r.yml"], &Limits::standard(), world)?;
         check(&rt, &run, 1, "", err);
+    }
+    Ok(())
+}
+
+/// Files that are refused as a whole have that line alone, and no event is read.
+#[test]
+fn refuses_whole_files(rt: HostRuntime) -> Result<(), Fail> {
+    let mut limits = Limits::standard();
+    limits.file_bytes = 16;
+    limits.documents = 2;
+    let cases: [(&[u8], &str); 3] = [
+        (b"a: \"b\n---\nc: \"\xFF", "r.yml:3:5: 1 NotUtf8\n"),
+        (b"a: \"b\n---\nc: \"de\n", "r.yml:1:1: 2 TooLarge\n"),
+        (b"\"\n---\n\"\n---\n\"\n", "r.yml:5:1: 7 TooManyDocuments\n"),
+    ];
+    for (bytes, err) in cases {
+        let files: [(&str, &[u8]); 1] = [("r.yml", bytes)];
+        let mut world = still(&files);
+        world.events = TWO;
+        world.unread = 1;
+        let run = run_over(rt.alloc(), &["run", "r.yml"], &limits, world)?;
+        check(&rt, &run, 1, "", err);
+    }
+    Ok(())
+}
+
+/// Behind a schema that is refused nothing is read: neither the rule nor the events, which couldn't be.
+#[test]
+fn reads_nothing_behind_a_refused_schema(rt: HostRuntime) -> Result<(), Fail> {
+    for (shelf, unread) in [(2, 0), (0, 1), (2, 1)] {
+        let files: [(&str, &[u8]); 2] = [("s.json", b"{"), ("r.yml", RULE.as_bytes())];
+        let mut world = still(&files);
+        world.events = TWO;
+        world.shelf = shelf;
+        world.unread = unread;
+        let words = ["run", "--schema", "s.json", "r.yml"];
+        let run = run_over(rt.alloc(), &words, &Limits::standard(), world)?;
+        check(&rt, &run, 1, "", "s.json:1:1: 20 SchemaJson\n");
     }
     Ok(())
 }
@@ -171,6 +213,29 @@ fn runs_under_a_schema(rt: HostRuntime) -> Result<(), Fail> {
     Ok(())
 }
 
+/// A keyword over the fields that it searches, a number, and a field of several values.
+#[test]
+fn runs_over_fields_of_each_kind(rt: HostRuntime) -> Result<(), Fail> {
+    let schema =
+        b"{\"fields\":[{\"name\":\"Image\",\"kind\":\"text\",\"search\":true},{\"name\":\"Id\",\"kind\":\"whole\"},{\"name\":\"Tags\",\"kind\":\"text\",\"many\":true}]}".as_slice();
+    let rule =
+        b"title: T\nlogsource:\n  product: p\ndetection:\n  w: ['*who*']\n  n:\n    Id: 7\n  m:\n    Tags: b\n  condition: w or n or m\n".as_slice();
+    let files: [(&str, &[u8]); 2] = [("s.json", schema), ("r.yml", rule)];
+    let mut world = still(&files);
+    world.events =
+        "{\"Image\":\"c:whoami\"}\n{\"Id\":7}\n{\"Id\":\"7\"}\n{\"Id\":8}\n{\"Tags\":[\"a\",\"B\"]}\n{\"Tags\":[\"a\",\"who\"]}\n{\"Id\":\"x\"}\n";
+    let words = ["run", "--schema", "s.json", "r.yml"];
+    let run = run_over(rt.alloc(), &words, &Limits::standard(), world)?;
+    check(
+        &rt,
+        &run,
+        1,
+        "{\"Image\":\"c:whoami\"}\n{\"Id\":7}\n{\"Id\":\"7\"}\n{\"Tags\":[\"a\",\"B\"]}\n",
+        "events:7: 26 EventKind\n",
+    );
+    Ok(())
+}
+
 /// Runs the rule over the three lines in pieces of 8 bytes; this read of them fails (0: none).
 fn run_three(alloc: Global, unread: u64) -> Result<Ran, Fail> {
     let files: [(&str, &[u8]); 1] = [("r.yml", RULE.as_bytes())];
@@ -184,11 +249,18 @@ fn run_three(alloc: Global, unread: u64) -> Result<Ran, Fail> {
 /// Some read of the events fails: what stands belongs to the lines whose line feed had come.
 #[test]
 fn stands_before_a_read_that_fails(rt: HostRuntime) -> Result<(), Fail> {
-    let cases: [(u64, u8, &str, &str); 7] = [
+    let cases: [(u64, u8, &str, &str); 9] = [
         (1, 3, "", "sigma: cannot read events\n"),
+        (2, 3, "", "sigma: cannot read events\n"),
         (3, 3, "", "sigma: cannot read events\n"),
         (
             4,
+            3,
+            "{\"Image\":\"CMD.EXE\"}\n",
+            "events:2: 25 EventJson\nsigma: cannot read events\n",
+        ),
+        (
+            5,
             3,
             "{\"Image\":\"CMD.EXE\"}\n",
             "events:2: 25 EventJson\nsigma: cannot read events\n",
@@ -241,6 +313,26 @@ fn stands_before_a_write_that_fails(rt: HostRuntime) -> Result<(), Fail> {
         let run = run_two(rt.alloc(), call)?;
         assert_eq!(rt; run.out.as_slice(), front(TWO, kept));
         assert_eq!(rt; run.status.code(), 4);
+    }
+    Ok(())
+}
+
+/// A read of the events fails and then the diagnostic about it: all before it stands.
+#[test]
+fn stands_before_events_that_cannot_be_told_of(rt: HostRuntime) -> Result<(), Fail> {
+    for (call, err) in [
+        (4, "events:2: 25 EventJson\n"),
+        (5, "events:2: 25 EventJson\nsigma: can"),
+    ] {
+        let files: [(&str, &[u8]); 1] = [("r.yml", RULE.as_bytes())];
+        let mut world = still(&files);
+        world.events = THREE;
+        world.read = 8;
+        world.unread = 4;
+        world.piece = 10;
+        world.err = call;
+        let run = run_over(rt.alloc(), &["run", "r.yml"], &Limits::standard(), world)?;
+        check(&rt, &run, 4, "{\"Image\":\"CMD.EXE\"}\n", err);
     }
     Ok(())
 }

@@ -11,7 +11,7 @@ use std::test::Fail;
 fn accepts_no_other_words(rt: HostRuntime) -> Result<(), Fail> {
     let limits = Limits::standard();
     let files: [(&str, &[u8]); 1] = [("b.yml", FOUR.as_bytes())];
-    let others: [&[&str]; 20] = [
+    let others: [&[&str]; 24] = [
         &[],
         &["check"],
         &["check", ""],
@@ -39,6 +39,10 @@ fn accepts_no_other_words(rt: HostRuntime) -> Result<(), Fail> {
         &["check", "--schema", "b.yml", "b.yml"],
         &["convert", "--backend=sqlite", "--schema", "b.yml"],
         &["convert", "--backend=sqlite", "b.yml", "--schema=", "b.yml"],
+        &["run"],
+        &["run", "b.yml", "b.yml"],
+        &["run", "--schema", "b.yml"],
+        &["run", "--backend=sqlite", "b.yml"],
     ];
     for words in others {
         check(
@@ -53,7 +57,7 @@ fn accepts_no_other_words(rt: HostRuntime) -> Result<(), Fail> {
 }
 
 #[test]
-fn accepts_both_commands(rt: HostRuntime) -> Result<(), Fail> {
+fn accepts_commands_over_rules(rt: HostRuntime) -> Result<(), Fail> {
     let limits = Limits::standard();
     let files: [(&str, &[u8]); 1] = [("b.yml", FOUR.as_bytes())];
     let commands: [&[&str]; 6] = [
@@ -71,6 +75,29 @@ fn accepts_both_commands(rt: HostRuntime) -> Result<(), Fail> {
             1,
             "",
             FOUR_LINES,
+        );
+    }
+    Ok(())
+}
+
+#[test]
+fn accepts_run(rt: HostRuntime) -> Result<(), Fail> {
+    let limits = Limits::standard();
+    let schema = b"{\"fields\":[{\"name\":\"a\",\"kind\":\"text\"}]}".as_slice();
+    let files: [(&str, &[u8]); 2] = [("b.yml", FOUR.as_bytes()), ("s.json", schema)];
+    let commands: [&[&str]; 4] = [
+        &["run", "b.yml"],
+        &["run", "--", "b.yml"],
+        &["run", "--schema=s.json", "b.yml"],
+        &["run", "b.yml", "--schema", "s.json"],
+    ];
+    for words in commands {
+        check(
+            &rt,
+            &run_over(rt.alloc(), words, &limits, still(&files))?,
+            1,
+            "",
+            "b.yml:4:1: 84 NotOneRule\n",
         );
     }
     Ok(())

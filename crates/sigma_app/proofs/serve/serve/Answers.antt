@@ -13,4 +13,5 @@ returns g c =
       write_fault = s.write_fault;
       after_fault = s.after_fault;
       apart = s.apart;
+      unasked = s.unasked;
     }
