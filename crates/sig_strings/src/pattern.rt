@@ -1,6 +1,7 @@
-ghost use Rattle.std.specs.Prelude.{◌≡◌};
+ghost use Rattle.std.specs.Prelude.{◌≡◌, IfErr, IfOk};
 
 use crate::part::Part;
+use sig_base::Fault;
 use std::marker::Model;
 
 /// What a text of a rule asks of an event's text: its parts, from left to right.
@@ -31,6 +32,15 @@ impl Pattern {
         ensures { result.now ≡ self.now }
     {
         self.parts.as_slice()
+    }
+
+    /// A pattern of a copy of the parts; only want of memory is answered.
+    pub fn copy(&self) -> Result<Pattern, Fault>
+        ensures ok { IfOk result (λ pattern. pattern ≡ self.now) }
+        ensures err { IfErr result (λ e. e ≡ Fault.Memory) }
+    {
+        let parts = self.parts.clone()?;
+        Ok(Pattern { parts })
     }
 
     pub(crate) fn into_parts(self) -> Vec<Part>

@@ -81,6 +81,7 @@ impl SharedPattern {
     {
         self.shared.plain_text(alloc)
     }
+
     /// The text that spells the pattern, as `Pattern::write_sigma` says; only want of memory is answered.
     pub fn write_sigma(&self, alloc: Global) -> Result<Text, Fault>
         requires { edits.all_written self.now ≡ true }

@@ -123,6 +123,8 @@ fn patterns_are_edited_and_written(rt: HostRuntime) -> Result<(), Fail> {
     assert!(rt; !pattern.has_wildcard());
     let plain = pattern.plain_text(rt.alloc())?;
     assert!(rt; matches!(&plain, Some(text) if text.is("a*")));
+    let same = pattern.copy()?.with_run_after()?;
+    assert!(rt; same.write_sigma(rt.alloc())?.is(r"a\**"));
     let shared = SharedPattern::share(rt.alloc(), pattern)?;
     let copy = shared.copy()?;
     assert!(rt; copy.is_written() && !copy.has_wildcard());
