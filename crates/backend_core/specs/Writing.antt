@@ -13,11 +13,18 @@ use Rattle.backend_core.specs.Trees.{Plain}
 use Rattle.backend_core.specs.declared.lack.Lack.{Lack}
 use Rattle.backend_core.specs.declared.tree.Leaf.{Leaf}
 
+-- a code at the place, with the number that is told and the limit
+abbrev pub numbered : ℕ → Place → (told limit : ℕ) → Refusal
+numbered code place told limit = record { code = code; place = place; detail = Numbers (pos told) (pos limit) }
+
 -- there are at most so many, or the code is answered at the place, with the number that is told and the limit
 abbrev pub at_most : ℕ → Place → (told count limit : ℕ) → Option Refusal
-at_most code place told count limit =
-    if nat_le count limit then None
-    else Some (record { code = code; place = place; detail = Numbers (pos told) (pos limit) })
+at_most code place told count limit = if nat_le count limit then None else Some (numbered code place told limit)
+
+-- what a tree is refused with that is too deep (112) or has too many clauses (113): at the place, with a number and the limit
+pub data IsTooDeep (place : Place) (r : Refusal) : Type 0 where
+  by_depth : (told limit : ℕ) → r ≡ numbered 112 place told limit → IsTooDeep place r
+  by_clauses : (told limit : ℕ) → r ≡ numbered 113 place told limit → IsTooDeep place r
 
 module _ (missing : Schema → Leaf → Option Lack) (text : Schema → Plain → List ℕ) (too_deep : Limits → Schema → Plain → Place → Option Refusal)
     (limits : Limits) (schema : Schema) (t : Plain) (place : Place) where

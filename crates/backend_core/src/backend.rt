@@ -1,6 +1,6 @@
 //! Backends.
 
-ghost use Rattle.std.specs.Prelude.{◌≡◌, List, ℕ, Option, None};
+ghost use Rattle.std.specs.Prelude.{◌≡◌, List, ℕ, Option, Some, None};
 ghost use Rattle.event_schema.specs.declared.schema.Schema.{Schema};
 ghost use Rattle.sig_base.specs.declared.limits.Limits.{Limits};
 ghost use Rattle.sig_base.specs.declared.refusal.Place.{Place};
@@ -11,7 +11,7 @@ ghost use Rattle.backend_core.specs.Schemas.{IsNamed};
 ghost use Rattle.backend_core.specs.Sound.{IsSound};
 ghost use Rattle.backend_core.specs.Trees.{Plain};
 ghost use Rattle.backend_core.specs.View.{tree_view};
-ghost use Rattle.backend_core.specs.Writing.{write_refusal, Writes};
+ghost use Rattle.backend_core.specs.Writing.{IsTooDeep, write_refusal, Writes};
 
 use crate::lack::Lacking;
 use crate::tree::Tree;
@@ -42,9 +42,11 @@ pub trait Backend: Lacking {
         requires sound { IsSound schema.now.fields (tree_view tree.now) }
         ensures { Writes Self.missing text too_deep limits.now schema.now (tree_view tree.now) place result };
 
-    /// The text of a sound tree that isn't refused is one query within the limits, and it picks an event exactly where the tree holds.
+    /// The text of a sound tree that isn't refused is one query within the limits, and it picks an event exactly where the tree holds;
+    /// and what is refused as too deep is 112 or 113 at the given place.
     fn law()
-        ensures { (limits : Limits) (schema : Schema) (t : Plain) (place : Place) → IsNamed schema → IsSound schema.fields t
+        ensures query { (limits : Limits) (schema : Schema) (t : Plain) (place : Place) → IsNamed schema → IsSound schema.fields t
             → write_refusal Self.missing text too_deep limits schema t place ≡ None
-            → Means (Self.Lang.is_query) (Self.Lang.is_within) (Self.Lang.picks) limits schema (λ row. TreeHolds row t) (text schema t) };
+            → Means (Self.Lang.is_query) (Self.Lang.is_within) (Self.Lang.picks) limits schema (λ row. TreeHolds row t) (text schema t) }
+        ensures deep { (limits : Limits) (schema : Schema) (t : Plain) (place : Place) (r : Refusal) → too_deep limits schema t place ≡ Some r → IsTooDeep place r };
 }

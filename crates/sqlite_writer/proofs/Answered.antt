@@ -8,12 +8,12 @@ use Rattle.sig_base.specs.declared.refusal.Fault.{Fault}
 use Rattle.sig_base.specs.declared.refusal.Fault.TheVariants.{Memory, Refused}
 use Rattle.sig_base.specs.declared.refusal.Place.{Place}
 use Rattle.sig_base.specs.declared.refusal.Refusal.{Refusal}
-use Rattle.backend_core.proofs.Checks.{rest_decides, line_decides, passes, fails}
+use Rattle.backend_core.proofs.Checks.{rest_decides, line_decides, passes, fails, told_so}
 use Rattle.backend_core.specs.Holds.{TreeHolds}
 use Rattle.backend_core.specs.Lacks.{lack_refusal}
 use Rattle.backend_core.specs.Means.{Means}
 use Rattle.backend_core.specs.Trees.{Plain}
-use Rattle.backend_core.specs.Writing.{at_most, write_refusal, Writes}
+use Rattle.backend_core.specs.Writing.{IsTooDeep, by_depth, at_most, write_refusal, Writes}
 use Rattle.backend_core.specs.declared.lack.Lack.{Lack}
 use Rattle.backend_core.specs.declared.tree.Leaf.{Leaf}
 use Rattle.sql_lang.specs.Expression.{depth}
@@ -67,6 +67,10 @@ module _ (limits : Limits) (schema : Schema) (t : Plain) (place : Place) where
       (third none shallow ∙ rest_decides too_long [] (passes 114 place long long limits.query_bytes (subst (λ (bs : List ℕ). length bs ≤ limits.query_bytes) same short)), same)
   writes (Err Memory) same none shallow short err = tt
   writes (Err (Refused r)) same none shallow short err = refused r lack refl err
+
+  -- a tree that is too deep is told with its depth
+  pub too_deep_is : (r : Refusal) → deep_refusal limits schema t place ≡ Some r → IsTooDeep place r
+  too_deep_is r e = by_depth (min deep (2 ^ 64 - 1)) limits.sql_depth (told_so 112 place (min deep (2 ^ 64 - 1)) deep limits.sql_depth r e)
 
   -- a text of which all is known that bytes have to say means its tree
   pub means : IsQueryOf limits.sql_depth schema t (query_bytes schema t) → long ≤ limits.query_bytes
