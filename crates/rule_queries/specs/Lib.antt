@@ -1,3 +1,3 @@
+pub mod NamedQueries
 pub mod Queries
-pub mod SqlQueries
 pub mod Verdicts

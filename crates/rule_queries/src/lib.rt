@@ -1,11 +1,13 @@
 //! From a document's tree to its rule and its query, or the first cause for which it has none.
 #![tactic(auto)]
 
+pub use backend_name::BackendName;
 pub use converting::{check_node, convert_node};
 pub use law::{one_verdict, queries_mean_rules};
 
+mod backend_name;
 mod converting;
 mod law;
-pub mod sqlite;
+pub mod named;
 #[cfg(test)]
 mod tests;

@@ -7,7 +7,7 @@ ghost use Rattle.sqlite_writer.specs.Lacking.{sqlite_lacks};
 ghost use Rattle.sqlite_writer.specs.Queries.{query_bytes};
 ghost use Rattle.sqlite_writer.specs.Refused.{deep_refusal};
 
-use crate::{convert_node, queries_mean_rules, sqlite};
+use crate::{BackendName, convert_node, named, queries_mean_rules};
 use backend_core::{Backend, Lack, Lacking, Leaf, LeafTest, Tree, judge_lacks};
 use event_schema::Schema;
 use sig_base::{Bytes, Detail, Fault, Limits, Place, Text};
@@ -137,7 +137,7 @@ fn each_backend_has_its_own_lacks(rt: HostRuntime) -> Result<(), Fail> {
     let query = "SELECT * FROM \"events\" WHERE \"Image\" = 'cmd.exe' COLLATE NOCASE";
     let answer = shown(
         alloc,
-        sqlite::convert_node(alloc, &limits, None, &with_text),
+        named::convert_node(BackendName::Sqlite, alloc, &limits, None, &with_text),
     )?;
     assert_eq!(rt; answer.as_str(), query);
     let answer = shown(
@@ -163,6 +163,6 @@ fn each_backend_has_its_own_lacks(rt: HostRuntime) -> Result<(), Fail> {
 #[test]
 fn the_law_holds_of_each_backend(_rt: HostRuntime) -> Result<(), Fail> {
     queries_mean_rules::<Valueless>();
-    sqlite::queries_mean_rules();
+    named::queries_mean_rules();
     Ok(())
 }

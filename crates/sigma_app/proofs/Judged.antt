@@ -4,8 +4,9 @@ use Rattle.answer_parts.specs.Parts.{Share}
 use Rattle.event_schema.specs.declared.schema.Schema.{Schema}
 use Rattle.rule_model.specs.Plain.{PlainRule}
 use Rattle.rule_model.specs.Rules.{rule_refusal, lone_refusal, IsLoneRule}
-use Rattle.rule_queries.specs.SqlQueries.{query_of, query_refusal, IsConverted, IsRefused}
+use Rattle.rule_queries.specs.NamedQueries.{query_of, query_refusal, IsConverted, IsRefused}
 use Rattle.rule_queries.specs.Verdicts as rules
+use Rattle.rule_queries.specs.declared.backend_name.BackendName.{BackendName}
 use Rattle.sig_base.specs.declared.limits.Limits.{Limits}
 use Rattle.sig_base.specs.declared.refusal.Refusal.{Refusal}
 use Rattle.sigma_app.specs.Check.{CheckGives, is_rule, no_rule}
@@ -21,15 +22,15 @@ each_checks each limits name t = by (rule_refusal limits t) refl
     by None is = let rule = each limits t is in (line_share (ok_line name rule.0.head.place), is_rule rule.0 rule.1 refl)
     by (Some r) is = (refusal_share name r, no_rule r is refl)
 
-pub each_converts : EachLone → (limits : Limits) (given : Option Schema) → EachTree (ConvertGives limits given)
-each_converts each limits given name t = by (lone_refusal limits t) refl
+pub each_converts : EachLone → (backend : BackendName) (limits : Limits) (given : Option Schema) → EachTree (ConvertGives backend limits given)
+each_converts each backend limits given name t = by (lone_refusal limits t) refl
   where
-    queried : (rule : PlainRule) → IsLoneRule limits t rule → (r : Option Refusal) → query_refusal limits given rule ≡ r → (share : Share) × ConvertGives limits given name t share
-    queried rule lone None is = (line_share (query_of given rule), has_query rule (record { lone = lone; written = is }) refl)
+    queried : (rule : PlainRule) → IsLoneRule limits t rule → (r : Option Refusal) → query_refusal backend limits given rule ≡ r → (share : Share) × ConvertGives backend limits given name t share
+    queried rule lone None is = (line_share (query_of backend given rule), has_query rule (record { lone = lone; written = is }) refl)
     queried rule lone (Some r) is = (refusal_share name r, no_query r (rules.no_query rule lone is) refl)
 
-    by : (r : Option Refusal) → lone_refusal limits t ≡ r → (share : Share) × ConvertGives limits given name t share
-    by None is = let rule = each limits t is in queried rule.0 rule.1 (query_refusal limits given rule.0) refl
+    by : (r : Option Refusal) → lone_refusal limits t ≡ r → (share : Share) × ConvertGives backend limits given name t share
+    by None is = let rule = each limits t is in queried rule.0 rule.1 (query_refusal backend limits given rule.0) refl
     by (Some r) is = (refusal_share name r, no_query r (rules.no_rule is) refl)
 
 -- ---- one answer
@@ -56,23 +57,23 @@ one_checks one limits name t a b (is_rule rule checked is) (no_rule r so too) = 
 one_checks one limits name t a b (no_rule r so is) (is_rule rule checked too) = absurd (not_none _ r checked.taken so)
 one_checks one limits name t a b (no_rule r so is) (no_rule s so_too too) = same_refusal name r s a b (one_cause _ r s so so_too) is too
 
-module _ (one : OneLone) (limits : Limits) (given : Option Schema) where
+module _ (one : OneLone) (backend : BackendName) (limits : Limits) (given : Option Schema) where
   -- what has a query isn't refused
-  not_both : (t : Tree) (rule : PlainRule) (r : Refusal) → IsConverted limits given t rule → IsRefused limits given t r → ⊥
+  not_both : (t : Tree) (rule : PlainRule) (r : Refusal) → IsConverted backend limits given t rule → IsRefused backend limits given t r → ⊥
   not_both t rule r converted (rules.no_rule is) = not_none _ r converted.lone.taken is
   not_both t rule r converted (rules.no_query other lone is) =
-      not_none _ r (ap (query_refusal limits given) (one limits t other rule lone converted.lone) ∙ converted.written) is
+      not_none _ r (ap (query_refusal backend limits given) (one limits t other rule lone converted.lone) ∙ converted.written) is
 
-  one_refusal : (t : Tree) (r s : Refusal) → IsRefused limits given t r → IsRefused limits given t s → r ≡ s
+  one_refusal : (t : Tree) (r s : Refusal) → IsRefused backend limits given t r → IsRefused backend limits given t s → r ≡ s
   one_refusal t r s (rules.no_rule is) (rules.no_rule too) = one_cause _ r s is too
   one_refusal t r s (rules.no_rule is) (rules.no_query rule lone too) = absurd (not_none _ r lone.taken is)
   one_refusal t r s (rules.no_query rule lone is) (rules.no_rule too) = absurd (not_none _ s lone.taken too)
   one_refusal t r s (rules.no_query rule lone is) (rules.no_query other lone_too too) =
-      one_cause _ r s is (ap (query_refusal limits given) (one limits t rule other lone lone_too) ∙ too)
+      one_cause _ r s is (ap (query_refusal backend limits given) (one limits t rule other lone lone_too) ∙ too)
 
-  pub one_converts : OneTree (ConvertGives limits given)
+  pub one_converts : OneTree (ConvertGives backend limits given)
   one_converts name t a b (has_query rule so is) (has_query other so_too too) =
-      is ∙ (ap (λ (r : PlainRule). line_share (query_of given r)) (one limits t rule other so.lone so_too.lone) ∙ sym too)
+      is ∙ (ap (λ (r : PlainRule). line_share (query_of backend given r)) (one limits t rule other so.lone so_too.lone) ∙ sym too)
   one_converts name t a b (has_query rule so is) (no_query r so_too too) = absurd (not_both t rule r so so_too)
   one_converts name t a b (no_query r so is) (has_query rule so_too too) = absurd (not_both t rule r so_too so)
   one_converts name t a b (no_query r so is) (no_query s so_too too) = same_refusal name r s a b (one_refusal t r s so so_too) is too

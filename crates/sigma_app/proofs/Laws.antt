@@ -10,7 +10,8 @@ use Rattle.event_reading.specs.SchemaOf.{schema_of}
 use Rattle.event_schema.specs.Schemas.{IsSchema}
 use Rattle.event_schema.specs.declared.schema.Schema.{Schema}
 use Rattle.rule_model.specs.Plain.{PlainRule}
-use Rattle.rule_queries.specs.SqlQueries.{query_of, Converts, IsConverted}
+use Rattle.rule_queries.specs.NamedQueries.{query_of, Converts, IsConverted}
+use Rattle.rule_queries.specs.declared.backend_name.BackendName.{BackendName}
 use Rattle.rule_runs.specs.Files.{file_start}
 use Rattle.sig_base.specs.Judged.{refusal as refused_at}
 use Rattle.sig_base.specs.declared.limits.Limits.{Limits}
@@ -35,49 +36,49 @@ use Rattle.yaml_tree.specs.Tree.{Tree, Answer, tree, refusal}
 pub both_documents : EachRule → EachLone → OfBoth EachDocument
 both_documents rule lone limits = (
   each_document (CheckGives limits) (each_checks rule limits),
-  λ given. each_document (ConvertGives limits given) (each_converts lone limits given),
+  λ backend given. each_document (ConvertGives backend limits given) (each_converts lone backend limits given),
 )
 
 pub both_files : EachRule → EachLone → yaml.EachVerdict → OfBoth EachFile
 both_files rule lone file limits = (
   each_file (CheckGives limits) (each_checks rule limits) file,
-  λ given. each_file (ConvertGives limits given) (each_converts lone limits given) file,
+  λ backend given. each_file (ConvertGives backend limits given) (each_converts lone backend limits given) file,
 )
 
 -- rule files under a schema, or under those that are made of their rules
-abbrev FilesUnder : Limits → Option Schema → List (List ℕ) → World → List Part → Type 0
-FilesUnder limits given rules world parts = EachPart (RuleFile (ConvertGives limits given) limits) rules world parts
+abbrev FilesUnder : BackendName → Limits → Option Schema → List (List ℕ) → World → List Part → Type 0
+FilesUnder backend limits given rules world parts = EachPart (RuleFile (ConvertGives backend limits given) limits) rules world parts
 
-each_under : OfBoth EachFile → (limits : Limits) (given : Option Schema) (rules : List (List ℕ)) (world : World) → (parts : List Part) × FilesUnder limits given rules world parts
-each_under file limits given rules world =
-    each_parts (RuleFile (ConvertGives limits given) limits) (each_part (ConvertGives limits given) limits ((file limits).1 given)) rules world
+each_under : OfBoth EachFile → (backend : BackendName) (limits : Limits) (given : Option Schema) (rules : List (List ℕ)) (world : World) → (parts : List Part) × FilesUnder backend limits given rules world parts
+each_under file backend limits given rules world =
+    each_parts (RuleFile (ConvertGives backend limits given) limits) (each_part (ConvertGives backend limits given) limits ((file limits).1 backend given)) rules world
 
 pub each_converted : OfBoth EachFile → EachConverted
-each_converted file limits rules given world = each_under file limits given rules world
+each_converted file backend limits rules given world = each_under file backend limits given rules world
 
 pub each_answer : EachRule → EachLone → yaml.EachVerdict → EachRan → EachAnswer
 each_answer rule lone file ran limits (Check rules) world =
     each_parts (RuleFile (CheckGives limits) limits) (each_part (CheckGives limits) limits (both_files rule lone file limits).0) rules world
-each_answer rule lone file ran limits (Convert schema rules) world =
-    each_schema (RulesBy (ConvertGives limits) limits rules) limits (each_converted (both_files rule lone file) limits rules) schema world
+each_answer rule lone file ran limits (Convert backend schema rules) world =
+    each_schema (RulesBy (ConvertGives backend limits) limits rules) limits (each_converted (both_files rule lone file) backend limits rules) schema world
 each_answer rule lone file ran limits (Run schema file_run) world = each_schema (RanUnder limits file_run) limits (ran limits file_run) schema world
 
 pub one_documents : OneRule → OneLone → OfBoth OneDocument
 one_documents rule lone limits = (
   one_document (CheckGives limits) (one_checks rule limits),
-  λ given. one_document (ConvertGives limits given) (one_converts lone limits given),
+  λ backend given. one_document (ConvertGives backend limits given) (one_converts lone backend limits given),
 )
 
 pub one_files : OneRule → OneLone → yaml.NeverBoth → yaml.OneList → yaml.OneRefusal → OfBoth OneFile
 one_files rule lone never list cause limits = (
   one_file (CheckGives limits) (one_checks rule limits) never list cause,
-  λ given. one_file (ConvertGives limits given) (one_converts lone limits given) never list cause,
+  λ backend given. one_file (ConvertGives backend limits given) (one_converts lone backend limits given) never list cause,
 )
 
-one_under : OfBoth OneFile → (limits : Limits) (given : Option Schema) (rules : List (List ℕ)) (world : World) (a b : List Part)
-    → FilesUnder limits given rules world a → FilesUnder limits given rules world b → a ≡ b
-one_under file limits given rules world a b first second =
-    parts_one (RuleFile (ConvertGives limits given) limits) (one_part (ConvertGives limits given) limits ((file limits).1 given)) rules world a b first second
+one_under : OfBoth OneFile → (backend : BackendName) (limits : Limits) (given : Option Schema) (rules : List (List ℕ)) (world : World) (a b : List Part)
+    → FilesUnder backend limits given rules world a → FilesUnder backend limits given rules world b → a ≡ b
+one_under file backend limits given rules world a b first second =
+    parts_one (RuleFile (ConvertGives backend limits given) limits) (one_part (ConvertGives backend limits given) limits ((file limits).1 backend given)) rules world a b first second
 
 -- ---- one answer under a schema
 
@@ -149,53 +150,53 @@ OneRan = (limits : Limits) (file : List ℕ) → OneUnder (RanUnder limits file)
 
 pub one_answer : OfBoth OneFile → OneRan → OneAnswer
 one_answer file ran limits (Check rules) world a b first second = parts_one (RuleFile (CheckGives limits) limits) (one_part (CheckGives limits) limits (file limits).0) rules world a b first second
-one_answer file ran limits (Convert schema rules) world a b first second =
-    one_schema (RulesBy (ConvertGives limits) limits rules) (λ given w x y. one_under file limits given rules w x y) limits schema world a b first second
+one_answer file ran limits (Convert backend schema rules) world a b first second =
+    one_schema (RulesBy (ConvertGives backend limits) limits rules) (λ given w x y. one_under file backend limits given rules w x y) limits schema world a b first second
 one_answer file ran limits (Run schema rule) world a b first second = one_schema (RanUnder limits rule) (ran limits rule) limits schema world a b first second
 
 -- ---- what queries mean
 
 abbrev pub RuleMeans : Type 0
 RuleMeans =
-    (limits : Limits) (given : Option Schema) (t : Tree) (rule : PlainRule) → IfSome given IsSchema → HasScalarTexts t → IsConverted limits given t rule
-    → Converts limits given rule (query_of given rule)
+    (backend : BackendName) (limits : Limits) (given : Option Schema) (t : Tree) (rule : PlainRule) → IfSome given IsSchema → HasScalarTexts t
+    → IsConverted backend limits given t rule → Converts backend limits given rule (query_of backend given rule)
 
-module _ (means : RuleMeans) (limits : Limits) (given : Option Schema) (kept : IfSome given IsSchema) (name : List ℕ) where
-  tree_means : (t : Tree) (share : Share) → HasScalarTexts t → ConvertGives limits given name t share → ConvertMeans limits given name t share
-  tree_means t share texts (has_query rule is share_is) = means_rule rule is (means limits given t rule kept texts is) share_is
+module _ (means : RuleMeans) (backend : BackendName) (limits : Limits) (given : Option Schema) (kept : IfSome given IsSchema) (name : List ℕ) where
+  tree_means : (t : Tree) (share : Share) → HasScalarTexts t → ConvertGives backend limits given name t share → ConvertMeans backend limits given name t share
+  tree_means t share texts (has_query rule is share_is) = means_rule rule is (means backend limits given t rule kept texts is) share_is
   tree_means t share texts (no_query r is share_is) = means_none r is share_is
 
-  document_means : (d : Answer) (share : Share) → AnswerHas d → DocumentGives (ConvertGives limits given) name d share → DocumentGives (ConvertMeans limits given) name d share
+  document_means : (d : Answer) (share : Share) → AnswerHas d → DocumentGives (ConvertGives backend limits given) name d share → DocumentGives (ConvertMeans backend limits given) name d share
   document_means (tree t) share texts gives = tree_means t share texts gives
   document_means (refusal p) share texts gives = gives
 
-  documents_mean : (ds : List Answer) (shares : List Share) → AllByRecursion AnswerHas ds → EachShare (DocumentGives (ConvertGives limits given) name) ds shares
-      → EachShare (DocumentGives (ConvertMeans limits given) name) ds shares
+  documents_mean : (ds : List Answer) (shares : List Share) → AllByRecursion AnswerHas ds → EachShare (DocumentGives (ConvertGives backend limits given) name) ds shares
+      → EachShare (DocumentGives (ConvertMeans backend limits given) name) ds shares
   documents_mean [] [] texts each = tt
   documents_mean [] (s ∷ shares) texts each = absurd each
   documents_mean (d ∷ ds) [] texts each = absurd each
   documents_mean (d ∷ ds) (s ∷ shares) texts each = (document_means d s texts.0 each.0, documents_mean ds shares texts.1 each.1)
 
 pub queries_mean : RuleMeans → TextsAreScalars → QueriesMean
-queries_mean means texts limits given kept name bytes share (as_one p refused_so is) = as_one p refused_so is
-queries_mean means texts limits given kept name bytes share (by_document ds taken (shares, each, is)) =
-    by_document ds taken (shares, documents_mean means limits given kept name ds shares (texts limits.file_bytes limits.documents limits.yaml_depth bytes ds taken) each, is)
+queries_mean means texts backend limits given kept name bytes share (as_one p refused_so is) = as_one p refused_so is
+queries_mean means texts backend limits given kept name bytes share (by_document ds taken (shares, each, is)) =
+    by_document ds taken (shares, documents_mean means backend limits given kept name ds shares (texts limits.file_bytes limits.documents limits.yaml_depth bytes ds taken) each, is)
 
 -- the parts of rule files, said of what the queries mean
-parts_mean : QueriesMean → (limits : Limits) (given : Option Schema) → IfSome given IsSchema → (rules : List (List ℕ)) (world : World) (parts : List Part)
-    → FilesUnder limits given rules world parts → EachPart (RuleFile (ConvertMeans limits given) limits) rules world parts
-parts_mean means limits given kept [] world [] each = tt
-parts_mean means limits given kept [] world (p ∷ parts) each = absurd each
-parts_mean means limits given kept (r ∷ rules) world [] each = absurd each
-parts_mean means limits given kept (r ∷ rules) world (p ∷ parts) each =
-    (record { input = each.0.input; share = means limits given kept r _ p.share each.0.share }, parts_mean means limits given kept rules world parts each.1)
+parts_mean : QueriesMean → (backend : BackendName) (limits : Limits) (given : Option Schema) → IfSome given IsSchema → (rules : List (List ℕ)) (world : World) (parts : List Part)
+    → FilesUnder backend limits given rules world parts → EachPart (RuleFile (ConvertMeans backend limits given) limits) rules world parts
+parts_mean means backend limits given kept [] world [] each = tt
+parts_mean means backend limits given kept [] world (p ∷ parts) each = absurd each
+parts_mean means backend limits given kept (r ∷ rules) world [] each = absurd each
+parts_mean means backend limits given kept (r ∷ rules) world (p ∷ parts) each =
+    (record { input = each.0.input; share = means backend limits given kept r _ p.share each.0.share }, parts_mean means backend limits given kept rules world parts each.1)
 
 -- bytes that are a schema keep what every schema keeps
 abbrev pub SchemasKept : Type 0
 SchemasKept = (limits : Limits) (bytes : List ℕ) (schema : Schema) → schema_of limits bytes ≡ Ok schema → IsSchema schema
 
 pub answers_mean : QueriesMean → SchemasKept → AnswersMean
-answers_mean means kept limits schema rules world parts (without is each) = without is (parts_mean means limits None tt rules world parts each)
-answers_mean means kept limits schema rules world parts (under name is given so others each same) =
-    under name is given so others (parts_mean means limits (Some given) (kept limits (contents world.files name) given so) rules world others each) same
-answers_mean means kept limits schema rules world parts (refused name is code so same) = refused name is code so same
+answers_mean means kept backend limits schema rules world parts (without is each) = without is (parts_mean means backend limits None tt rules world parts each)
+answers_mean means kept backend limits schema rules world parts (under name is given so others each same) =
+    under name is given so others (parts_mean means backend limits (Some given) (kept limits (contents world.files name) given so) rules world others each) same
+answers_mean means kept backend limits schema rules world parts (refused name is code so same) = refused name is code so same

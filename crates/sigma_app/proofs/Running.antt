@@ -9,6 +9,7 @@ use Rattle.answer_parts.specs.Stands.{Outcome, Cause, Stands, Ends, Writes}
 use Rattle.answer_parts.specs.State.{State, Inputs, NoReadFailed, NoWriteFailed, SomeWriteFailed}
 use Rattle.answer_parts.specs.declared.stop.Stop.{Stop}
 use Rattle.answer_parts.specs.declared.stop.Stop.TheVariants as stop
+use Rattle.rule_queries.specs.declared.backend_name.BackendName.{BackendName}
 use Rattle.sig_base.specs.declared.limits.Limits.{Limits}
 use Rattle.sigma_app.proofs.Wording.{one_request, decided}
 use Rattle.sigma_app.specs.Answers.{Answers, needs_of}
@@ -52,15 +53,15 @@ module _ (limits : Limits) (words : List (List ℕ)) (request : Request) (is_acc
       s.3 (subst NoneOfEvents same none)
   not_asked one result e world tells other parts (unaccepted is status usage) none = absurd (is request is_accepted)
 
-  converted : AnswersMean → (world : World) (parts : List Part) (schema : Option (List ℕ)) (rules : List (List ℕ)) → Answers limits request world parts → IsAccepted words (Convert schema rules)
-      → Converted (ConvertMeans limits) limits schema rules world parts
-  converted means world parts schema rules answers too =
-      means limits schema rules world parts (subst (λ (r : Request). Answers limits r world parts) (one_request words request (Convert schema rules) is_accepted too) answers)
+  converted : AnswersMean → (world : World) (parts : List Part) (backend : BackendName) (schema : Option (List ℕ)) (rules : List (List ℕ)) → Answers limits request world parts
+      → IsAccepted words (Convert backend schema rules) → Converted (ConvertMeans backend limits) limits schema rules world parts
+  converted means world parts backend schema rules answers too =
+      means backend limits schema rules world parts (subst (λ (r : Request). Answers limits r world parts) (one_request words request (Convert backend schema rules) is_accepted too) answers)
 
   pub serves_whole : OneAnswer → AnswersMean → (found : Bool) → Ends (needs_of request) (Answers limits request) (Ok found) old new → Serves limits words (status_of found) old.inputs new.inputs old.streams new.streams
   serves_whole one means found e = record {
     answer = λ _ world tells. let s = e.stands world (tells request is_accepted) in (s.0, accepted request is_accepted s.1 (ap status_of s.2.0), s.2.1);
-    headline = λ _ world tells schema rules too. let s = e.stands world (tells request is_accepted) in (s.0, converted means world s.0 schema rules s.1 too, s.2.1);
+    headline = λ _ world tells backend schema rules too. let s = e.stands world (tells request is_accepted) in (s.0, converted means world s.0 backend schema rules s.1 too, s.2.1);
     usage = λ _ other. absurd (other request is_accepted);
     unaccepted = λ is. absurd (not_usage found is);
     still = λ _. (e.cause.1, e.cause.2);
@@ -205,7 +206,7 @@ module _ (limits : Limits) (words : List (List ℕ)) (other : IsUnaccepted words
   pub serves_usage : (found : Bool) → Writes IsUsage (Ok found) old new → Serves limits words Usage old.inputs new.inputs old.streams new.streams
   serves_usage found w = record {
     answer = λ _ world _. (usage_part ∷ [], unaccepted other refl refl, same_gains w.share w.is w.outcome.1);
-    headline = λ _ world _ schema rules too. absurd (other (Convert schema rules) too);
+    headline = λ _ world _ backend schema rules too. absurd (other (Convert backend schema rules) too);
     usage = λ _ _. refl;
     unaccepted = λ _. other;
     still = λ _. ((ap (λ (i : Inputs). i.failed) w.inputs, ap (λ (i : Inputs). i.faults) w.inputs), w.outcome.2);

@@ -20,11 +20,11 @@ names_with (Some schema) others = schema ∷ others
 -- the files that a command reads, and whether it reads events
 abbrev pub needs_of : Request → Needs
 needs_of (Check rules) = record { names = rules; events = false }
-needs_of (Convert schema rules) = record { names = names_with schema rules; events = false }
+needs_of (Convert backend schema rules) = record { names = names_with schema rules; events = false }
 needs_of (Run schema rule) = record { names = names_with schema (rule ∷ []); events = true }
 
 -- the answer to a request, part by part
 abbrev pub Answers : Limits → Request → World → List Part → Type 0
 Answers limits (Check rules) = EachPart (RuleFile (CheckGives limits) limits) rules
-Answers limits (Convert schema rules) = Converted (ConvertGives limits) limits schema rules
+Answers limits (Convert backend schema rules) = Converted (ConvertGives backend limits) limits schema rules
 Answers limits (Run schema rule) = Ran limits schema rule

@@ -10,6 +10,7 @@ use Rattle.rule_model.specs.Plain.{PlainRule}
 use Rattle.rule_model.specs.Rules.{rule_refusal}
 use Rattle.rule_model.specs.Rules.{lone_refusal, IsLoneRule}
 use Rattle.rule_queries.specs.Verdicts.{IsChecked}
+use Rattle.rule_queries.specs.declared.backend_name.BackendName.{BackendName}
 use Rattle.rule_runs.specs.Runs.{IsNotRun}
 use Rattle.sig_base.specs.declared.limits.Limits.{Limits}
 use Rattle.sig_base.specs.declared.refusal.Refusal.{Refusal}
@@ -39,7 +40,7 @@ EachUnder by = (given : Option Schema) (world : World) → (parts : List Part) �
 
 -- said of the rule files that are converted, of the one that is run, and of the lines of events that are answered
 abbrev pub EachConverted : Type 0
-EachConverted = (limits : Limits) (rules : List (List ℕ)) → EachUnder (RulesBy (ConvertGives limits) limits rules)
+EachConverted = (backend : BackendName) (limits : Limits) (rules : List (List ℕ)) → EachUnder (RulesBy (ConvertGives backend limits) limits rules)
 
 abbrev pub EachRan : Type 0
 EachRan = (limits : Limits) (file : List ℕ) → EachUnder (RanUnder limits file)
@@ -79,19 +80,19 @@ OneUnder by = (given : Option Schema) (world : World) (a b : List Part) → by g
 abbrev pub OneAnswer : Type 0
 OneAnswer = (limits : Limits) (request : Request) (world : World) (a b : List Part) → Answers limits request world a → Answers limits request world b → a ≡ b
 
--- said of both commands that answer trees, under each schema
+-- said of both commands that answer trees, of each backend and under each schema
 abbrev pub OfBoth : (ByTree → Type 0) → Type 0
-OfBoth says = (limits : Limits) → says (CheckGives limits) × ((given : Option Schema) → says (ConvertGives limits given))
+OfBoth says = (limits : Limits) → says (CheckGives limits) × ((backend : BackendName) (given : Option Schema) → says (ConvertGives backend limits given))
 
 -- the query of each rule that `convert` answers in a file means the rule
 abbrev pub QueriesMean : Type 0
-QueriesMean = (limits : Limits) (given : Option Schema) → IfSome given IsSchema → (name bytes : List ℕ) (share : Share)
-    → FileGives (ConvertGives limits given) limits name bytes share → FileGives (ConvertMeans limits given) limits name bytes share
+QueriesMean = (backend : BackendName) (limits : Limits) (given : Option Schema) → IfSome given IsSchema → (name bytes : List ℕ) (share : Share)
+    → FileGives (ConvertGives backend limits given) limits name bytes share → FileGives (ConvertMeans backend limits given) limits name bytes share
 
 -- and so does that of each rule in its whole answer
 abbrev pub AnswersMean : Type 0
-AnswersMean = (limits : Limits) (schema : Option (List ℕ)) (rules : List (List ℕ)) (world : World) (parts : List Part)
-    → Converted (ConvertGives limits) limits schema rules world parts → Converted (ConvertMeans limits) limits schema rules world parts
+AnswersMean = (backend : BackendName) (limits : Limits) (schema : Option (List ℕ)) (rules : List (List ℕ)) (world : World) (parts : List Part)
+    → Converted (ConvertGives backend limits) limits schema rules world parts → Converted (ConvertMeans backend limits) limits schema rules world parts
 
 -- a tree that isn't refused is a rule, and one rule only
 abbrev pub EachRule : Type 0

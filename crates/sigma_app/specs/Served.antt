@@ -7,6 +7,7 @@ use Rattle.answer_parts.specs.Stands.{StopsAt}
 use Rattle.answer_parts.specs.State.{Inputs, Streams, NoWriteFailed, SomeWriteFailed, NoReadFailed}
 use Rattle.answer_parts.specs.declared.stop.Stop.{Stop}
 use Rattle.answer_parts.specs.declared.stop.Stop.TheVariants.{Unread, Unwritten}
+use Rattle.rule_queries.specs.declared.backend_name.BackendName.{BackendName}
 use Rattle.sig_base.specs.declared.limits.Limits.{Limits}
 use Rattle.sigma_app.specs.Answers.{Answers, needs_of}
 use Rattle.sigma_app.specs.Convert.{ConvertMeans}
@@ -66,14 +67,14 @@ abbrev pub Written : Limits → List (List ℕ) → World → Status → Streams
 Written limits words world status old new = (parts : List Part) × Answer limits words world status parts × Gains (share_of parts) old new
 
 -- The headline: what `convert` writes is, for each document that is a rule with a query, in order, the query and a line feed, and
--- nothing else; the query's bytes are a text that is read as exactly one query within the reader's limits, which selects an
+-- nothing else; the query's bytes are read as exactly one query of the backend's language, within the reader's limits, which selects an
 -- event of the given schema, or else of the one that is made of the rule, exactly where the rule matches it; and each other document
 -- has its one diagnostic, with the first cause for which it has no query. Where the file that is named as the schema is none, its
 -- one diagnostic is all that is written.
 abbrev pub Headline : Limits → List (List ℕ) → World → Streams → Streams → Type 0
 Headline limits words world old new =
-    (schema : Option (List ℕ)) (rules : List (List ℕ)) → IsAccepted words (Convert schema rules)
-    → (parts : List Part) × Converted (ConvertMeans limits) limits schema rules world parts × Gains (share_of parts) old new
+    (backend : BackendName) (schema : Option (List ℕ)) (rules : List (List ℕ)) → IsAccepted words (Convert backend schema rules)
+    → (parts : List Part) × Converted (ConvertMeans backend limits) limits schema rules world parts × Gains (share_of parts) old new
 
 -- What stands where the run was cut off: a front of the answer's output, and of its diagnostics some whole ones and the beginning of at
 -- most one more.

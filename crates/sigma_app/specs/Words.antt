@@ -1,11 +1,13 @@
 -- The words that the program accepts, and the request that they are.
-use Rattle.std.specs.Prelude.{◌≡◌, ℕ, ◌^◌, ◌<◌, nat_lt, Bool, false, if◌then◌else◌, List, [], ◌∷◌, length, map, codes, Option, Some, None, option_map, option_and_then, encode_utf8_all}
+use Rattle.std.specs.Prelude.{◌≡◌, ℕ, ◌^◌, ◌<◌, nat_lt, if◌then◌else◌, List, [], ◌∷◌, length, map, codes, Option, Some, None, option_map, option_and_then, encode_utf8_all}
 use Rattle.std.specs.Str.{bytes_eq, chars}
 use Rattle.command_words.specs.Computed.{given}
 use Rattle.command_words.specs.Given.{Item, value_of, names_of}
 use Rattle.command_words.specs.Table.{row_of, backend, schema, IsGiven}
 use Rattle.command_words.specs.declared.command_name.CommandName.{CommandName}
 use Rattle.command_words.specs.declared.command_name.CommandName.TheVariants as commands
+use Rattle.rule_queries.specs.declared.backend_name.BackendName.{BackendName}
+use Rattle.rule_queries.specs.declared.backend_name.BackendName.TheVariants.{Sqlite}
 use Rattle.sigma_app.specs.declared.request.Request.{Request}
 use Rattle.sigma_app.specs.declared.request.Request.TheVariants.{Check, Convert, Run}
 
@@ -21,10 +23,20 @@ files_of items = map chars (names_of items)
 abbrev pub schema_in : List Item → Option (List ℕ)
 schema_in items = option_map chars (value_of schema items)
 
--- queries are written for SQLite alone
-abbrev pub is_sqlite : Option (List ℕ) → Bool
-is_sqlite None = false
-is_sqlite (Some name) = bytes_eq name (codes "sqlite")
+-- the names of the backends, a line for each
+abbrev pub backend_names : List (List ℕ × BackendName)
+backend_names =
+    (codes "sqlite", Sqlite)
+    ∷ []
+
+-- the first of these that goes by the word
+abbrev pub backend_among : List (List ℕ × BackendName) → List ℕ → Option BackendName
+backend_among [] word = None
+backend_among (row ∷ rows) word = if bytes_eq word row.0 then Some row.1 else backend_among rows word
+
+-- the backend of this name
+abbrev pub backend_named : List ℕ → Option BackendName
+backend_named word = backend_among backend_names word
 
 -- the one name of these
 abbrev pub only : List (List ℕ) → Option (List ℕ)
@@ -35,7 +47,8 @@ only (name ∷ other ∷ others) = None
 -- what a command with these items asks for
 abbrev pub request_with : CommandName → List Item → Option Request
 request_with commands.Check items = Some (Check (files_of items))
-request_with commands.Convert items = if is_sqlite (value_of backend items) then Some (Convert (schema_in items) (files_of items)) else None
+request_with commands.Convert items =
+    option_map (λ name. Convert name (schema_in items) (files_of items)) (option_and_then backend_named (value_of backend items))
 request_with commands.Run items = option_map (Run (schema_in items)) (only (files_of items))
 
 -- The first word is a command's name, and those behind it give items that ask for the request. There are fewer than 2^20 words.

@@ -53,6 +53,6 @@ pub fn queries_mean_rules()
     ensures request { AnswersMean }
 {
     event_reading::schemas_are_kept();
-    rule_queries::sqlite::queries_mean_rules();
+    rule_queries::named::queries_mean_rules();
     yaml_bounds::laws::texts_are_scalars();
 }

@@ -1,14 +1,24 @@
 //! What the words ask for.
 
+use rule_queries::BackendName;
 use sig_base::{Text, Texts};
 
 /// A command with its files.
 #[derive(Drop, Debug)]
 pub enum Request {
     /// Tell which documents are rules.
-    Check { rules: Texts },
-    /// Write the query of each, under the schema of a file if one is named.
-    Convert { schema: Option<Text>, rules: Texts },
+    Check {
+        rules: Texts,
+    },
+    /// Write the query of each in the language of a backend, under the schema of a file if one is named.
+    Convert {
+        backend: BackendName,
+        schema: Option<Text>,
+        rules: Texts,
+    },
     /// Write the events that the rule matches, read under the schema of a file if one is named.
-    Run { schema: Option<Text>, rule: Text },
+    Run {
+        schema: Option<Text>,
+        rule: Text,
+    },
 }

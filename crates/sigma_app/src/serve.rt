@@ -151,9 +151,11 @@ fn answer_request<W: Outside>(
             rules.as_slice(),
             outside,
         ),
-        Request::Convert { schema, rules } => {
-            answer_convert(alloc, limits, schema, rules.as_slice(), outside)
-        }
+        Request::Convert {
+            backend,
+            schema,
+            rules,
+        } => answer_convert(alloc, *backend, limits, schema, rules.as_slice(), outside),
         Request::Run { schema, rule } => answer_run(alloc, limits, schema, rule, outside),
     }
 }

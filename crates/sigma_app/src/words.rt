@@ -1,6 +1,6 @@
 //! The words of the command line.
 
-ghost use Rattle.std.specs.Prelude.{◌≡◌, List, [], map, Some, unwrap_or, option_map, IfOk, IfSome, IfNone};
+ghost use Rattle.std.specs.Prelude.{◌≡◌, List, [], map, Some, unwrap_or, option_map, option_and_then, IfOk, IfSome, IfNone};
 ghost use Rattle.std.specs.Str.{chars};
 ghost use Rattle.command_words.specs.Given.{Item};
 ghost use Rattle.command_words.specs.Matched.{HasItems};
@@ -11,6 +11,7 @@ ghost use Rattle.sigma_app.specs.declared.request.Request.TheVariants as request
 use crate::request::Request;
 use clap::ArgMatches;
 use command_words::{CommandName, items_are_read, read};
+use rule_queries::BackendName;
 use sig_base::{Text, Texts};
 use std::alloc::{AllocError, Global};
 
@@ -81,13 +82,23 @@ fn copy_if_any(alloc: Global, name: Option<&str>) -> Result<Option<Text>, AllocE
     }
 }
 
-/// Whether this is the backend that queries are written for.
-fn is_sqlite(backend: Option<&str>) -> bool
-    ensures { result ≡ accepted_words.is_sqlite (option_map (λ s. s.now) backend.entry) }
+/// The backend of this name.
+fn backend_named(name: &str) -> Option<BackendName>
+    ensures { result ≡ accepted_words.backend_named name.now }
 {
-    match backend {
-        Some(name) => name.as_bytes() == b"sqlite".as_slice(),
-        None => false,
+    if name.as_bytes() == b"sqlite".as_slice() {
+        return Some(BackendName::Sqlite);
+    }
+    None
+}
+
+/// The backend of this name, if there is one.
+fn backend_if_any(name: Option<&str>) -> Option<BackendName>
+    ensures { result ≡ option_and_then accepted_words.backend_named (option_map (λ s. s.now) name.entry) }
+{
+    match name {
+        Some(name) => backend_named(name),
+        None => None,
     }
 }
 
@@ -103,14 +114,21 @@ fn check_request(alloc: Global, found: &ArgMatches) -> Result<Option<Request>, A
 
 /// What `convert` asks for.
 fn convert_request(alloc: Global, found: &ArgMatches) -> Result<Option<Request>, AllocError>
-    ensures { (items : List Item) → HasItems found.now items → IfOk result (λ r. r ≡ Some (requests.Convert (schema_in items) (files_of items))) }
+    ensures { (items : List Item) → HasItems found.now items → IfOk result (λ r. r ≡ request_with CommandName.Convert items) }
 {
+    let Some(backend) = backend_if_any(found.get_str("backend")) else {
+        return Ok(None);
+    };
     let rules = match copies_if_any(alloc, found.get_raw("FILE")) {
         Ok(rules) => rules,
         Err(error) => return Err(error),
     };
     match copy_if_any(alloc, found.get_str("schema")) {
-        Ok(schema) => Ok(Some(Request::Convert { schema, rules })),
+        Ok(schema) => Ok(Some(Request::Convert {
+            backend,
+            schema,
+            rules,
+        })),
         Err(error) => Err(error),
     }
 }
@@ -159,12 +177,7 @@ fn request_with(
 {
     match command {
         CommandName::Check => check_request(alloc, found),
-        CommandName::Convert => {
-            if !is_sqlite(found.get_str("backend")) {
-                return Ok(None);
-            }
-            convert_request(alloc, found)
-        }
+        CommandName::Convert => convert_request(alloc, found),
         CommandName::Run => run_request(alloc, found),
     }
 }

@@ -14,20 +14,22 @@ use crate::given_schema::{SchemaCommand, answer_schema};
 use crate::law::each_answer;
 use answer_parts::{Outside, Stop, put_line};
 use event_schema::Schema;
-use rule_queries::sqlite::convert_node;
+use rule_queries::BackendName;
+use rule_queries::named::convert_node;
 use sig_base::{Fault, Limits, Text};
 use std::alloc::Global;
 use yaml_tree::Node;
 
-/// Converts under the schema, or else the one that is made of each rule.
+/// Converts for the backend, under the schema or else the one that is made of each rule.
 #[derive(Drop)]
 struct Convert<'l, 's> {
+    backend: BackendName,
     limits: &'l Limits,
     schema: Option<&'s Schema>,
 }
 
 impl TreeCommand for Convert<'_, '_> {
-    ghost gives = { λ c. ConvertGives c.limits.now (option_map (λ s. s.now) c.schema) };
+    ghost gives = { λ c. ConvertGives c.backend c.limits.now (option_map (λ s. s.now) c.schema) };
 
     fn answer<W: Outside>(
         &self,
@@ -37,7 +39,7 @@ impl TreeCommand for Convert<'_, '_> {
         outside: &mut W,
     ) -> Result<bool, Stop> {
         self.each_tree();
-        match convert_node(alloc, self.limits, self.schema, node) {
+        match convert_node(self.backend, alloc, self.limits, self.schema, node) {
             Ok(query) => put_line(query.into_vec(), outside),
             Err(Fault::Refused(refusal)) => put_refusal(alloc, name, &refusal, outside),
             Err(Fault::Memory) => Err(Stop::Memory),
@@ -52,12 +54,13 @@ impl TreeCommand for Convert<'_, '_> {
 /// Converts the rules of files.
 #[derive(Drop)]
 struct ConvertFiles<'l, 'r> {
+    backend: BackendName,
     limits: &'l Limits,
     rules: &'r [Text],
 }
 
 impl SchemaCommand for ConvertFiles<'_, '_> {
-    ghost by = { λ c. RulesBy (ConvertGives c.limits.now) c.limits.now c.rules.now };
+    ghost by = { λ c. RulesBy (ConvertGives c.backend c.limits.now) c.limits.now c.rules.now };
 
     ghost names = { λ c. c.rules.now };
 
@@ -70,6 +73,7 @@ impl SchemaCommand for ConvertFiles<'_, '_> {
         outside: &mut W,
     ) -> Result<bool, Stop> {
         let command = Convert {
+            backend: self.backend,
             limits: self.limits,
             schema: given,
         };
@@ -81,20 +85,25 @@ impl SchemaCommand for ConvertFiles<'_, '_> {
     }
 }
 
-/// Answers the rule files, under the schema of a file if one is named.
+/// Answers the rule files for the backend, under the schema of a file if one is named.
 pub(crate) fn answer_convert<W: Outside>(
     alloc: Global,
+    backend: BackendName,
     limits: &Limits,
     schema: &Option<Text>,
     rules: &[Text],
     outside: &mut W,
 ) -> Result<bool, Stop>
-    ensures { Ends (record { names = names_with schema.now rules.now; events = false }) (Converted (ConvertGives limits.now) limits.now schema.now rules.now) result (W.state outside.old) (W.state outside.new) }
+    ensures { Ends (record { names = names_with schema.now rules.now; events = false }) (Converted (ConvertGives backend limits.now) limits.now schema.now rules.now) result (W.state outside.old) (W.state outside.new) }
 {
     answer_schema(
         alloc,
         limits,
-        &ConvertFiles { limits, rules },
+        &ConvertFiles {
+            backend,
+            limits,
+            rules,
+        },
         schema,
         outside,
     )

@@ -1,0 +1,76 @@
+-- What stands in Queries and Verdicts, said of each backend by its name.
+use Rattle.std.specs.Prelude.{ℕ, List, Result}
+use Rattle.std.specs.declared.option.Option.{Option}
+use Rattle.backend_core.specs.Trees.{Plain}
+use Rattle.backend_core.specs.declared.lack.Lack.{Lack}
+use Rattle.backend_core.specs.declared.tree.Leaf.{Leaf}
+use Rattle.event_schema.specs.declared.schema.Schema.{Schema}
+use Rattle.event_schema.specs.declared.value.Value.{Value}
+use Rattle.rule_model.specs.Plain.{PlainRule}
+use Rattle.rule_queries.specs.Queries as queries
+use Rattle.rule_queries.specs.Verdicts as verdicts
+use Rattle.rule_queries.specs.declared.backend_name.BackendName.{BackendName}
+use Rattle.rule_queries.specs.declared.backend_name.BackendName.TheVariants.{Sqlite}
+use Rattle.sig_base.specs.declared.limits.Limits.{Limits}
+use Rattle.sig_base.specs.declared.refusal.Fault.{Fault}
+use Rattle.sig_base.specs.declared.refusal.Place.{Place}
+use Rattle.sig_base.specs.declared.refusal.Refusal.{Refusal}
+use Rattle.sql_lang.specs.Expression.{Expr}
+use Rattle.sql_lang.specs.Reading.{Reads}
+use Rattle.sql_queries.specs.Queries.{IsWithin, Picks}
+use Rattle.sqlite_writer.specs.Lacking.{sqlite_lacks}
+use Rattle.sqlite_writer.specs.Queries.{query_bytes}
+use Rattle.sqlite_writer.specs.Refused.{deep_refusal}
+use Rattle.yaml_tree.specs.Tree.{Tree}
+
+-- ---- what each backend writes
+
+-- what it lacks for a leaf
+abbrev pub missing : BackendName → Schema → Leaf → Option Lack
+missing Sqlite schema l = sqlite_lacks schema.fields l
+
+-- its text of a tree
+abbrev pub text : BackendName → Schema → Plain → List ℕ
+text Sqlite = query_bytes
+
+-- how it refuses a tree for its depth or its number of clauses
+abbrev pub too_deep : BackendName → Limits → Schema → Plain → Place → Option Refusal
+too_deep Sqlite = deep_refusal
+
+-- ---- the language that it writes. (No field that a query of SQLite tests has more than one value, and the query selects an event as
+-- the row with the first value of each field.)
+
+abbrev pub Query : BackendName → Type 0
+Query Sqlite = Expr
+
+-- which bytes are which query of a schema
+abbrev pub is_query : (backend : BackendName) → Schema → List ℕ → Query backend → Type 0
+is_query Sqlite = Reads
+
+-- which are one within the limits
+abbrev pub is_within : (backend : BackendName) → Limits → Schema → List ℕ → Query backend → Type 0
+is_within Sqlite = IsWithin
+
+-- which rows it picks
+abbrev pub picks : (backend : BackendName) → Query backend → List (List Value) → Type 0
+picks Sqlite = Picks
+
+-- ---- rules and their queries
+
+abbrev pub query_of : BackendName → Option Schema → PlainRule → List ℕ
+query_of backend given rule = queries.query_of (text backend) given rule
+
+abbrev pub query_refusal : BackendName → Limits → Option Schema → PlainRule → Option Refusal
+query_refusal backend limits given rule = queries.query_refusal (missing backend) (text backend) (too_deep backend) limits given rule
+
+abbrev pub Converts : BackendName → Limits → Option Schema → PlainRule → List ℕ → Type 0
+Converts backend limits given rule bytes = queries.Converts (is_query backend) (is_within backend) (picks backend) limits given rule bytes
+
+abbrev pub IsConverted : BackendName → Limits → Option Schema → Tree → PlainRule → Type 0
+IsConverted backend limits given t rule = verdicts.IsConverted (missing backend) (text backend) (too_deep backend) limits given t rule
+
+abbrev pub IsRefused : BackendName → Limits → Option Schema → Tree → Refusal → Type 0
+IsRefused backend limits given t refusal = verdicts.IsRefused (missing backend) (text backend) (too_deep backend) limits given t refusal
+
+abbrev pub ConvertAnswers : BackendName → Limits → Option Schema → Tree → Result (List ℕ) Fault → Type 0
+ConvertAnswers backend limits given t result = verdicts.ConvertAnswers (missing backend) (text backend) (too_deep backend) limits given t result

@@ -1,0 +1,8 @@
+//! The names of backends.
+
+/// A backend by its name.
+#[derive(Clone, Copy, Debug, PartialEq, Eq)]
+pub enum BackendName {
+    /// queries of SQLite
+    Sqlite,
+}

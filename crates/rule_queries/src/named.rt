@@ -1,0 +1,43 @@
+//! The same for a backend that goes by its name.
+
+ghost use Rattle.std.specs.Prelude.{Option, IfSome, option_map};
+ghost use Rattle.event_schema.specs.Schemas.{IsSchema};
+ghost use Rattle.event_schema.specs.declared.schema.Schema.{Schema as SchemaData};
+ghost use Rattle.rule_model.specs.Plain.{PlainRule};
+ghost use Rattle.rule_queries.specs.NamedQueries.{query_of, Converts, IsConverted, ConvertAnswers};
+ghost use Rattle.rule_queries.specs.declared.backend_name.BackendName.{BackendName as NameData};
+ghost use Rattle.sig_base.specs.declared.limits.Limits.{Limits as LimitsData};
+ghost use Rattle.yaml_tree.specs.Texts.{HasScalarTexts};
+ghost use Rattle.yaml_tree.specs.Tree.{Tree};
+ghost use Rattle.yaml_tree.specs.View.{node_view};
+
+use crate::backend_name::BackendName;
+use crate::{converting, law};
+use event_schema::Schema;
+use sig_base::{Bytes, Fault, Limits};
+use sqlite_writer::Sqlite;
+use std::alloc::Global;
+use yaml_tree::Node;
+
+/// The query of the rule that a node is in the language of the backend, refused as `convert_node` says.
+pub fn convert_node(
+    backend: BackendName,
+    alloc: Global,
+    limits: &Limits,
+    given: Option<&Schema>,
+    node: &Node,
+) -> Result<Bytes, Fault>
+    ensures { ConvertAnswers backend limits.now (option_map (λ s. s.now) given.entry) (node_view node.now) result }
+{
+    match backend {
+        BackendName::Sqlite => converting::convert_node(&Sqlite, alloc, limits, given, node),
+    }
+}
+
+/// The query of each rule that has one means the rule, whichever the backend.
+pub fn queries_mean_rules()
+    ensures { (backend : NameData) (limits : LimitsData) (given : Option SchemaData) (t : Tree) (rule : PlainRule) → IfSome given IsSchema
+        → HasScalarTexts t → IsConverted backend limits given t rule → Converts backend limits given rule (query_of backend given rule) }
+{
+    law::queries_mean_rules::<Sqlite>();
+}
