@@ -439,17 +439,17 @@ module _ (fields : List Field) where
     sound_not (enclosed o) h = texts_joined (spell_or o) (Closing ∷ []) (sound_or o h) refl
 
   mutual
-    faultless_or : (o : Ors) (ps : List At) → EachOr (IsSound fields) o → or_faults fields o ps ≡ []
+    faultless_or : (o : Ors) (ps : List At) → EachOr (IsSound fields) o → or_faults fields [] o ps ≡ []
     faultless_or (last_and a) ps h = faultless_and a ps h
     faultless_or (and_or a o) ps h =
         rw (faultless_and a ps h.0) (faultless_or o (drop (suc (length (spell_and a))) ps) h.1)
 
-    faultless_and : (a : Ands) (ps : List At) → EachAnd (IsSound fields) a → and_faults fields a ps ≡ []
+    faultless_and : (a : Ands) (ps : List At) → EachAnd (IsSound fields) a → and_faults fields [] a ps ≡ []
     faultless_and (last_not n) ps h = faultless_not n ps h
     faultless_and (not_and n a) ps h =
         rw (faultless_not n ps h.0) (faultless_and a (drop (suc (length (spell_nots n))) ps) h.1)
 
-    faultless_not : (n : Nots) (ps : List At) → EachNot (IsSound fields) n → not_faults fields n ps ≡ []
+    faultless_not : (n : Nots) (ps : List At) → EachNot (IsSound fields) n → not_faults fields [] n ps ≡ []
     faultless_not (not_not n) ps h = faultless_not n (drop 1 ps) h
     faultless_not (a_test t) ps h = h.faultless ps
     faultless_not (enclosed o) ps h = faultless_or o (drop 1 ps) h
@@ -464,13 +464,13 @@ named_itself : (n : List ℕ) → is_named n n ≡ true
 named_itself n = (bytes_eq-Decides (folded n) (folded n)).1 refl
 
 layout_faultless : (schema : Schema) (t : Tree) (ps : List At) → EachOr (IsSound schema.fields) (layout t)
-    → query_faults schema (layout_query schema.table t) ps ≡ []
+    → query_faults schema [] (layout_query schema.table t) ps ≡ []
 layout_faultless schema t ps sound = rw (named_itself schema.table) (faultless_or schema.fields (layout t) (drop 5 ps) sound)
 
 -- what the text of a query without faults is read as
 abbrev pub WrittenIsRead : Type 0
 WrittenIsRead =
-    (schema : Schema) (q : Query) → is_writable q ≡ true → ((ps : List At) → query_faults schema q ps ≡ [])
+    (schema : Schema) (q : Query) → is_writable q ≡ true → ((ps : List At) → query_faults schema [] q ps ≡ [])
     → Reads schema (encode_utf8_all (text_query q)) (or_expr schema.fields q.condition)
 
 pub layout_reads : WrittenIsRead → (schema : Schema) (t : Tree) → all_scalars schema.table ≡ true → EachLeaf (IsSound schema.fields) t

@@ -2,8 +2,8 @@
 use Rattle.std.proofs.Common.{ℕ, ◌≡◌, refl, sym, ◌∙◌, ap, true, false, List, [], ◌∷◌, ◌++◌, append_assoc, append-nil, subst}
 use Rattle.std.specs.Prelude.{Option, Some, None, Result, Ok, Err}
 use Rattle.sql_lang.specs.Tokens.{FROM, WHERE, AND, IS, NULL, LIKE, BETWEEN, NOCASE, Eq, Sort, Word, Name, Text, Number, Opening, Closing, Star, Compares}
-use Rattle.sql_lang.specs.Grammar.{Unsaid, NoCase, a_text, a_name, constant, is_null, compares, like, glob, one_of, between, Ors, last_and, last_not, Nots, a_test, enclosed, Query, spell_test, spell_or, spell_nots, spell_head, spell_query, Begins, IsQuery, IsDead}
-use Rattle.sql_lang.specs.Machine.{Partial, Start, Named, Collating, Collated, Is, IsNot, Against, Compared, RightCollating, NamedNot, CollatedNot, Liking, Liked, Escaping, Globbing, Among, Listing, Listed, Ranging, Low, High, Complete, Closed, Level, ors_of, State, Begun, Selected, Starred, FromWord, Tabled, Inside, Ended, whole, step, on_step, run, query_if, done, finish, Ends, reads, stops_at_end, stops}
+use Rattle.sql_lang.specs.Grammar.{Unsaid, NoCase, a_text, a_name, constant, is_null, compares, like, glob, regexp, one_of, between, Ors, last_and, last_not, Nots, a_test, enclosed, Query, spell_test, spell_or, spell_nots, spell_head, spell_query, Begins, IsQuery, IsDead}
+use Rattle.sql_lang.specs.Machine.{Partial, Start, Named, Collating, Collated, Is, IsNot, Against, Compared, RightCollating, NamedNot, CollatedNot, Liking, Liked, Escaping, Globbing, Searching, Among, Listing, Listed, Ranging, Low, High, Complete, Closed, Level, ors_of, State, Begun, Selected, Starred, FromWord, Tabled, Inside, Ended, whole, step, on_step, run, query_if, done, finish, Ends, reads, stops_at_end, stops}
 use Rattle.sql_lang.proofs.Complete.{reads_query, goes_step}
 use Rattle.sql_lang.proofs.Sofar.{Grows, Spells, sofar_test, sofar_level, sofar_outer, sofar, step_grows, whole_spells, ors_of_spells}
 
@@ -33,6 +33,7 @@ completes (Liking n b) = record { core = a_test (like n b [] None); rest = Text 
 completes (Liked n b v) = record { core = a_test (like n b v None); rest = []; spelled = simp (append_assoc, append-nil) }
 completes (Escaping n b v) = record { core = a_test (like n b v (Some [])); rest = Text [] ∷ []; spelled = simp append_assoc }
 completes (Globbing n b) = record { core = a_test (glob n b []); rest = Text [] ∷ []; spelled = simp append_assoc }
+completes (Searching n b) = record { core = a_test (regexp n b []); rest = Text [] ∷ []; spelled = simp append_assoc }
 completes (Among n c b) = record { core = a_test (one_of n c b [] (a_text [])); rest = Opening ∷ Text [] ∷ Closing ∷ []; spelled = simp append_assoc }
 completes (Listing n c b ls) = record { core = a_test (one_of n c b ls (a_text [])); rest = Text [] ∷ Closing ∷ []; spelled = simp append_assoc }
 completes (Listed n c b ls l) = record { core = a_test (one_of n c b ls l); rest = Closing ∷ []; spelled = simp append_assoc }

@@ -2,7 +2,7 @@
 use Rattle.std.proofs.Common.{ℕ, zero, suc, ◌≡◌, refl, sym, ◌∙◌, ap, Bool, true, false, List, [], ◌∷◌, ◌++◌, append_assoc, append-nil}
 use Rattle.std.specs.Prelude.{Option, Some, None, Ok}
 use Rattle.sql_lang.specs.Tokens.{OR, AND, IN, BETWEEN, Op, Sort, Word, Name, Number, Opening, Closing, Comma, Semicolon, Compares}
-use Rattle.sql_lang.specs.Grammar.{Collate, Unsaid, NoCase, Binary, Literal, a_text, a_number, Right, a_name, a_literal, Leaf, constant, is_null, compares, like, glob, one_of, between, Ors, last_and, and_or, Ands, last_not, not_and, Nots, not_not, a_test, enclosed, Query, spell_collate, spell_right, spell_literal, spell_not, spell_before, spell_test, spell_or, spell_and, spell_nots, spell_query, spell_end}
+use Rattle.sql_lang.specs.Grammar.{Collate, Unsaid, NoCase, Binary, Literal, a_text, a_number, Right, a_name, a_literal, Leaf, constant, is_null, compares, like, glob, regexp, one_of, between, Ors, last_and, and_or, Ands, last_not, not_and, Nots, not_not, a_test, enclosed, Query, spell_collate, spell_right, spell_literal, spell_not, spell_before, spell_test, spell_or, spell_and, spell_nots, spell_query, spell_end}
 use Rattle.sql_lang.specs.Machine.{Partial, Start, Named, Collated, Against, Compared, Liked, Listing, Listed, Complete, Closed, Level, level, negated, and_of, or_of, State, Begun, Inside, Ended, whole, is_joint, behind, step, go_on, run, finish}
 
 -- ---- one test
@@ -88,6 +88,11 @@ module _ (table : List ℕ) (l : Level) (ls : List Level) where
   goes_glob n false v ts = refl
   goes_glob n true v ts = refl
 
+  goes_regexp : (n : List ℕ) (b : Bool) (v : List ℕ) (ts : List Sort) → Goes Start (spell_test (regexp n b v) ++ ts) (Complete (regexp n b v)) ts
+  unfolding step go_on
+  goes_regexp n false v ts = refl
+  goes_regexp n true v ts = refl
+
   goes_in : (n : List ℕ) (c : Collate) (b : Bool) (ts : List Sort)
       → Goes (named_in n c) (spell_not b ++ Word IN ∷ Opening ∷ ts) (Listing n c b []) ts
   unfolding step go_on
@@ -160,6 +165,7 @@ module _ (table : List ℕ) (l : Level) (ls : List Level) where
   goes_test (compares n c op x d) ts = goes_compares n c op x d ts
   goes_test (like n b v e) ts = goes_like n b v e ts
   goes_test (glob n b v) ts = goes_glob n b v ts
+  goes_test (regexp n b v) ts = goes_regexp n b v ts
   goes_test (one_of n c b before x) ts = goes_one_of n c b before x ts
   goes_test (between n c b low high) ts = goes_between n c b low high ts
 
@@ -184,6 +190,7 @@ finished_whole (compares n c op x Binary) = refl
 finished_whole (like n b v None) = refl
 finished_whole (like n b v (Some e)) = refl
 finished_whole (glob n b v) = refl
+finished_whole (regexp n b v) = refl
 finished_whole (one_of n c b before x) = refl
 finished_whole (between n c b low high) = refl
 

@@ -153,7 +153,7 @@ pub bad_in_second_line : IsBadAt bad_bytes (record { line = 2; column = 2 })
 unfolding chars
 bad_in_second_line = record { count = 4; longest = valid_up_to; behind = refl }
 
-pub bad_bytes_refused : BytesRefused 1000 schema bad_bytes (record { code = 1; place = record { line = 2; column = 2 } })
+pub bad_bytes_refused : BytesRefused 1000 schema [] bad_bytes (record { code = 1; place = record { line = 2; column = 2 } })
 bad_bytes_refused = no_text (record { line = 2; column = 2 }) bad_in_second_line refl
 
 -- é in a text is two bytes
@@ -163,7 +163,7 @@ characters = where_text (codes "\"Image\" = '" ++ 233 ∷ 39 ∷ [])
 abbrev bytes : List ℕ
 bytes = where_text (codes "\"Image\" = '" ++ 195 ∷ 169 ∷ 39 ∷ [])
 
-read_verdict : verdict 1000 schema characters ≡ Ok (text_test 0 (233 ∷ []) Unsaid)
+read_verdict : verdict 1000 schema [] characters ≡ Ok (text_test 0 (233 ∷ []) Unsaid)
 unfolding verdict tokens scan is_number run_sort text_sort step go_on is_bad_escape is_bad_bracket opens_too_far nots_too_many
 read_verdict = refl
 
@@ -172,7 +172,7 @@ unfolding lib.Utf8.encode
 is_text = record { scalars = refl; encoded = refl }
 
 read_within : ReadsWithin 1000 schema characters (text_test 0 (233 ∷ []) Unsaid)
-read_within = subst (IsVerdict 1000 schema characters) read_verdict (verdict_is 1000 schema characters)
+read_within = (subst (IsVerdict 1000 schema [] characters) read_verdict (verdict_is 1000 schema [] characters)).0
 
 pub bytes_read : BytesRead 1000 schema bytes (text_test 0 (233 ∷ []) Unsaid)
 bytes_read = record { characters = characters; text = is_text; reads = read_within }
@@ -187,7 +187,7 @@ refused_characters = where_text (codes "\"Image\" = '" ++ 233 ∷ codes "' AND \
 abbrev refused_bytes : List ℕ
 refused_bytes = where_text (codes "\"Image\" = '" ++ 195 ∷ 169 ∷ codes "' AND \"zz\" IS NULL")
 
-refusing_verdict : verdict 1000 schema refused_characters ≡ refused 122 1 48
+refusing_verdict : verdict 1000 schema [] refused_characters ≡ refused 122 1 48
 unfolding verdict tokens scan is_number run_sort text_sort step go_on is_bad_escape is_bad_bracket opens_too_far nots_too_many
 refusing_verdict = refl
 
@@ -195,7 +195,7 @@ refused_is_text : IsText refused_bytes refused_characters
 unfolding lib.Utf8.encode
 refused_is_text = record { scalars = refl; encoded = refl }
 
-pub bytes_refused : BytesRefused 1000 schema refused_bytes (record { code = 122; place = record { line = 1; column = 48 } })
+pub bytes_refused : BytesRefused 1000 schema [] refused_bytes (record { code = 122; place = record { line = 1; column = 48 } })
 bytes_refused =
     no_query refused_characters refused_is_text
-    (subst (IsVerdict 1000 schema refused_characters) refusing_verdict (verdict_is 1000 schema refused_characters))
+    (subst (IsVerdict 1000 schema [] refused_characters) refusing_verdict (verdict_is 1000 schema [] refused_characters))

@@ -9,7 +9,7 @@ use Rattle.event_schema.specs.declared.value.Value.{Value}
 use Rattle.event_schema.specs.declared.value.Value.TheVariants as values
 use Rattle.sql_lang.specs.Tokens.{Eq, Ne, Lt, Gte, scan, tokens, is_number, run_sort, text_sort}
 use Rattle.sql_lang.specs.Grammar.{Collate, Unsaid, NoCase, Binary}
-use Rattle.sql_lang.specs.Expression.{Operand, Side, ColumnAt, Text, Whole, Constant, Compare, Like, Glob, OneOf, Between, Expr, Or, And, Not, Test, Exprs, no_exprs, an_expr}
+use Rattle.sql_lang.specs.Expression.{Operand, Side, ColumnAt, Text, Whole, Constant, Compare, Like, Glob, Regexp, OneOf, Between, Expr, Or, And, Not, Test, Exprs, no_exprs, an_expr}
 use Rattle.text_places.specs.Places.{CodeAt}
 use Rattle.sql_lang.specs.Faults.{is_bad_escape, is_bad_bracket}
 use Rattle.sql_lang.specs.Reading.{opens_too_far, nots_too_many}
@@ -87,7 +87,6 @@ stop_cases =
     ∷ (codes "\"n\" = 5-3", refused 120 1 37)
     ∷ (codes "\"Image\" IN ()", refused 120 1 42)
     ∷ (codes "\"Image\" COLLATE NOCASE LIKE 'a'", refused 120 1 53)
-    ∷ (codes "\"Image\" REGEXP 'a'", refused 120 1 38)
     ∷ (codes "0;;", refused 120 1 32)
     ∷ []
 
@@ -127,6 +126,8 @@ query_cases =
     ∷ (codes "\"ip\" == \"image\" COLLATE NOCASE", Ok (column_test 2 0 NoCase))
     ∷ (codes "\"ip\" LIKE 'a!%' ESCAPE '!'", Ok (Test (Like 2 false (codes "a!%") (Some 33))))
     ∷ (codes "\"n\" NOT GLOB '[*]?'", Ok (Test (Glob 1 true (codes "[*]?"))))
+    ∷ (codes "\"Image\" REGEXP 'a'", Ok (Test (Regexp 0 false (codes "a"))))
+    ∷ (codes "\"n\" not regexp '^5'", Ok (Test (Regexp 1 true (codes "^5"))))
     ∷ (
       codes "0 OR 1 AND NOT \"n\" < 5",
       Ok (Or (an_expr (Test (Constant false)) (an_expr (And (an_expr (Test (Constant true)) (an_expr (Not (number_test 1 Lt (pos 5))) no_exprs))) no_exprs))),
@@ -165,8 +166,12 @@ depth_cases =
     ∷ (codes "0 NOT NOT 0 NOT NOT", refused 120 1 32)
     ∷ []
 
+-- where these places are refused for their regular expressions
+abbrev pub computed_under : List CodeAt → ℕ → (List ℕ → List ℕ) → Cases → List (Result Expr CodeAt)
+computed_under places limit text cases = map (λ c. verdict limit schema places (text c.0)) cases
+
 abbrev pub computed : ℕ → (List ℕ → List ℕ) → Cases → List (Result Expr CodeAt)
-computed limit text cases = map (λ c. verdict limit schema (text c.0)) cases
+computed = computed_under []
 
 abbrev pub told : Cases → List (Result Expr CodeAt)
 told cases = map (λ c. c.1) cases
@@ -183,17 +188,24 @@ depth_verdicts : computed 2 where_text depth_cases ≡ told depth_cases
 unfolding verdict tokens scan is_number run_sort text_sort step go_on is_bad_escape is_bad_bracket opens_too_far nots_too_many
 depth_verdicts = refl
 
+abbrev pub AreVerdictsUnder : List CodeAt → ℕ → (List ℕ → List ℕ) → Cases → Type 0
+AreVerdictsUnder places limit text [] = Unit {0}
+AreVerdictsUnder places limit text (c ∷ cases) = IsVerdict limit schema places (text c.0) c.1 × AreVerdictsUnder places limit text cases
+
 abbrev pub AreVerdicts : ℕ → (List ℕ → List ℕ) → Cases → Type 0
-AreVerdicts limit text [] = Unit {0}
-AreVerdicts limit text (c ∷ cases) = IsVerdict limit schema (text c.0) c.1 × AreVerdicts limit text cases
+AreVerdicts = AreVerdictsUnder []
 
 -- what is computed is so by the definitions
+pub are_so_under : (places : List CodeAt) (limit : ℕ) (text : List ℕ → List ℕ) (cases : Cases) → computed_under places limit text cases ≡ told cases
+    → AreVerdictsUnder places limit text cases
+are_so_under places limit text [] same = tt
+are_so_under places limit text (c ∷ cases) same =
+    let here : verdict limit schema places (text c.0) ≡ c.1 = cc in
+    let more : computed_under places limit text cases ≡ told cases = cc in
+    (subst (IsVerdict limit schema places (text c.0)) here (verdict_is limit schema places (text c.0)), are_so_under places limit text cases more)
+
 pub are_so : (limit : ℕ) (text : List ℕ → List ℕ) (cases : Cases) → computed limit text cases ≡ told cases → AreVerdicts limit text cases
-are_so limit text [] same = tt
-are_so limit text (c ∷ cases) same =
-    let here : verdict limit schema (text c.0) ≡ c.1 = cc in
-    let more : computed limit text cases ≡ told cases = cc in
-    (subst (IsVerdict limit schema (text c.0)) here (verdict_is limit schema (text c.0)), are_so limit text cases more)
+are_so = are_so_under []
 
 pub example_texts : AreVerdicts 1000 (λ text. text) texts
 example_texts = are_so 1000 (λ text. text) texts texts_verdicts

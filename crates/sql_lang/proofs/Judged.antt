@@ -9,14 +9,15 @@ use Rattle.event_schema.specs.declared.schema.Schema.{Schema}
 use Rattle.text_places.specs.Places.{At, CodeAt, code_at}
 use Rattle.sql_lang.specs.Tokens.{Token, Sort, Word, OR, AND, Closing, tokens}
 use Rattle.text_places.specs.Tokens.{sorts, places, token_place}
-use Rattle.sql_lang.specs.Grammar.{Collate, Unsaid, NoCase, Binary, Literal, a_text, a_number, Right, a_name, a_literal, Leaf, constant, is_null, compares, like, glob, one_of, between, Ors, last_and, and_or, Ands, last_not, not_and, Nots, not_not, a_test, enclosed, Query, spell_collate, spell_literal, spell_right, spell_not, spell_escape, spell_before, spell_test, spell_or, spell_and, spell_nots, spell_end, spell_query, StopsAt}
+use Rattle.sql_lang.specs.Grammar.{Collate, Unsaid, NoCase, Binary, Literal, a_text, a_number, Right, a_name, a_literal, Leaf, constant, is_null, compares, like, glob, regexp, one_of, between, Ors, last_and, and_or, Ands, last_not, not_and, Nots, not_not, a_test, enclosed, Query, spell_collate, spell_literal, spell_right, spell_not, spell_escape, spell_before, spell_test, spell_or, spell_and, spell_nots, spell_end, spell_query, StopsAt}
 use Rattle.sql_lang.specs.Expression.{Expr, or_expr, depth}
 use Rattle.sql_lang.specs.Faults.{query_faults}
-use Rattle.sql_lang.specs.Reading.{ReadsWithin, Refuses, no_token, nested, stopped, deep, faulty, is_other, first_other, nests_too_far}
+use Rattle.sql_lang.specs.Reading.{ReadsWithin, IsRefusedPlace, Refuses, no_token, nested, stopped, deep, faulty, is_other, first_other, nests_too_far}
 use Rattle.sql_lang.specs.Machine.{Begun, run, finish, Ends, reads, stops_at_end, stops}
 use Rattle.sql_lang.specs.Verdict.{on_faults, on_depth, on_query, on_nesting, on_other, verdict, IsVerdict}
 use Rattle.sql_lang.proofs.Complete.{one_spelled}
 use Rattle.sql_lang.proofs.Both.{both_true}
+use Rattle.sql_lang.proofs.Fewer.{fewer, first_refused}
 use Rattle.text_places.proofs.Stops.{one_stop_of, no_stop_of}
 use Rattle.sql_lang.proofs.Alive.{ends_so}
 
@@ -62,6 +63,7 @@ known_test (is_null n b) = known_both (spell_not b) (Word _ ∷ []) (known_not b
 known_test (compares n c op x d) = known_both (spell_collate c) (_ ∷ spell_right x ∷ spell_collate d) (known_collate c) (let h = known_right x in rw h (known_collate d))
 known_test (like n b v e) = known_both (spell_not b) (_ ∷ _ ∷ spell_escape e) (known_not b) (known_escape e)
 known_test (glob n b v) = known_both (spell_not b) (_ ∷ _ ∷ []) (known_not b) refl
+known_test (regexp n b v) = known_both (spell_not b) (_ ∷ _ ∷ []) (known_not b) refl
 known_test (one_of n c b ls l) =
     let behind : AreKnown (spell_before ls ++ spell_literal l ∷ Closing ∷ [])
     = known_both (spell_before ls) (spell_literal l ∷ Closing ∷ []) (known_before ls) (let h = known_literal l in rw h refl) in
@@ -112,19 +114,28 @@ no_stop_spelled q ts front rest spelled s = no_stop_of spell_query q front rest 
 same_condition : (p q : Query) (ts : List Sort) → spell_query p ≡ ts → spell_query q ≡ ts → p ≡ q
 same_condition p q ts first second = one_spelled p q (first ∙ sym second)
 
-pub not_both_of : (limit : ℕ) (schema : Schema) (cs : List ℕ) (e : Expr) (f : CodeAt) → ReadsWithin limit schema cs e → Refuses limit schema cs f → ⊥
-not_both_of limit schema cs e f r (no_token place other is) = let none = no_other_in r.reads.query (tokens cs) r.reads.spelled in absurd cc
-not_both_of limit schema cs e f r (nested other far is) = let near = r.nests in absurd cc
-not_both_of limit schema cs e f r (stopped front rest other near s is) = no_stop_spelled r.reads.query (sorts (tokens cs)) front rest r.reads.spelled s
-not_both_of limit schema cs e f r (deep q other near spelled below is) =
-    let same = same_condition r.reads.query q (sorts (tokens cs)) r.reads.spelled spelled in
-    let means : e ≡ or_expr schema.fields q.condition = r.reads.means ∙ ap (λ (p : Query). or_expr schema.fields p.condition) same in
-    let within : depth (or_expr schema.fields q.condition) ≤ limit = subst (λ (x : Expr). depth x ≤ limit) means r.deep in
-    absurd (omega arith)
-not_both_of limit schema cs e f r (faulty q other near spelled within more is) =
-    let same = same_condition r.reads.query q (sorts (tokens cs)) r.reads.spelled spelled in
-    let none : query_faults schema q (places (tokens cs)) ≡ [] = subst (λ (p : Query). query_faults schema p (places (tokens cs)) ≡ []) same r.reads.faultless in
-    absurd cc
+-- A query within the limit is refused by its faults alone.
+module _ (limit : ℕ) (schema : Schema) (refused : List CodeAt) (cs : List ℕ) (q : Query) (P : CodeAt → Type 0) where
+  refused_so : spell_query q ≡ sorts (tokens cs) → nests_too_far limit (sorts (tokens cs)) ≡ false → depth (or_expr schema.fields q.condition) ≤ limit
+      → ((f : CodeAt) (more : List CodeAt) → query_faults schema refused q (places (tokens cs)) ≡ f ∷ more → P f)
+      → (f : CodeAt) → Refuses limit schema refused cs f → P f
+  refused_so spelled nests within only f (no_token place other is) = let none = no_other_in q (tokens cs) spelled in absurd cc
+  refused_so spelled nests within only f (nested other far is) = absurd cc
+  refused_so spelled nests within only f (stopped front rest other near s is) = absurd (no_stop_spelled q (sorts (tokens cs)) front rest spelled s)
+  refused_so spelled nests within only f (deep r other near spelled' below is) =
+      let same = same_condition q r (sorts (tokens cs)) spelled spelled' in
+      let over : limit < depth (or_expr schema.fields q.condition) = subst (λ (p : Query). limit < depth (or_expr schema.fields p.condition)) (sym same) below in
+      absurd (omega arith)
+  refused_so spelled nests within only f (faulty r other near spelled' below more is) =
+      let same = same_condition q r (sorts (tokens cs)) spelled spelled' in
+      only f more (subst (λ (p : Query). query_faults schema refused p (places (tokens cs)) ≡ f ∷ more) (sym same) is)
+
+pub not_both_of : (limit : ℕ) (schema : Schema) (refused : List CodeAt) (cs : List ℕ) (e : Expr) (f : CodeAt)
+    → ReadsWithin limit schema cs e → Refuses limit schema refused cs f → IsRefusedPlace refused f
+not_both_of limit schema refused cs e f r h =
+    let within : depth (or_expr schema.fields r.reads.query.condition) ≤ limit = subst (λ (x : Expr). depth x ≤ limit) r.reads.means r.deep in
+    refused_so limit schema refused cs r.reads.query (IsRefusedPlace refused) r.reads.spelled r.nests within
+    (λ g more is. first_refused schema refused r.reads.query (places (tokens cs)) g more r.reads.faultless is) f h
 
 one_length : (ts front rest other more : List Sort) → StopsAt ts front rest → StopsAt ts other more → length front ≡ length other
 one_length ts front rest other more s r =
@@ -132,86 +143,88 @@ one_length ts front rest other more s r =
     let parts : front ++ rest ≡ other ++ rest = sym s.parts ∙ (r.parts ∙ ap (λ (us : List Sort). other ++ us) (sym same)) in
     ap length (append_cancel_right front other rest parts)
 
-pub one_refusal_of : (limit : ℕ) (schema : Schema) (cs : List ℕ) (f g : CodeAt) → Refuses limit schema cs f → Refuses limit schema cs g → f ≡ g
-one_refusal_of limit schema cs f g (no_token p other is) (no_token q other' is') = let same : p ≡ q = cc in cc
-one_refusal_of limit schema cs f g (no_token p other is) (nested other' far is') = absurd cc
-one_refusal_of limit schema cs f g (no_token p other is) (stopped front rest other' near s is') = absurd cc
-one_refusal_of limit schema cs f g (no_token p other is) (deep q other' near spelled below is') = absurd cc
-one_refusal_of limit schema cs f g (no_token p other is) (faulty q other' near spelled within more is') = absurd cc
-one_refusal_of limit schema cs f g (nested other far is) (no_token q other' is') = absurd cc
-one_refusal_of limit schema cs f g (nested other far is) (nested other' far' is') = cc
-one_refusal_of limit schema cs f g (nested other far is) (stopped front rest other' near s is') = absurd cc
-one_refusal_of limit schema cs f g (nested other far is) (deep q other' near spelled below is') = absurd cc
-one_refusal_of limit schema cs f g (nested other far is) (faulty q other' near spelled within more is') = absurd cc
-one_refusal_of limit schema cs f g (stopped front rest other near s is) (no_token q other' is') = absurd cc
-one_refusal_of limit schema cs f g (stopped front rest other near s is) (nested other' far is') = absurd cc
-one_refusal_of limit schema cs f g (stopped front rest other near s is) (stopped front' rest' other' near' s' is') =
+pub one_refusal_of : (limit : ℕ) (schema : Schema) (refused : List CodeAt) (cs : List ℕ) (f g : CodeAt) → Refuses limit schema refused cs f → Refuses limit schema refused cs g → f ≡ g
+one_refusal_of limit schema refused cs f g (no_token p other is) (no_token q other' is') = let same : p ≡ q = cc in cc
+one_refusal_of limit schema refused cs f g (no_token p other is) (nested other' far is') = absurd cc
+one_refusal_of limit schema refused cs f g (no_token p other is) (stopped front rest other' near s is') = absurd cc
+one_refusal_of limit schema refused cs f g (no_token p other is) (deep q other' near spelled below is') = absurd cc
+one_refusal_of limit schema refused cs f g (no_token p other is) (faulty q other' near spelled within more is') = absurd cc
+one_refusal_of limit schema refused cs f g (nested other far is) (no_token q other' is') = absurd cc
+one_refusal_of limit schema refused cs f g (nested other far is) (nested other' far' is') = cc
+one_refusal_of limit schema refused cs f g (nested other far is) (stopped front rest other' near s is') = absurd cc
+one_refusal_of limit schema refused cs f g (nested other far is) (deep q other' near spelled below is') = absurd cc
+one_refusal_of limit schema refused cs f g (nested other far is) (faulty q other' near spelled within more is') = absurd cc
+one_refusal_of limit schema refused cs f g (stopped front rest other near s is) (no_token q other' is') = absurd cc
+one_refusal_of limit schema refused cs f g (stopped front rest other near s is) (nested other' far is') = absurd cc
+one_refusal_of limit schema refused cs f g (stopped front rest other near s is) (stopped front' rest' other' near' s' is') =
     let same = one_length (sorts (tokens cs)) front rest front' rest' s s' in
     is ∙ (ap (λ (n : ℕ). code_at 120 (token_place cs (tokens cs) n)) same ∙ sym is')
-one_refusal_of limit schema cs f g (stopped front rest other near s is) (deep q other' near' spelled below is') =
+one_refusal_of limit schema refused cs f g (stopped front rest other near s is) (deep q other' near' spelled below is') =
     absurd (no_stop_spelled q (sorts (tokens cs)) front rest spelled s)
-one_refusal_of limit schema cs f g (stopped front rest other near s is) (faulty q other' near' spelled within more is') =
+one_refusal_of limit schema refused cs f g (stopped front rest other near s is) (faulty q other' near' spelled within more is') =
     absurd (no_stop_spelled q (sorts (tokens cs)) front rest spelled s)
-one_refusal_of limit schema cs f g (deep p other near spelled below is) (no_token q other' is') = absurd cc
-one_refusal_of limit schema cs f g (deep p other near spelled below is) (nested other' far is') = absurd cc
-one_refusal_of limit schema cs f g (deep p other near spelled below is) (stopped front rest other' near' s is') =
+one_refusal_of limit schema refused cs f g (deep p other near spelled below is) (no_token q other' is') = absurd cc
+one_refusal_of limit schema refused cs f g (deep p other near spelled below is) (nested other' far is') = absurd cc
+one_refusal_of limit schema refused cs f g (deep p other near spelled below is) (stopped front rest other' near' s is') =
     absurd (no_stop_spelled p (sorts (tokens cs)) front rest spelled s)
-one_refusal_of limit schema cs f g (deep p other near spelled below is) (deep q other' near' spelled' below' is') = cc
-one_refusal_of limit schema cs f g (deep p other near spelled below is) (faulty q other' near' spelled' within more is') =
+one_refusal_of limit schema refused cs f g (deep p other near spelled below is) (deep q other' near' spelled' below' is') = cc
+one_refusal_of limit schema refused cs f g (deep p other near spelled below is) (faulty q other' near' spelled' within more is') =
     let same = same_condition p q (sorts (tokens cs)) spelled spelled' in
     let over : limit < depth (or_expr schema.fields q.condition) = subst (λ (r : Query). limit < depth (or_expr schema.fields r.condition)) same below in
     absurd (omega arith)
-one_refusal_of limit schema cs f g (faulty p other near spelled within more is) (no_token q other' is') = absurd cc
-one_refusal_of limit schema cs f g (faulty p other near spelled within more is) (nested other' far is') = absurd cc
-one_refusal_of limit schema cs f g (faulty p other near spelled within more is) (stopped front rest other' near' s is') =
+one_refusal_of limit schema refused cs f g (faulty p other near spelled within more is) (no_token q other' is') = absurd cc
+one_refusal_of limit schema refused cs f g (faulty p other near spelled within more is) (nested other' far is') = absurd cc
+one_refusal_of limit schema refused cs f g (faulty p other near spelled within more is) (stopped front rest other' near' s is') =
     absurd (no_stop_spelled p (sorts (tokens cs)) front rest spelled s)
-one_refusal_of limit schema cs f g (faulty p other near spelled within more is) (deep q other' near' spelled' below is') =
+one_refusal_of limit schema refused cs f g (faulty p other near spelled within more is) (deep q other' near' spelled' below is') =
     let same = same_condition p q (sorts (tokens cs)) spelled spelled' in
     let over : limit < depth (or_expr schema.fields p.condition) = subst (λ (r : Query). limit < depth (or_expr schema.fields r.condition)) (sym same) below in
     absurd (omega arith)
-one_refusal_of limit schema cs f g (faulty p other near spelled within more is) (faulty q other' near' spelled' within' more' is') =
+one_refusal_of limit schema refused cs f g (faulty p other near spelled within more is) (faulty q other' near' spelled' within' more' is') =
     let same = same_condition p q (sorts (tokens cs)) spelled spelled' in
-    let first : query_faults schema q (places (tokens cs)) ≡ f ∷ more = subst (λ (r : Query). query_faults schema r (places (tokens cs)) ≡ f ∷ more) same is in
+    let first : query_faults schema refused q (places (tokens cs)) ≡ f ∷ more = subst (λ (r : Query). query_faults schema refused r (places (tokens cs)) ≡ f ∷ more) same is in
     cc
 
 -- ---- the verdict, computed
 
-module _ (limit : ℕ) (schema : Schema) (cs : List ℕ) (known : first_other (tokens cs) ≡ None) (near : nests_too_far limit (sorts (tokens cs)) ≡ false) where
+module _ (limit : ℕ) (schema : Schema) (refused : List CodeAt) (cs : List ℕ) (known : first_other (tokens cs) ≡ None) (near : nests_too_far limit (sorts (tokens cs)) ≡ false) where
   faults_verdict : (q : Query) (fs : List CodeAt) → spell_query q ≡ sorts (tokens cs) → depth (or_expr schema.fields q.condition) ≤ limit
-      → query_faults schema q (places (tokens cs)) ≡ fs → IsVerdict limit schema cs (on_faults (or_expr schema.fields q.condition) fs)
-  faults_verdict q [] spelled within is =
-      record { reads = record { query = q; spelled = spelled; faultless = is; means = refl }; nests = near; deep = within }
+      → query_faults schema refused q (places (tokens cs)) ≡ fs → IsVerdict limit schema refused cs (on_faults (or_expr schema.fields q.condition) fs)
+  faults_verdict q [] spelled within is = (
+    record { reads = record { query = q; spelled = spelled; faultless = fewer schema refused q (places (tokens cs)) is; means = refl }; nests = near; deep = within },
+    refused_so limit schema refused cs q (λ f. ⊥) spelled near within (λ f more are. let none : [] ≡ f ∷ more = sym is ∙ are in absurd cc),
+  )
   faults_verdict q (f ∷ fs) spelled within is = faulty q known near spelled within fs is
 
   depth_verdict : (q : Query) (b : Bool) → spell_query q ≡ sorts (tokens cs) → nat_lt limit (depth (or_expr schema.fields q.condition)) ≡ b
-      → IsVerdict limit schema cs (on_depth b schema cs q)
+      → IsVerdict limit schema refused cs (on_depth b schema refused cs q)
   depth_verdict q true spelled is = deep q known near spelled (grind (arith, nat_tests)) refl
   depth_verdict q false spelled is =
-      faults_verdict q (query_faults schema q (places (tokens cs))) spelled (grind (arith, nat_tests)) refl
+      faults_verdict q (query_faults schema refused q (places (tokens cs))) spelled (grind (arith, nat_tests)) refl
 
-  query_verdict : (r : Result (Option Query) (List Sort)) → Ends (sorts (tokens cs)) r → IsVerdict limit schema cs (on_query limit schema cs r)
+  query_verdict : (r : Result (Option Query) (List Sort)) → Ends (sorts (tokens cs)) r → IsVerdict limit schema refused cs (on_query limit schema refused cs r)
   query_verdict _ (reads q spelled) = depth_verdict q (nat_lt limit (depth (or_expr schema.fields q.condition))) spelled refl
   query_verdict _ (stops_at_end s) = stopped (sorts (tokens cs)) [] known near s refl
   query_verdict _ (stops front rest s) =
       let count : length (sorts (tokens cs)) - length rest ≡ length front = omega (arith, ap length s.parts, length-append front rest) in
       stopped front rest known near s (ap (λ (n : ℕ). code_at 120 (token_place cs (tokens cs) n)) count)
 
-nesting_verdict : (limit : ℕ) (schema : Schema) (cs : List ℕ) (b : Bool) → first_other (tokens cs) ≡ None → nests_too_far limit (sorts (tokens cs)) ≡ b
-    → IsVerdict limit schema cs (on_nesting b limit schema cs)
-nesting_verdict limit schema cs true known is = nested known is refl
-nesting_verdict limit schema cs false known is =
-    query_verdict limit schema cs known is (finish (run Begun (sorts (tokens cs)))) (ends_so (sorts (tokens cs)))
+nesting_verdict : (limit : ℕ) (schema : Schema) (refused : List CodeAt) (cs : List ℕ) (b : Bool) → first_other (tokens cs) ≡ None → nests_too_far limit (sorts (tokens cs)) ≡ b
+    → IsVerdict limit schema refused cs (on_nesting b limit schema refused cs)
+nesting_verdict limit schema refused cs true known is = nested known is refl
+nesting_verdict limit schema refused cs false known is =
+    query_verdict limit schema refused cs known is (finish (run Begun (sorts (tokens cs)))) (ends_so (sorts (tokens cs)))
 
-other_verdict : (limit : ℕ) (schema : Schema) (cs : List ℕ) (o : Option At) → first_other (tokens cs) ≡ o → IsVerdict limit schema cs (on_other o limit schema cs)
-other_verdict limit schema cs (Some p) is = no_token p is refl
-other_verdict limit schema cs None is = nesting_verdict limit schema cs (nests_too_far limit (sorts (tokens cs))) is refl
+other_verdict : (limit : ℕ) (schema : Schema) (refused : List CodeAt) (cs : List ℕ) (o : Option At) → first_other (tokens cs) ≡ o → IsVerdict limit schema refused cs (on_other o limit schema refused cs)
+other_verdict limit schema refused cs (Some p) is = no_token p is refl
+other_verdict limit schema refused cs None is = nesting_verdict limit schema refused cs (nests_too_far limit (sorts (tokens cs))) is refl
 
-pub verdict_is : (limit : ℕ) (schema : Schema) (cs : List ℕ) → IsVerdict limit schema cs (verdict limit schema cs)
+pub verdict_is : (limit : ℕ) (schema : Schema) (refused : List CodeAt) (cs : List ℕ) → IsVerdict limit schema refused cs (verdict limit schema refused cs)
 unfolding verdict
-verdict_is limit schema cs = other_verdict limit schema cs (first_other (tokens cs)) refl
+verdict_is limit schema refused cs = other_verdict limit schema refused cs (first_other (tokens cs)) refl
 
-pub has_verdict_of : (limit : ℕ) (schema : Schema) (cs : List ℕ) → ((e : Expr) × ReadsWithin limit schema cs e) ⊎ ((f : CodeAt) × Refuses limit schema cs f)
-has_verdict_of limit schema cs = by (verdict limit schema cs) (verdict_is limit schema cs) where
-  by : (r : Result Expr CodeAt) → IsVerdict limit schema cs r → ((e : Expr) × ReadsWithin limit schema cs e) ⊎ ((f : CodeAt) × Refuses limit schema cs f)
-  by (Ok e) h = inl (e, h)
+pub has_verdict_of : (limit : ℕ) (schema : Schema) (refused : List CodeAt) (cs : List ℕ) → ((e : Expr) × ReadsWithin limit schema cs e) ⊎ ((f : CodeAt) × Refuses limit schema refused cs f)
+has_verdict_of limit schema refused cs = by (verdict limit schema refused cs) (verdict_is limit schema refused cs) where
+  by : (r : Result Expr CodeAt) → IsVerdict limit schema refused cs r → ((e : Expr) × ReadsWithin limit schema cs e) ⊎ ((f : CodeAt) × Refuses limit schema refused cs f)
+  by (Ok e) h = inl (e, h.0)
   by (Err f) h = inr (f, h)

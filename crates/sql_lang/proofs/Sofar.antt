@@ -3,9 +3,9 @@ use Rattle.std.proofs.Common.{ℕ, zero, suc, ◌≡◌, refl, sym, ◌∙◌, a
 use Rattle.std.specs.Prelude.{Option, Some, None, if◌then◌else◌}
 use Rattle.std.specs.Str.{bytes_eq}
 use Rattle.std.proofs.lemmas.Slice.Eq.{bytes_eq-Decides}
-use Rattle.sql_lang.specs.Tokens.{SELECT, FROM, WHERE, OR, AND, NOT, IS, NULL, LIKE, ESCAPE, GLOB, IN, BETWEEN, COLLATE, NOCASE, BINARY, Op, Sort, Word, Name, Text, Number, Opening, Closing, Comma, Star, Semicolon, Compares}
+use Rattle.sql_lang.specs.Tokens.{SELECT, FROM, WHERE, OR, AND, NOT, IS, NULL, LIKE, ESCAPE, GLOB, REGEXP, IN, BETWEEN, COLLATE, NOCASE, BINARY, Op, Sort, Word, Name, Text, Number, Opening, Closing, Comma, Star, Semicolon, Compares}
 use Rattle.sql_lang.specs.Grammar.{Collate, Unsaid, Literal, Right, constant, Ands, Nots, spell_collate, spell_right, spell_literal, spell_not, spell_before, spell_test, spell_or, spell_and, spell_nots, spell_head}
-use Rattle.sql_lang.specs.Machine.{Partial, Start, Named, Collating, Collated, Is, IsNot, Against, Compared, RightCollating, NamedNot, CollatedNot, Liking, Liked, Escaping, Globbing, Among, Listing, Listed, Ranging, Low, High, Complete, Closed, Level, level, negated, and_of, or_of, ands_of, ors_of, State, Begun, Selected, Starred, FromWord, Tabled, Inside, Ended, constant_of, in_collated, in_named, named, collated, collation, is, is_not, on_literal, against, on_word, on_text, on_number, on_opening, listed, first, go_on, whole, is_whole, is_joint, within, at_start, behind, behind_if, started, inside, head_on, on_table, step}
+use Rattle.sql_lang.specs.Machine.{Partial, Start, Named, Collating, Collated, Is, IsNot, Against, Compared, RightCollating, NamedNot, CollatedNot, Liking, Liked, Escaping, Globbing, Searching, Among, Listing, Listed, Ranging, Low, High, Complete, Closed, Level, level, negated, and_of, or_of, ands_of, ors_of, State, Begun, Selected, Starred, FromWord, Tabled, Inside, Ended, constant_of, in_collated, in_named, named, collated, collation, is, is_not, on_literal, against, on_word, on_text, on_number, on_opening, listed, first, go_on, whole, is_whole, is_joint, within, at_start, behind, behind_if, started, inside, head_on, on_table, step}
 
 -- ---- of a test
 
@@ -25,6 +25,7 @@ sofar_test (Liking n b) = Name n ∷ (spell_not b ++ Word LIKE ∷ [])
 sofar_test (Liked n b v) = Name n ∷ (spell_not b ++ Word LIKE ∷ Text v ∷ [])
 sofar_test (Escaping n b v) = Name n ∷ (spell_not b ++ Word LIKE ∷ Text v ∷ Word ESCAPE ∷ [])
 sofar_test (Globbing n b) = Name n ∷ (spell_not b ++ Word GLOB ∷ [])
+sofar_test (Searching n b) = Name n ∷ (spell_not b ++ Word REGEXP ∷ [])
 sofar_test (Among n c b) = Name n ∷ (spell_collate c ++ (spell_not b ++ Word IN ∷ []))
 sofar_test (Listing n c b ls) = Name n ∷ (spell_collate c ++ (spell_not b ++ Word IN ∷ Opening ∷ spell_before ls))
 sofar_test (Listed n c b ls l) = Name n ∷ (spell_collate c ++ (spell_not b ++ Word IN ∷ Opening ∷ (spell_before ls ++ spell_literal l ∷ [])))
@@ -64,6 +65,7 @@ in_collated_extends n c b t = tt
 in_named_extends : (n : List ℕ) (b : Bool) (t : Sort) → Extends (in_named n b t) (Name n ∷ (spell_not b ++ t ∷ []))
 in_named_extends n b (Word LIKE) = refl
 in_named_extends n b (Word GLOB) = refl
+in_named_extends n b (Word REGEXP) = refl
 in_named_extends n b t = in_collated_extends n Unsaid b t
 
 named_extends : (n : List ℕ) (t : Sort) → Extends (named n t) (Name n ∷ t ∷ [])
@@ -129,6 +131,11 @@ unfolding go_on
 globbing_extends n b (Text v) = refl
 globbing_extends n b t = tt
 
+searching_extends : (n : List ℕ) (b : Bool) (t : Sort) → Extends (go_on (Searching n b) t) (Name n ∷ (spell_not b ++ Word REGEXP ∷ t ∷ []))
+unfolding go_on
+searching_extends n b (Text v) = refl
+searching_extends n b t = tt
+
 among_extends : (n : List ℕ) (c : Collate) (b : Bool) (t : Sort)
     → Extends (on_opening (Listing n c b []) t) (Name n ∷ (spell_collate c ++ (spell_not b ++ Word IN ∷ t ∷ [])))
 among_extends n c b Opening = refl
@@ -184,6 +191,7 @@ go_on_extends (Liking n b) t = along (on_text (Liked n b) t) _ _ (simp append_as
 go_on_extends (Liked n b v) t = along (on_word ESCAPE (Escaping n b v) t) _ _ (simp append_assoc) (liked_extends n b v t)
 go_on_extends (Escaping n b v) t = along (go_on (Escaping n b v) t) _ _ (simp append_assoc) (escaping_extends n b v t)
 go_on_extends (Globbing n b) t = along (go_on (Globbing n b) t) _ _ (simp append_assoc) (globbing_extends n b t)
+go_on_extends (Searching n b) t = along (go_on (Searching n b) t) _ _ (simp append_assoc) (searching_extends n b t)
 go_on_extends (Among n c b) t = along (on_opening (Listing n c b []) t) _ _ (simp append_assoc) (among_extends n c b t)
 go_on_extends (Listing n c b ls) t = along (on_literal (Listed n c b ls) t) _ _ (simp append_assoc) (listing_extends n c b ls t)
 go_on_extends (Listed n c b ls l) t = along (listed n c b ls l t) _ _ (simp append_assoc) (listed_extends n c b ls l t)

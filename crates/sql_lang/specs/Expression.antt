@@ -1,7 +1,7 @@
 -- The expression of a query: columns by their places, no parentheses. Its depth.
 use Rattle.std.specs.Prelude.{ℕ, ◌+◌, max, Bool, List, [], ◌∷◌, Option, Some, None, ℤ}
 use Rattle.sql_lang.specs.Tokens.{Op, number_of}
-use Rattle.sql_lang.specs.Grammar.{Collate, Unsaid, NoCase, Binary, Literal, a_text, a_number, Right, a_name, a_literal, Leaf, constant, is_null, compares, like, glob, one_of, between, Ors, last_and, and_or, Ands, last_not, not_and, Nots, not_not, a_test, enclosed}
+use Rattle.sql_lang.specs.Grammar.{Collate, Unsaid, NoCase, Binary, Literal, a_text, a_number, Right, a_name, a_literal, Leaf, constant, is_null, compares, like, glob, regexp, one_of, between, Ors, last_and, and_or, Ands, last_not, not_and, Nots, not_not, a_test, enclosed}
 use Rattle.event_schema.specs.declared.schema.Field.{Field}
 use Rattle.sql_lang.specs.Names.{column_of}
 
@@ -14,13 +14,14 @@ pub record Side : Type 0 where
   pub operand : Operand
   pub collate : Collate
 
--- The flag of IS NULL, LIKE, GLOB, IN and BETWEEN says that the test is written with NOT.
+-- The flag of IS NULL, LIKE, GLOB, REGEXP, IN and BETWEEN says that the test is written with NOT.
 pub data SqlTest : Type 0 where
   Constant : Bool → SqlTest
   IsNull : (column : ℕ) → (negated : Bool) → SqlTest
   Compare : Side → Op → Side → SqlTest
   Like : (column : ℕ) → (negated : Bool) → (pattern : List ℕ) → (escape : Option ℕ) → SqlTest
   Glob : (column : ℕ) → (negated : Bool) → (pattern : List ℕ) → SqlTest
+  Regexp : (column : ℕ) → (negated : Bool) → (pattern : List ℕ) → SqlTest
   OneOf : Side → (negated : Bool) → List Operand → SqlTest
   Between : Side → (negated : Bool) → (low : ℤ) → (high : ℤ) → SqlTest
 
@@ -74,6 +75,7 @@ module _ (fields : List Field) where
   test_of (compares n c op x d) = Compare (named_side n c) op (record { operand = right_operand x; collate = d })
   test_of (like n b p e) = Like (number_at n) b p (escape_of e)
   test_of (glob n b p) = Glob (number_at n) b p
+  test_of (regexp n b p) = Regexp (number_at n) b p
   test_of (one_of n c b before last) = OneOf (named_side n c) b (literal_operands before last)
   test_of (between n c b low high) = Between (named_side n c) b (number_of low) (number_of high)
 
@@ -115,6 +117,7 @@ test_depth (IsNull k b) = 2
 test_depth (Compare x op y) = 1 + max (collated_depth x.collate) (collated_depth y.collate)
 test_depth (Like k b p e) = 2
 test_depth (Glob k b p) = 2
+test_depth (Regexp k b p) = 2
 test_depth (OneOf x b ys) = 1 + collated_depth x.collate
 test_depth (Between x b low high) = 1 + collated_depth x.collate
 

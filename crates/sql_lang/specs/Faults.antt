@@ -1,9 +1,10 @@
--- What is wrong with a query's names, kinds and patterns, in the order of the text.
+-- What is wrong with a query's names, kinds and patterns, in the order of the text. Which regular expressions are refused, and
+-- whether with 47 or 48, is told by a list of places.
 use Rattle.std.specs.Prelude.{ℕ, suc, ◌+◌, Bool, true, false, not, ◌&&◌, ◌||◌, ◌==◌, if◌then◌else◌, List, [], ◌∷◌, ◌++◌, length, drop, Option, Some, None}
 use Rattle.std.specs.List.{list_any}
 use Rattle.text_places.specs.Places.{At, CodeAt, code_at, code_at_if, nth}
 use Rattle.sql_lang.specs.Tokens.{Op, Eq, Ne}
-use Rattle.sql_lang.specs.Grammar.{Collate, Unsaid, NoCase, Binary, Literal, a_text, a_number, Right, a_name, a_literal, Leaf, constant, is_null, compares, like, glob, one_of, between, spell_collate, spell_not, spell_and, spell_nots, Ors, last_and, and_or, Ands, last_not, not_and, Nots, not_not, a_test, enclosed, Query}
+use Rattle.sql_lang.specs.Grammar.{Collate, Unsaid, NoCase, Binary, Literal, a_text, a_number, Right, a_name, a_literal, Leaf, constant, is_null, compares, like, glob, regexp, one_of, between, spell_collate, spell_not, spell_and, spell_nots, Ors, last_and, and_or, Ands, last_not, not_and, Nots, not_not, a_test, enclosed, Query}
 use Rattle.event_schema.specs.declared.schema.Field.{Field}
 use Rattle.event_schema.specs.declared.schema.FieldKind.{FieldKind}
 use Rattle.event_schema.specs.declared.schema.FieldKind.TheVariants as kinds
@@ -22,6 +23,13 @@ is_bad_escape e false (c ∷ cs) = is_bad_escape e (c == e) cs
 
 abbrev pub is_bad_like : ℕ → List ℕ → Bool
 is_bad_like e pattern = is_bad_escape e false pattern
+
+-- An ESCAPE that isn't one character stands at its own place, and else a bad pattern at the pattern's.
+abbrev pub like_faults : List ℕ → Option (List ℕ) → At → At → List CodeAt
+like_faults v None p q = []
+like_faults v (Some []) p q = code_at 125 q ∷ []
+like_faults v (Some (e ∷ [])) p q = code_at_if (is_bad_like e v) 125 p
+like_faults v (Some (e ∷ f ∷ es)) p q = code_at 125 q ∷ []
 
 -- a [ outside [*], [?] and [[]
 unfoldable pub is_bad_bracket : Bracket → List ℕ → Bool
@@ -93,13 +101,14 @@ module _ (fields : List Field) where
   abbrev pub is_ill_left : List ℕ → Collate → Bool
   is_ill_left n c = is_said c && whole n
 
-  -- IS NULL, LIKE and GLOB stand on columns of every kind
+  -- IS NULL, LIKE, GLOB and REGEXP stand on columns of every kind
   abbrev pub is_ill : Leaf → Bool
   is_ill (constant b) = false
   is_ill (is_null n b) = false
   is_ill (compares n c op x d) = is_ill_left n c || is_order op && not_whole n || is_ill_right n op x d
   is_ill (like n b v e) = false
   is_ill (glob n b v) = false
+  is_ill (regexp n b v) = false
   is_ill (one_of n c b ls l) = is_ill_left n c || list_any (is_ill_literal n) (ls ++ l ∷ [])
   is_ill (between n c b low high) = is_ill_left n c || not_whole n
 
@@ -107,29 +116,40 @@ module _ (fields : List Field) where
   right_faults (a_name m) p = code_at_if (unknown m) 122 p
   right_faults (a_literal l) p = []
 
-  -- An ESCAPE that isn't one character stands at its own place, and else a bad pattern at the pattern's.
-  abbrev pub like_faults : List ℕ → Option (List ℕ) → At → At → List CodeAt
-  like_faults v None p q = []
-  like_faults v (Some []) p q = code_at 125 q ∷ []
-  like_faults v (Some (e ∷ [])) p q = code_at_if (is_bad_like e v) 125 p
-  like_faults v (Some (e ∷ f ∷ es)) p q = code_at 125 q ∷ []
-
   -- at the name that a test begins with: first the name, then the test
   abbrev pub name_faults : List ℕ → Bool → At → List CodeAt
   name_faults n ill p = code_at_if (unknown n) 122 p ++ code_at_if ill 123 p
 
+-- ---- regular expressions
+
+abbrev pub same_place : At → At → Bool
+same_place p q = p.line == q.line && p.column == q.column
+
+-- the list has this place with this code
+abbrev pub is_refused : List CodeAt → ℕ → At → Bool
+is_refused refused code p = list_any (λ (r : CodeAt). r.code == code && same_place r.place p) refused
+
+-- 47 goes before 48
+abbrev pub refused_at : List CodeAt → At → List CodeAt
+refused_at refused p = code_at_if (is_refused refused 47 p) 47 p ++ code_at_if (is_refused refused 48 p) 48 p
+
+-- ---- of tests and queries
+
+module _ (fields : List Field) (refused : List CodeAt) where
   -- the faults of a test whose tokens stand at these places
   abbrev pub test_faults : Leaf → List At → List CodeAt
   test_faults (constant b) ps = []
-  test_faults (is_null n b) ps = name_faults n (is_ill (is_null n b)) (nth ps 0)
+  test_faults (is_null n b) ps = name_faults fields n (is_ill fields (is_null n b)) (nth ps 0)
   test_faults (compares n c op x d) ps =
-      name_faults n (is_ill (compares n c op x d)) (nth ps 0) ++ right_faults x (nth ps (2 + length (spell_collate c)))
+      name_faults fields n (is_ill fields (compares n c op x d)) (nth ps 0) ++ right_faults fields x (nth ps (2 + length (spell_collate c)))
   test_faults (like n b v e) ps =
-      name_faults n (is_ill (like n b v e)) (nth ps 0) ++ like_faults v e (nth ps (2 + length (spell_not b))) (nth ps (4 + length (spell_not b)))
+      name_faults fields n (is_ill fields (like n b v e)) (nth ps 0) ++ like_faults v e (nth ps (2 + length (spell_not b))) (nth ps (4 + length (spell_not b)))
   test_faults (glob n b v) ps =
-      name_faults n (is_ill (glob n b v)) (nth ps 0) ++ code_at_if (is_bad_glob v) 125 (nth ps (2 + length (spell_not b)))
-  test_faults (one_of n c b ls l) ps = name_faults n (is_ill (one_of n c b ls l)) (nth ps 0)
-  test_faults (between n c b low high) ps = name_faults n (is_ill (between n c b low high)) (nth ps 0)
+      name_faults fields n (is_ill fields (glob n b v)) (nth ps 0) ++ code_at_if (is_bad_glob v) 125 (nth ps (2 + length (spell_not b)))
+  test_faults (regexp n b v) ps =
+      name_faults fields n (is_ill fields (regexp n b v)) (nth ps 0) ++ refused_at refused (nth ps (2 + length (spell_not b)))
+  test_faults (one_of n c b ls l) ps = name_faults fields n (is_ill fields (one_of n c b ls l)) (nth ps 0)
+  test_faults (between n c b low high) ps = name_faults fields n (is_ill fields (between n c b low high)) (nth ps 0)
 
   -- of a piece whose tokens stand at these places: its parts' faults, from the left
   abbrev mutual
@@ -146,7 +166,7 @@ module _ (fields : List Field) where
     not_faults (a_test t) ps = test_faults t ps
     not_faults (enclosed o) ps = or_faults o (drop 1 ps)
 
--- of a query whose tokens stand at these places: by place, and at one place 122 before 123 before 125
-abbrev pub query_faults : Schema → Query → List At → List CodeAt
-query_faults schema q ps =
-    code_at_if (not (is_named q.table schema.table)) 122 (nth ps 3) ++ or_faults schema.fields q.condition (drop 5 ps)
+-- of a query whose tokens stand at these places: by place, and at one place in the order of 122, 123, 125, 47, 48
+abbrev pub query_faults : Schema → List CodeAt → Query → List At → List CodeAt
+query_faults schema refused q ps =
+    code_at_if (not (is_named q.table schema.table)) 122 (nth ps 3) ++ or_faults schema.fields refused q.condition (drop 5 ps)

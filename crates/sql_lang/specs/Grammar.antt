@@ -3,14 +3,14 @@
 --   query = SELECT * FROM name WHERE or [;]
 --   or    = and ( OR and )*          and = not ( AND not )*          not = NOT not | test
 --   test  = ( or ) | 0 | 1 | name IS [NOT] NULL | cname op side | name [NOT] LIKE text [ESCAPE text] | name [NOT] GLOB text
---         | cname [NOT] IN ( literal {, literal} ) | cname [NOT] BETWEEN number AND number
+--         | name [NOT] REGEXP text | cname [NOT] IN ( literal {, literal} ) | cname [NOT] BETWEEN number AND number
 --   side  = cname | literal [COLLATE NOCASE|BINARY]          cname = name [COLLATE NOCASE|BINARY]
 --
 -- A query is plain data here, with its parentheses; a text is this query where the query's spelling is the text's
 -- tokens. The tests are of SQLite's page on expressions; NOT binds tighter than AND, and AND tighter than OR.
 use Rattle.std.specs.Prelude.{ℕ, ◌≡◌, Bool, true, false, List, [], ◌∷◌, ◌++◌, codes, Option, Some, None}
 use Rattle.text_places.specs.Spelled as spelled
-use Rattle.sql_lang.specs.Tokens.{SELECT, FROM, WHERE, OR, AND, NOT, IS, NULL, LIKE, ESCAPE, GLOB, IN, BETWEEN, COLLATE, NOCASE, BINARY, Op, Sort, Word, Name, Text, Number, Opening, Closing, Comma, Star, Semicolon, Compares}
+use Rattle.sql_lang.specs.Tokens.{SELECT, FROM, WHERE, OR, AND, NOT, IS, NULL, LIKE, ESCAPE, GLOB, REGEXP, IN, BETWEEN, COLLATE, NOCASE, BINARY, Op, Sort, Word, Name, Text, Number, Opening, Closing, Comma, Star, Semicolon, Compares}
 
 -- ---- one test
 
@@ -35,6 +35,7 @@ pub data Leaf : Type 0 where
   compares : (name : List ℕ) → Collate → Op → Right → Collate → Leaf
   like : (name : List ℕ) → (negated : Bool) → (pattern : List ℕ) → (escape : Option (List ℕ)) → Leaf
   glob : (name : List ℕ) → (negated : Bool) → (pattern : List ℕ) → Leaf
+  regexp : (name : List ℕ) → (negated : Bool) → (pattern : List ℕ) → Leaf
   one_of : (name : List ℕ) → Collate → (negated : Bool) → (before : List Literal) → (last : Literal) → Leaf
   between : (name : List ℕ) → Collate → (negated : Bool) → (low : List ℕ) → (high : List ℕ) → Leaf
 
@@ -74,6 +75,7 @@ spell_test (is_null n negated) = Name n ∷ Word IS ∷ (spell_not negated ++ Wo
 spell_test (compares n c op right d) = Name n ∷ (spell_collate c ++ Compares op ∷ spell_right right ∷ spell_collate d)
 spell_test (like n negated p e) = Name n ∷ (spell_not negated ++ Word LIKE ∷ Text p ∷ spell_escape e)
 spell_test (glob n negated p) = Name n ∷ (spell_not negated ++ Word GLOB ∷ Text p ∷ [])
+spell_test (regexp n negated p) = Name n ∷ (spell_not negated ++ Word REGEXP ∷ Text p ∷ [])
 spell_test (one_of n c negated before last) =
     Name n ∷ (spell_collate c ++ (spell_not negated ++ Word IN ∷ Opening ∷ (spell_before before ++ spell_literal last ∷ Closing ∷ [])))
 spell_test (between n c negated low high) =

@@ -8,3 +8,5 @@ pub mod Machine
 pub mod Verdict
 pub mod Meaning
 pub mod ColumnTests
+pub mod Rising
+pub mod Regexps

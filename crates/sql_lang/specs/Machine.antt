@@ -1,8 +1,8 @@
 -- The reading of tokens one by one, from the left: what may be going on, and what the next token makes of it.
 use Rattle.std.specs.Prelude.{ℕ, zero, suc, ◌≡◌, Bool, true, false, ◌&&◌, if◌then◌else◌, List, [], ◌∷◌, ◌++◌, codes, Option, Some, None, Result, Ok, Err}
 use Rattle.std.specs.Str.{bytes_eq}
-use Rattle.sql_lang.specs.Tokens.{Keyword, SELECT, FROM, WHERE, OR, AND, NOT, IS, NULL, LIKE, ESCAPE, GLOB, IN, BETWEEN, COLLATE, NOCASE, BINARY, Op, Sort, Word, Name, Text, Number, Opening, Closing, Comma, Star, Semicolon, Compares}
-use Rattle.sql_lang.specs.Grammar.{Collate, Unsaid, NoCase, Binary, Literal, a_text, a_number, Right, a_name, a_literal, Leaf, constant, is_null, compares, like, glob, one_of, between, Ors, last_and, and_or, Ands, last_not, not_and, Nots, not_not, a_test, enclosed, Query, spell_query, StopsAt}
+use Rattle.sql_lang.specs.Tokens.{Keyword, SELECT, FROM, WHERE, OR, AND, NOT, IS, NULL, LIKE, ESCAPE, GLOB, REGEXP, IN, BETWEEN, COLLATE, NOCASE, BINARY, Op, Sort, Word, Name, Text, Number, Opening, Closing, Comma, Star, Semicolon, Compares}
+use Rattle.sql_lang.specs.Grammar.{Collate, Unsaid, NoCase, Binary, Literal, a_text, a_number, Right, a_name, a_literal, Leaf, constant, is_null, compares, like, glob, regexp, one_of, between, Ors, last_and, and_or, Ands, last_not, not_and, Nots, not_not, a_test, enclosed, Query, spell_query, StopsAt}
 
 -- what was read of one test
 pub data Partial : Type 0 where
@@ -21,6 +21,7 @@ pub data Partial : Type 0 where
   Liked : (name : List ℕ) → (negated : Bool) → (pattern : List ℕ) → Partial
   Escaping : (name : List ℕ) → (negated : Bool) → (pattern : List ℕ) → Partial
   Globbing : (name : List ℕ) → (negated : Bool) → Partial
+  Searching : (name : List ℕ) → (negated : Bool) → Partial
   Among : (name : List ℕ) → Collate → (negated : Bool) → Partial
   Listing : (name : List ℕ) → Collate → (negated : Bool) → (before : List Literal) → Partial
   Listed : (name : List ℕ) → Collate → (negated : Bool) → (before : List Literal) → Literal → Partial
@@ -43,6 +44,7 @@ in_collated n c negated t = None
 abbrev pub in_named : List ℕ → Bool → Sort → Option Partial
 in_named n negated (Word LIKE) = Some (Liking n negated)
 in_named n negated (Word GLOB) = Some (Globbing n negated)
+in_named n negated (Word REGEXP) = Some (Searching n negated)
 in_named n negated t = in_collated n Unsaid negated t
 
 abbrev pub named : List ℕ → Sort → Option Partial
@@ -125,6 +127,7 @@ go_on (Liking n b) t = on_text (Liked n b) t
 go_on (Liked n b v) t = on_word ESCAPE (Escaping n b v) t
 go_on (Escaping n b v) t = on_text (λ e. Complete (like n b v (Some e))) t
 go_on (Globbing n b) t = on_text (λ v. Complete (glob n b v)) t
+go_on (Searching n b) t = on_text (λ v. Complete (regexp n b v)) t
 go_on (Among n c b) t = on_opening (Listing n c b []) t
 go_on (Listing n c b ls) t = on_literal (Listed n c b ls) t
 go_on (Listed n c b ls l) t = listed n c b ls l t

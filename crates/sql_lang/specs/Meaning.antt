@@ -3,11 +3,12 @@ use Rattle.std.specs.Prelude.{ℕ, zero, suc, ◌≡◌, Bool, true, false, not,
 use Rattle.std.specs.Fmt.{signed_decimal}
 use Rattle.std.specs.Str.{bytes_eq}
 use Rattle.sig_base.specs.Folding.{fold, folded}
+use Rattle.languages.specs.Patterns.{finds}
 use Rattle.event_schema.specs.declared.value.Value.{Value}
 use Rattle.event_schema.specs.declared.value.Value.TheVariants as values
 use Rattle.sql_lang.specs.Tokens.{Op, Eq, Ne, Lt, Lte, Gt, Gte}
 use Rattle.sql_lang.specs.Grammar.{Collate, Unsaid, NoCase, Binary}
-use Rattle.sql_lang.specs.Expression.{Operand, Side, SqlTest, Constant, IsNull, Compare, Like, Glob, OneOf, Between, Expr, Or, And, Not, Test, Exprs, no_exprs, an_expr}
+use Rattle.sql_lang.specs.Expression.{Operand, Side, SqlTest, Constant, IsNull, Compare, Like, Glob, Regexp, OneOf, Between, Expr, Or, And, Not, Test, Exprs, no_exprs, an_expr}
 use Rattle.sql_lang.specs.Expression as expression
 
 -- the value of column k in a row, which has one value or none for each column, in their order
@@ -208,6 +209,7 @@ test_value (Compare x op y) row =
     compared (chosen x.collate y.collate) op (operand_value row x.operand) (operand_value row y.operand)
 test_value (Like k b pattern escape) row = negated_if b (on_text (like_fits pattern escape) (value_at row k))
 test_value (Glob k b pattern) row = negated_if b (on_text (glob_fits pattern) (value_at row k))
+test_value (Regexp k b pattern) row = negated_if b (on_text (finds pattern) (value_at row k))
 test_value (OneOf x b ys) row = negated_if b (among x.collate (operand_value row x.operand) (map (operand_value row) ys))
 test_value (Between x b low high) row = negated_if b (within x.collate (operand_value row x.operand) low high)
 

@@ -7,14 +7,15 @@ use Rattle.text_places.specs.Tokens.{sorts, places, token_place}
 use Rattle.sql_lang.specs.Grammar.{Query, spell_query, StopsAt}
 use Rattle.event_schema.specs.declared.schema.Schema.{Schema}
 use Rattle.sql_lang.specs.Expression.{Expr, or_expr, depth}
-use Rattle.sql_lang.specs.Faults.{query_faults}
+use Rattle.languages.specs.RefusedPlaces.{is_of_pattern}
+use Rattle.sql_lang.specs.Faults.{is_refused, query_faults}
 
 -- These characters are a query of this schema with this expression: their tokens spell it, its names are the schema's,
--- its operands are of fitting kinds, and its patterns are written right.
+-- its operands are of fitting kinds, and its patterns are written right. Regular expressions are taken as they are.
 pub record SqlReads (schema : Schema) (characters : List ℕ) (e : Expr) : Type 0 where
   pub query : Query
   pub spelled : spell_query query ≡ sorts (tokens characters)
-  pub faultless : query_faults schema query (places (tokens characters)) ≡ []
+  pub faultless : query_faults schema [] query (places (tokens characters)) ≡ []
   pub means : e ≡ or_expr schema.fields query.condition
 
 -- these bytes are UTF-8 characters whose tokens are a query of this schema with this expression
@@ -48,7 +49,11 @@ pub record ReadsWithin (limit : ℕ) (schema : Schema) (characters : List ℕ) (
   pub nests : nests_too_far limit (sorts (tokens characters)) ≡ false
   pub deep : depth e ≤ limit
 
--- ---- the first refusal of characters that are no query within the limit
+-- ---- the first refusal of characters that are no query within the limit, or of which a regular expression is refused
+
+-- a refusal at a place of this list, with 47 or 48
+abbrev pub IsRefusedPlace : List CodeAt → CodeAt → Type 0
+IsRefusedPlace refused f = (is_refused refused f.code f.place ≡ true) × (is_of_pattern f.code ≡ true)
 
 abbrev pub is_other : Sort → Bool
 is_other Other = true
@@ -60,18 +65,19 @@ first_other [] = None
 first_other (t ∷ ts) = if is_other t.sort then Some t.place else first_other ts
 
 -- In this order: 121, a token that is none; 124, parentheses or words NOT that nest too far; 120, the place where the
--- tokens stop being a query's; 124, an expression too deep; 122, 123 and 125, the first of the query's faults.
-pub data Refuses (limit : ℕ) (schema : Schema) (cs : List ℕ) (f : CodeAt) : Type 0 where
-  no_token : (place : At) → first_other (tokens cs) ≡ Some place → f ≡ code_at 121 place → Refuses limit schema cs f
-  nested : first_other (tokens cs) ≡ None → nests_too_far limit (sorts (tokens cs)) ≡ true → f ≡ code_at 124 origin → Refuses limit schema cs f
+-- tokens stop being a query's; 124, an expression too deep; 122, 123, 125, 47 and 48, the first of the query's faults, where
+-- these places are refused for their regular expressions.
+pub data Refuses (limit : ℕ) (schema : Schema) (refused : List CodeAt) (cs : List ℕ) (f : CodeAt) : Type 0 where
+  no_token : (place : At) → first_other (tokens cs) ≡ Some place → f ≡ code_at 121 place → Refuses limit schema refused cs f
+  nested : first_other (tokens cs) ≡ None → nests_too_far limit (sorts (tokens cs)) ≡ true → f ≡ code_at 124 origin → Refuses limit schema refused cs f
   stopped : (front rest : List Sort) → first_other (tokens cs) ≡ None → nests_too_far limit (sorts (tokens cs)) ≡ false
-      → StopsAt (sorts (tokens cs)) front rest → f ≡ code_at 120 (token_place cs (tokens cs) (length front)) → Refuses limit schema cs f
+      → StopsAt (sorts (tokens cs)) front rest → f ≡ code_at 120 (token_place cs (tokens cs) (length front)) → Refuses limit schema refused cs f
   deep : (q : Query) → first_other (tokens cs) ≡ None → nests_too_far limit (sorts (tokens cs)) ≡ false
       → spell_query q ≡ sorts (tokens cs) → limit < depth (or_expr schema.fields q.condition)
-      → f ≡ code_at 124 origin → Refuses limit schema cs f
+      → f ≡ code_at 124 origin → Refuses limit schema refused cs f
   faulty : (q : Query) → first_other (tokens cs) ≡ None → nests_too_far limit (sorts (tokens cs)) ≡ false
       → spell_query q ≡ sorts (tokens cs) → depth (or_expr schema.fields q.condition) ≤ limit
-      → (more : List CodeAt) → query_faults schema q (places (tokens cs)) ≡ f ∷ more → Refuses limit schema cs f
+      → (more : List CodeAt) → query_faults schema refused q (places (tokens cs)) ≡ f ∷ more → Refuses limit schema refused cs f
 
 -- ---- the same of bytes
 
@@ -82,6 +88,6 @@ pub record BytesRead (limit : ℕ) (schema : Schema) (bytes : List ℕ) (e : Exp
   pub reads : ReadsWithin limit schema characters e
 
 -- 1 where the bytes stop being UTF-8; else the first refusal of their characters
-pub data BytesRefused (limit : ℕ) (schema : Schema) (bytes : List ℕ) (f : CodeAt) : Type 0 where
-  no_text : (place : At) → IsBadAt bytes place → f ≡ code_at 1 place → BytesRefused limit schema bytes f
-  no_query : (characters : List ℕ) → IsText bytes characters → Refuses limit schema characters f → BytesRefused limit schema bytes f
+pub data BytesRefused (limit : ℕ) (schema : Schema) (refused : List CodeAt) (bytes : List ℕ) (f : CodeAt) : Type 0 where
+  no_text : (place : At) → IsBadAt bytes place → f ≡ code_at 1 place → BytesRefused limit schema refused bytes f
+  no_query : (characters : List ℕ) → IsText bytes characters → Refuses limit schema refused characters f → BytesRefused limit schema refused bytes f

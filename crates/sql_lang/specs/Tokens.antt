@@ -8,7 +8,6 @@ use Rattle.sig_base.specs.Folding.{folded}
 use Rattle.text_places.specs.Places.{At, origin, after}
 use Rattle.text_places.specs.Tokens as texts
 
--- REGEXP is a word of the language with which no test is built yet
 pub data Keyword : Type 0 where
   SELECT : Keyword
   FROM : Keyword
@@ -69,7 +68,7 @@ keywords =
 -- the keyword of this word in a table
 abbrev pub keyword_in : List (List ℕ × Keyword) → List ℕ → Option Keyword
 keyword_in [] w = None
-keyword_in (row ∷ rows) w = if bytes_eq row.0 w then Some row.1 else keyword_in rows w
+keyword_in (row ∷ rows) w = if bytes_eq w row.0 then Some row.1 else keyword_in rows w
 
 abbrev pub is_digit : ℕ → Bool
 is_digit c = nat_le 48 c && nat_le c 57

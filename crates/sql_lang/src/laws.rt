@@ -8,6 +8,9 @@ ghost use Rattle.sql_lang.specs.Grammar.{Query, spell_query, OneSpelling, StopsA
 ghost use Rattle.sql_lang.specs.Expression.{Expr};
 ghost use Rattle.sql_lang.specs.Machine.{Begun, Ends, run, finish};
 ghost use Rattle.sql_lang.specs.Reading.{Reads};
+ghost use Rattle.sql_lang.specs.Rising.{AreRising};
+ghost use Rattle.sql_lang.specs.Tokens.{tokens};
+ghost use Rattle.text_places.specs.Tokens.{places};
 
 /// Bytes are read as one expression at most.
 pub fn one_reading()
@@ -34,4 +37,9 @@ pub fn one_stop()
 /// A query's tokens never stop being a query's.
 pub fn no_stop_in_query()
     ensures { (q : Query) (front rest : List Sort) → StopsAt (spell_query q) front rest → ⊥ }
+{}
+
+/// No two tokens of a text begin at one place, and their places follow one another.
+pub fn places_rise()
+    ensures { (characters : List ℕ) → AreRising (places (tokens characters)) }
 {}

@@ -10,6 +10,6 @@ mod laws;
 mod meaning;
 mod verdict;
 
-pub use laws::{machine_reads, no_stop_in_query, one_reading, one_spelling, one_stop};
+pub use laws::{machine_reads, no_stop_in_query, one_reading, one_spelling, one_stop, places_rise};
 pub use meaning::{leaves_select, runs_and_characters};
 pub use verdict::{no_refused_query, one_refusal, query_or_refusal};

@@ -13,7 +13,7 @@ use Rattle.sql_layout.specs.Layout.{text_query, is_writable}
 use Rattle.sql_layout.proofs.Scanned.{query_scanned}
 use Rattle.sql_layout.proofs.Characters.{query_scalars}
 
-pub written_reads : (schema : Schema) (q : Query) → is_writable q ≡ true → ((ps : List At) → query_faults schema q ps ≡ [])
+pub written_reads : (schema : Schema) (q : Query) → is_writable q ≡ true → ((ps : List At) → query_faults schema [] q ps ≡ [])
     → Reads schema (encode_utf8_all (text_query q)) (or_expr schema.fields q.condition)
 written_reads schema q writable faultless = record {
   characters = text_query q;

@@ -22,7 +22,7 @@ whole_kind (Some kinds.Address) h = absurd cc
 
 number_faultless : (fields : List Field) (field : List ℕ) (op : Op) (z : ℤ) (ps : List At)
     → is_unknown (kind_of fields field) ≡ false → is_not_whole (kind_of fields field) ≡ false
-    → test_faults fields (compares_number field op z) ps ≡ []
+    → test_faults fields [] (compares_number field op z) ps ≡ []
 number_faultless fields field Eq z ps known not = rw (known, not) refl
 number_faultless fields field Ne z ps known not = rw (known, not) refl
 number_faultless fields field Lt z ps known not = rw (known, not) refl

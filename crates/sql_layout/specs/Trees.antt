@@ -44,7 +44,7 @@ module _ (fields : List Field) (row : List (Option Value)) where
 -- a test whose tokens have texts, and which has no faults wherever it stands
 pub record IsSound (fields : List Field) (l : Leaf) : Type 0 where
   pub writable : list_all has_text (spell_test l) ≡ true
-  pub faultless : (ps : List At) → test_faults fields l ps ≡ []
+  pub faultless : (ps : List At) → test_faults fields [] l ps ≡ []
 
 module _ (P : Leaf → Type 0) where
   abbrev mutual

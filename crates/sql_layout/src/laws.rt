@@ -20,6 +20,6 @@ pub fn spelling_is_scanned()
 /// The text of a query without faults is read as this query.
 pub fn written_is_read()
     ensures { (schema : Schema) (q : Query) → is_writable q ≡ true
-        → ((ps : List At) → query_faults schema q ps ≡ [])
+        → ((ps : List At) → query_faults schema [] q ps ≡ [])
         → Reads schema (encode_utf8_all (text_query q)) (or_expr schema.fields q.condition) }
 {}
