@@ -1,0 +1,12 @@
+pub mod Bits
+pub mod Cuts
+pub mod Encoded
+pub mod Examples
+pub mod Existing
+pub mod Fronts
+pub mod NetworkLemmas
+pub mod Quads
+pub mod ReadLemmas
+pub mod SlashLemmas
+pub mod Steps
+pub mod WrittenLemmas
