@@ -124,6 +124,7 @@ fn patterns_are_edited_and_written(rt: HostRuntime) -> Result<(), Fail> {
     let plain = pattern.plain_text(rt.alloc())?;
     assert!(rt; matches!(&plain, Some(text) if text.is("a*")));
     let same = pattern.copy()?.with_run_after()?;
+    assert!(rt; same.is_written());
     assert!(rt; same.write_sigma(rt.alloc())?.is(r"a\**"));
     let shared = SharedPattern::share(rt.alloc(), pattern)?;
     let copy = shared.copy()?;
