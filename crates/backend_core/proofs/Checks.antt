@@ -1,7 +1,7 @@
 -- The causes for which a tree isn't written, one by one.
 use Rattle.std.proofs.Common.{ℕ, ◌≡◌, ◌≤◌, ◌<◌, Bool, true, false, List, [], ◌∷◌, Option, Some, None, refl, sym, ap, ◌∙◌}
 use Rattle.std.specs.Prelude.{nat_le, if◌then◌else◌, length}
-use Rattle.std.proofs.lemmas.Bool.{leb-true, le-leb, lt-leb}
+use Rattle.std.proofs.lemmas.Bool.{leb-true, leb-false, le-leb, lt-leb}
 use Rattle.std.proofs.lemmas.Option.{none-some, same_Some}
 use Rattle.event_schema.specs.declared.schema.Schema.{Schema}
 use Rattle.sig_base.specs.Judged.{first}
@@ -41,12 +41,14 @@ passes code place told count limit l = rw (le-leb count limit l) refl
 pub fails : (code : ℕ) (place : Place) (told count limit : ℕ) → limit < count → at_most code place told count limit ≡ Some (numbered code place told limit)
 fails code place told count limit l = rw (lt-leb count limit l) refl
 
--- what refuses a number is told so
-pub told_so : (code : ℕ) (place : Place) (told count limit : ℕ) (r : Refusal) → at_most code place told count limit ≡ Some r → r ≡ numbered code place told limit
-told_so code place told count limit r = by (nat_le count limit) where
-  by : (b : Bool) → (if b then None else Some (numbered code place told limit)) ≡ Some r → r ≡ numbered code place told limit
-  by true e = absurd (none-some r e)
-  by false e = sym (same_Some (numbered code place told limit) r e)
+-- what refuses a number is told so, and the number is past the limit
+pub told_so : (code : ℕ) (place : Place) (told count limit : ℕ) (r : Refusal) → at_most code place told count limit ≡ Some r
+    → (limit < count) × (r ≡ numbered code place told limit)
+told_so code place told count limit r = by (nat_le count limit) refl where
+  by : (b : Bool) → nat_le count limit ≡ b → (if b then None else Some (numbered code place told limit)) ≡ Some r
+      → (limit < count) × (r ≡ numbered code place told limit)
+  by true is e = absurd (none-some r e)
+  by false is e = (leb-false count limit is, sym (same_Some (numbered code place told limit) r e))
 
 module _ (missing : Schema → Leaf → Option Lack) (text : Schema → Plain → List ℕ) (too_deep : Limits → Schema → Plain → Place → Option Refusal)
     (limits : Limits) (schema : Schema) (t : Plain) (place : Place) where

@@ -1,6 +1,6 @@
 -- Why a backend writes no query for a tree, and what it answers; said of its meanings: what it lacks for a leaf, its text of a
 -- tree, and how it refuses a tree that is too deep or has too many clauses.
-use Rattle.std.specs.Prelude.{ℕ, ◌≡◌, pos, nat_le, if◌then◌else◌, List, [], ◌∷◌, length, Option, Some, None, Result}
+use Rattle.std.specs.Prelude.{ℕ, ◌≡◌, ◌<◌, pos, nat_le, if◌then◌else◌, List, [], ◌∷◌, length, Option, Some, None, Result}
 use Rattle.event_schema.specs.declared.schema.Schema.{Schema}
 use Rattle.sig_base.specs.Judged.{first, Judged}
 use Rattle.sig_base.specs.declared.limits.Limits.{Limits}
@@ -21,10 +21,10 @@ numbered code place told limit = record { code = code; place = place; detail = N
 abbrev pub at_most : ℕ → Place → (told count limit : ℕ) → Option Refusal
 at_most code place told count limit = if nat_le count limit then None else Some (numbered code place told limit)
 
--- what a tree is refused with that is too deep (112) or has too many clauses (113): at the place, with a number and the limit
+-- what a tree is refused with that is too deep (112) or has too many clauses (113): at the place, with a number and the limit that it's past
 pub data IsTooDeep (place : Place) (r : Refusal) : Type 0 where
-  by_depth : (told limit : ℕ) → r ≡ numbered 112 place told limit → IsTooDeep place r
-  by_clauses : (told limit : ℕ) → r ≡ numbered 113 place told limit → IsTooDeep place r
+  by_depth : (told limit : ℕ) → limit < told → r ≡ numbered 112 place told limit → IsTooDeep place r
+  by_clauses : (told limit : ℕ) → limit < told → r ≡ numbered 113 place told limit → IsTooDeep place r
 
 module _ (missing : Schema → Leaf → Option Lack) (text : Schema → Plain → List ℕ) (too_deep : Limits → Schema → Plain → Place → Option Refusal)
     (limits : Limits) (schema : Schema) (t : Plain) (place : Place) where

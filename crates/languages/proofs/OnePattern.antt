@@ -1,15 +1,16 @@
 -- What the tests' small language answers: its bytes are one regular expression, or no text.
 use Rattle.std.proofs.Common.{ℕ, ◌≡◌, ◌⊎◌, inl, inr, Bool, true, false, List, [], ◌∷◌, ◌++◌, refl, sym, subst, ◌∙◌, append-nil, if◌then◌else◌}
-use Rattle.std.specs.Prelude.{Result, Ok, Err, IfOk, ⊤}
+use Rattle.std.specs.Prelude.{Result, Ok, Err, IfOk, ⊤, map, Some}
+use Rattle.std.proofs.lemmas.Option.{none-some}
 use Rattle.std.proofs.lemmas.Str.{IsUtf8-from_is_utf8}
 use Rattle.std.specs.Str.{is_utf8, IsUtf8}
 use Rattle.sig_base.specs.declared.refusal.Fault.{Fault}
 use Rattle.sig_base.specs.declared.refusal.Fault.TheVariants as fault
 use Rattle.sig_base.specs.declared.refusal.Place.{Place}
 use Rattle.sig_base.specs.declared.refusal.Refusal.{Refusal}
-use Rattle.sig_base.specs.Judged.{refusal}
-use Rattle.text_places.specs.Places.{origin, code_at}
-use Rattle.languages.specs.Answers.{ReadAnswers, place_of}
+use Rattle.sig_base.specs.Judged.{first, must, refusal}
+use Rattle.text_places.specs.Places.{CodeAt, origin, code_at}
+use Rattle.languages.specs.Answers.{ReadAnswers}
 use Rattle.languages.specs.Built.{SearchAnswers}
 use Rattle.languages.specs.Patterns.{is_pattern}
 use Rattle.languages.specs.RefusedPlaces.{IsCause, no_pattern, not_built, AreRefused}
@@ -30,11 +31,19 @@ not_utf8 bytes none = by (is_utf8 bytes) refl where
   by true e = absurd (none (IsUtf8-from_is_utf8 bytes e))
   by false e = e
 
+-- for each list of places, the bytes are a query or refused
+pub decided : (utf8 : Bool) (places : List CodeAt)
+    → ((utf8 ≡ true) × ((r : Refusal) → first (must 1 start utf8 ∷ map (λ p. Some (refusal p.code start)) places) ≡ Some r → ⊥))
+    ⊎ ((r : Refusal) × (first (must 1 start utf8 ∷ map (λ p. Some (refusal p.code start)) places) ≡ Some r))
+decided false places = inr (refusal 1 start, refl)
+decided true [] = inl (refl, λ r none. none-some r none)
+decided true (p ∷ places) = inr (refusal p.code start, refl)
+
 module _ (text : List ℕ) (old new : List (List ℕ)) where
   -- the answers to bytes that are this text, if they are one
   abbrev pub Small : Bool → Result Search Fault → Type 0
   Small utf8 result = ReadAnswers {Query = Search} (λ s. (utf8 ≡ true) × (s.text ≡ text)) (λ s. ⊤)
-      (λ places r. ((utf8 ≡ false) × (r.code ≡ 1)) ⊎ ((utf8 ≡ true) × (places ≡ code_at r.code (place_of r) ∷ [])))
+      (λ places r. first (must 1 start utf8 ∷ map (λ p. Some (refusal p.code start)) places) ≡ Some r)
       (if utf8 then record { place = origin; pattern = text } ∷ [] else []) old new result
 
   one : (code : ℕ) → IsCause (text ∷ []) text code → AreRefused (record { place = origin; pattern = text } ∷ []) (text ∷ []) (code_at code origin ∷ [])
@@ -47,7 +56,7 @@ module _ (text : List ℕ) (old new : List (List ℕ)) where
     answers = record {
       places = code_at 47 origin ∷ [];
       are = one 47 (no_pattern refl none);
-      first = inr (refl, refl);
+      first = refl;
       built = λ of. inl (refl, inl refl, no_pattern refl none);
       unread = λ other. absurd (not_false other);
     };
@@ -58,7 +67,7 @@ module _ (text : List ℕ) (old new : List (List ℕ)) where
     answers = record {
       places = code_at 48 origin ∷ [];
       are = one 48 (not_built refl (inl refl));
-      first = inr (refl, refl);
+      first = refl;
       built = λ of. inl (refl, inl refl, not_built refl (inl refl));
       unread = λ other. absurd (not_false other);
     };
@@ -79,7 +88,7 @@ module _ (text : List ℕ) (old new : List (List ℕ)) where
     answers = record {
       places = [];
       are = record { caused = tt; all = tt };
-      first = inl (refl, refl);
+      first = refl;
       built = λ of. absurd (not_true of);
       unread = λ of q query within. absurd (not_true query.0);
     };

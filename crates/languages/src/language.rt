@@ -1,6 +1,6 @@
 //! Query languages.
 
-ghost use Rattle.std.specs.Prelude.{◌≡◌, ◌≤◌, ◌+◌, List, ℕ, Bool, false, IsOk, OnOk, IfOk, IfErr, length};
+ghost use Rattle.std.specs.Prelude.{◌≡◌, ◌≤◌, ◌+◌, ◌⊎◌, List, ℕ, Bool, false, IsOk, OnOk, IfOk, IfErr, length};
 ghost use Rattle.event_schema.specs.declared.schema.Schema.{Schema};
 ghost use Rattle.event_schema.specs.declared.value.Value.{Value};
 ghost use Rattle.event_schema.specs.Events.{IsEvent};
@@ -72,7 +72,13 @@ pub trait Language {
         ensures err { IfErr result (λ e. (e ≡ Fault.Memory) × (asker.new ≡ asker.old)) }
         ensures free { takes_memory (plain query.now) ≡ false → IsOk result };
 
-    /// Bytes are one query at most.
+    /// Bytes are one query at most. For each list of places that are refused for their regular expressions, bytes that `read` is asked
+    /// for are a query within the limits of which nothing is refused, or they have a first refusal, and one only.
     fn law()
-        ensures { (schema : Schema) (bytes : List ℕ) (p q : Plain) → is_query schema bytes p → is_query schema bytes q → p ≡ q };
+        ensures one_query { (schema : Schema) (bytes : List ℕ) (p q : Plain) → is_query schema bytes p → is_query schema bytes q → p ≡ q }
+        ensures one_refusal { (limits : Limits) (schema : Schema) (bytes : List ℕ) (places : List CodeAt) (r s : Refusal)
+            → refuses limits schema bytes places r → refuses limits schema bytes places s → r ≡ s }
+        ensures decided { (limits : Limits) (schema : Schema) (bytes : List ℕ) (places : List CodeAt) → length bytes ≤ limits.query_bytes + 1
+            → ((q : Plain) × is_query schema bytes q × is_within limits schema bytes q × ((r : Refusal) → refuses limits schema bytes places r → ⊥))
+            ⊎ ((r : Refusal) × refuses limits schema bytes places r) };
 }

@@ -1,6 +1,6 @@
 //! Regular expressions that are built, and searches with them.
 
-ghost use Rattle.std.specs.Prelude.{◌≡◌, IfOk, IfErr};
+ghost use Rattle.std.specs.Prelude.{◌≡◌, true, IfOk, IfErr};
 ghost use Rattle.std.specs.Str.{chars};
 ghost use Rattle.languages.specs.Built.{IsBuilt, IsFinder};
 
@@ -27,16 +27,18 @@ pub struct Finder<'s> {
 }
 
 impl Search {
-    ghost use Rattle.languages.specs.Patterns.{finds};
+    ghost use Rattle.languages.specs.Patterns.{finds, is_pattern};
     ghost use Rattle.languages.specs.Built.{BuildAnswers, SearchAnswers};
 
-    /// Builds the regular expression of a text.
+    /// Builds the regular expression of a text. What is built is a pattern.
+    #[tactic(auto, using(crate::proofs::Finding::built_is_pattern))]
     pub fn build<B: Builder>(
         alloc: Global,
         builder: &mut B,
         text: Text,
     ) -> Result<Search, BuildFault>
         ensures text { IfOk result (λ search. search.text ≡ text) }
+        ensures pattern { IfOk result (λ search. is_pattern search.text ≡ true) }
         ensures refused { BuildAnswers (B.refused builder.old) (B.refused builder.new) text result }
     {
         let regex = builder.build(alloc, text.as_str())?;
@@ -51,6 +53,7 @@ impl Search {
         place: Place,
     ) -> Result<Search, Fault>
         ensures text { IfOk result (λ search. search.text ≡ text) }
+        ensures pattern { IfOk result (λ search. is_pattern search.text ≡ true) }
         ensures refused { SearchAnswers (B.refused builder.old) (B.refused builder.new) text place result }
     {
         match Search::build(alloc, builder, text) {

@@ -1,13 +1,13 @@
 //! A language for tests: the bytes are a regular expression, and events are picked whose first field has, first of its values, a
 //! text that it finds.
 
-ghost use Rattle.std.specs.Prelude.{◌≡◌, ◌⊎◌, ◌↔◌, List, ℕ, [], ◌∷◌, true, false, ⊤, Some, None, chars, if◌then◌else◌};
+ghost use Rattle.std.specs.Prelude.{◌≡◌, ◌↔◌, List, ℕ, [], ◌∷◌, map, true, ⊤, Some, chars, if◌then◌else◌};
 ghost use Rattle.std.specs.Str.{is_utf8};
 ghost use Rattle.event_schema.specs.Rows.{field_values, first_value};
 ghost use Rattle.event_schema.specs.declared.value.Value.TheVariants as values;
-ghost use Rattle.languages.specs.Answers.{place_of};
 ghost use Rattle.languages.specs.Patterns.{finds};
-ghost use Rattle.text_places.specs.Places.{origin, code_at};
+ghost use Rattle.sig_base.specs.Judged.{first, must, refusal};
+ghost use Rattle.text_places.specs.Places.{origin};
 
 use crate::{Asker, Builder, Finder, Language, Search, Selector};
 use event_schema::{Event, Schema, Value};
@@ -62,7 +62,7 @@ impl Language for Small {
 
     ghost patterns = { λ bytes. if is_utf8 bytes then record { place = origin; pattern = chars bytes } ∷ [] else [] };
 
-    ghost refuses = { λ limits schema bytes places r. ((is_utf8 bytes ≡ false) × (r.code ≡ 1)) ⊎ ((is_utf8 bytes ≡ true) × (places ≡ code_at r.code (place_of r) ∷ [])) };
+    ghost refuses = { λ limits schema bytes places r. first (must 1 (record { line = 1; column = 1 }) (is_utf8 bytes) ∷ map (λ p. Some (refusal p.code (record { line = 1; column = 1 }))) places) ≡ Some r };
 
     fn read<B: Builder>(
         alloc: Global,

@@ -1,4 +1,4 @@
-//! The same for a backend that goes by its name.
+//! Rules converted by a backend that goes by its name, and what their queries mean.
 
 ghost use Rattle.std.specs.Prelude.{Option, IfSome, option_map};
 ghost use Rattle.event_schema.specs.Schemas.{IsSchema};

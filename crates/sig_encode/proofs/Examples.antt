@@ -59,7 +59,7 @@ one_pattern : patterns_of (net 10 1 2 3 8) ≡ (Char 49 ∷ Char 48 ∷ Char 46 
 unfolding digits
 one_pattern = refl
 
--- 10.1.2.2/31 has two addresses, and neither has anything behind it
+-- 1.1.2.3/31 has the addresses 1.1.2.2 and 1.1.2.3, and neither has anything behind it
 two_patterns : patterns_of (net 1 1 2 3 31)
     ≡ (Char 49 ∷ Char 46 ∷ Char 49 ∷ Char 46 ∷ Char 50 ∷ Char 46 ∷ Char 50 ∷ [])
     ∷ (Char 49 ∷ Char 46 ∷ Char 49 ∷ Char 46 ∷ Char 50 ∷ Char 46 ∷ Char 51 ∷ []) ∷ []

@@ -5,7 +5,7 @@ use Rattle.std.specs.Prelude.{Option, Some, None, Ok, pos}
 use Rattle.std.specs.Str.{chars, is_utf8, IsUtf8, IsValidUpTo}
 use Rattle.std.proofs.lemmas.List.{take_all}
 use Rattle.std.proofs.lemmas.Str.{IsUtf8-from_is_utf8, is_utf8-from_IsUtf8}
-use Rattle.text_places.specs.Places.{IsText, IsBadAt, nth}
+use Rattle.text_places.specs.Places.{At, code_at, IsText, IsBadAt, nth}
 use Rattle.text_places.specs.Tokens.{places}
 use Rattle.sql_lang.specs.Tokens.{Eq, Ne, Lt, scan, tokens, is_number, run_sort, text_sort, unsigned, number_of}
 use Rattle.sql_lang.specs.Grammar.{Collate, Unsaid, NoCase, Binary, a_name, a_literal, a_text, a_number, constant}
@@ -16,6 +16,7 @@ use Rattle.sql_lang.specs.Reading.{opens_too_far, nots_too_many, Reads, ReadsWit
 use Rattle.sql_lang.specs.Meaning.{chosen}
 use Rattle.sql_lang.specs.ColumnTests.{text_test}
 use Rattle.sql_lang.specs.Machine.{step, go_on}
+use Rattle.sql_lang.specs.Regexps.{byte_regexps}
 use Rattle.sql_lang.specs.Verdict.{verdict, IsVerdict}
 use Rattle.sql_lang.proofs.Judged.{verdict_is}
 use Rattle.sql_lang.proofs.Examples.{schema, refused, Cases, where_text, computed, told, AreVerdicts, are_so}
@@ -199,3 +200,35 @@ pub bytes_refused : BytesRefused 1000 schema [] refused_bytes (record { code = 1
 bytes_refused =
     no_query refused_characters refused_is_text
     (subst (IsVerdict 1000 schema [] refused_characters) refusing_verdict (verdict_is 1000 schema [] refused_characters))
+
+-- ---- a regular expression behind é, without refused places, and where its place is refused
+
+abbrev regexp_characters : List ℕ
+regexp_characters = where_text (codes "\"Image\" = '" ++ 233 ∷ codes "' OR \"Image\" REGEXP '('")
+
+abbrev regexp_bytes : List ℕ
+regexp_bytes = where_text (codes "\"Image\" = '" ++ 195 ∷ 169 ∷ codes "' OR \"Image\" REGEXP '('")
+
+abbrev regexp_place : At
+regexp_place = record { line = 1; column = 62 }
+
+regexp_verdict : verdict 1000 schema (code_at 48 regexp_place ∷ []) regexp_characters ≡ refused 48 1 62
+unfolding verdict tokens scan is_number run_sort text_sort step go_on is_bad_escape is_bad_bracket opens_too_far nots_too_many
+regexp_verdict = refl
+
+regexp_is_text : IsText regexp_bytes regexp_characters
+unfolding lib.Utf8.encode
+regexp_is_text = record { scalars = refl; encoded = refl }
+
+pub regexp_bytes_refused : BytesRefused 1000 schema (code_at 48 regexp_place ∷ []) regexp_bytes (code_at 48 regexp_place)
+regexp_bytes_refused =
+    no_query regexp_characters regexp_is_text
+    (subst (IsVerdict 1000 schema (code_at 48 regexp_place ∷ []) regexp_characters) regexp_verdict (verdict_is 1000 schema (code_at 48 regexp_place ∷ []) regexp_characters))
+
+regexps_of_bytes : byte_regexps regexp_bytes ≡ record { place = regexp_place; pattern = codes "(" } ∷ []
+unfolding tokens scan is_number run_sort text_sort is_utf8 chars lib.Utf8.encode
+regexps_of_bytes = refl
+
+regexps_of_no_text : byte_regexps (bad_bytes ++ codes " REGEXP 'a'") ≡ []
+unfolding is_utf8 chars lib.Utf8.encode
+regexps_of_no_text = refl

@@ -223,8 +223,10 @@ pub verdict_is : (limit : ℕ) (schema : Schema) (refused : List CodeAt) (cs : L
 unfolding verdict
 verdict_is limit schema refused cs = other_verdict limit schema refused cs (first_other (tokens cs)) refl
 
-pub has_verdict_of : (limit : ℕ) (schema : Schema) (refused : List CodeAt) (cs : List ℕ) → ((e : Expr) × ReadsWithin limit schema cs e) ⊎ ((f : CodeAt) × Refuses limit schema refused cs f)
+pub has_verdict_of : (limit : ℕ) (schema : Schema) (refused : List CodeAt) (cs : List ℕ)
+    → ((e : Expr) × ReadsWithin limit schema cs e × ((f : CodeAt) → Refuses limit schema refused cs f → ⊥)) ⊎ ((f : CodeAt) × Refuses limit schema refused cs f)
 has_verdict_of limit schema refused cs = by (verdict limit schema refused cs) (verdict_is limit schema refused cs) where
-  by : (r : Result Expr CodeAt) → IsVerdict limit schema refused cs r → ((e : Expr) × ReadsWithin limit schema cs e) ⊎ ((f : CodeAt) × Refuses limit schema refused cs f)
-  by (Ok e) h = inl (e, h.0)
+  by : (r : Result Expr CodeAt) → IsVerdict limit schema refused cs r
+      → ((e : Expr) × ReadsWithin limit schema cs e × ((f : CodeAt) → Refuses limit schema refused cs f → ⊥)) ⊎ ((f : CodeAt) × Refuses limit schema refused cs f)
+  by (Ok e) h = inl (e, h.0, h.1)
   by (Err f) h = inr (f, h)

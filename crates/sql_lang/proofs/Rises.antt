@@ -138,3 +138,7 @@ from_scan m p (c ∷ cs) h =
 pub places_rise_of : (cs : List ℕ) → AreRising (places (tokens cs))
 unfolding tokens
 places_rise_of cs = (from_scan Outside origin cs tt).1
+
+pub not_before_itself : (p : At) → IsBefore p p → ⊥
+not_before_itself p (inl h) = absurd (omega (arith, h))
+not_before_itself p (inr h) = absurd (omega (arith, h.1))

@@ -9,10 +9,17 @@ use Rattle.sql_lang.proofs.Judged.{has_verdict_of, not_both_of, one_refusal_of}
 
 module _ (limit : ℕ) (schema : Schema) (refused : List CodeAt) (bytes : List ℕ) where
   abbrev Told : Type 0
-  Told = ((e : Expr) × BytesRead limit schema bytes e) ⊎ ((f : CodeAt) × BytesRefused limit schema refused bytes f)
+  Told = ((e : Expr) × BytesRead limit schema bytes e × ((f : CodeAt) → BytesRefused limit schema refused bytes f → ⊥)) ⊎ ((f : CodeAt) × BytesRefused limit schema refused bytes f)
 
-  of_text : (cs : List ℕ) → IsText bytes cs → ((e : Expr) × ReadsWithin limit schema cs e) ⊎ ((f : CodeAt) × Refuses limit schema refused cs f) → Told
-  of_text cs text (inl read) = inl (read.0, record { characters = cs; text = text; reads = read.1 })
+  -- bytes that are a text are refused for what the text is
+  unrefused : (cs : List ℕ) → IsText bytes cs → ((f : CodeAt) → Refuses limit schema refused cs f → ⊥) → (f : CodeAt) → BytesRefused limit schema refused bytes f → ⊥
+  unrefused cs text none f (no_text place bad is) = not_both bytes cs place text bad
+  unrefused cs text none f (no_query ds other why) =
+      none f (subst (λ (es : List ℕ). Refuses limit schema refused es f) (one_text bytes ds cs other text) why)
+
+  of_text : (cs : List ℕ) → IsText bytes cs
+      → ((e : Expr) × ReadsWithin limit schema cs e × ((f : CodeAt) → Refuses limit schema refused cs f → ⊥)) ⊎ ((f : CodeAt) × Refuses limit schema refused cs f) → Told
+  of_text cs text (inl read) = inl (read.0, record { characters = cs; text = text; reads = read.1 }, unrefused cs text read.2)
   of_text cs text (inr why) = inr (why.0, no_query cs text why.1)
 
   of_bytes : ((cs : List ℕ) × IsText bytes cs) ⊎ ((place : At) × IsBadAt bytes place) → Told

@@ -3,13 +3,13 @@
 
 ghost use Rattle.std.specs.Prelude.{◌≡◌, ℕ, List};
 ghost use Rattle.event_schema.specs.declared.schema.Schema.{Schema};
-ghost use Rattle.sql_lang.specs.Tokens.{Sort};
+ghost use Rattle.sql_lang.specs.Tokens.{Sort, tokens};
 ghost use Rattle.sql_lang.specs.Grammar.{Query, spell_query, OneSpelling, StopsAt};
 ghost use Rattle.sql_lang.specs.Expression.{Expr};
 ghost use Rattle.sql_lang.specs.Machine.{Begun, Ends, run, finish};
 ghost use Rattle.sql_lang.specs.Reading.{Reads};
-ghost use Rattle.sql_lang.specs.Rising.{AreRising};
-ghost use Rattle.sql_lang.specs.Tokens.{tokens};
+ghost use Rattle.sql_lang.specs.Rising.{IsBefore, AreRising};
+ghost use Rattle.text_places.specs.Places.{At};
 ghost use Rattle.text_places.specs.Tokens.{places};
 
 /// Bytes are read as one expression at most.
@@ -41,5 +41,6 @@ pub fn no_stop_in_query()
 
 /// No two tokens of a text begin at one place, and their places follow one another.
 pub fn places_rise()
-    ensures { (characters : List ℕ) → AreRising (places (tokens characters)) }
+    ensures rising { (characters : List ℕ) → AreRising (places (tokens characters)) }
+    ensures apart { (place : At) → IsBefore place place → ⊥ }
 {}

@@ -1,5 +1,5 @@
-//! Laws of what a text and bytes are under a limit of depth: one query, or one first refusal, where these places are refused for
-//! their regular expressions.
+//! Laws of what a text and bytes are under a limit of depth, where some places are refused for their regular expressions: one query
+//! of which nothing is refused, or one first refusal.
 
 ghost use Rattle.std.specs.Prelude.{◌≡◌, ◌⊎◌, ℕ, List};
 ghost use Rattle.event_schema.specs.declared.schema.Schema.{Schema};
@@ -8,14 +8,15 @@ ghost use Rattle.text_places.specs.Places.{CodeAt};
 ghost use Rattle.sql_lang.specs.Verdict.{verdict, IsVerdict};
 ghost use Rattle.sql_lang.specs.Reading.{ReadsWithin, IsRefusedPlace, Refuses, BytesRead, BytesRefused};
 
-/// A text is a query within the limit, or it is refused; so are bytes. The verdict that is computed by
+/// A text is a query within the limit of which nothing is refused, or it is refused; so are bytes. The verdict that is computed by
 /// reading token by token is its own.
 pub fn query_or_refusal()
     ensures characters { (limit : ℕ) (schema : Schema) (refused : List CodeAt) (characters : List ℕ)
-        → ((e : Expr) × ReadsWithin limit schema characters e)
+        → ((e : Expr) × ReadsWithin limit schema characters e × ((f : CodeAt) → Refuses limit schema refused characters f → ⊥))
         ⊎ ((f : CodeAt) × Refuses limit schema refused characters f) }
     ensures bytes { (limit : ℕ) (schema : Schema) (refused : List CodeAt) (bytes : List ℕ)
-        → ((e : Expr) × BytesRead limit schema bytes e) ⊎ ((f : CodeAt) × BytesRefused limit schema refused bytes f) }
+        → ((e : Expr) × BytesRead limit schema bytes e × ((f : CodeAt) → BytesRefused limit schema refused bytes f → ⊥))
+        ⊎ ((f : CodeAt) × BytesRefused limit schema refused bytes f) }
     ensures computed { (limit : ℕ) (schema : Schema) (refused : List CodeAt) (characters : List ℕ)
         → IsVerdict limit schema refused characters (verdict limit schema refused characters) }
 {}

@@ -1,6 +1,7 @@
 -- From the writer's clauses, one by one, to what the backend answers and what its texts mean.
-use Rattle.std.proofs.Common.{ℕ, ◌≡◌, ◌≤◌, ◌<◌, List, [], ◌∷◌, Option, Some, None, sym, subst, ap, ◌∙◌, refl, inl, inr}
+use Rattle.std.proofs.Common.{ℕ, ◌≡◌, ◌≤◌, ◌<◌, List, [], ◌∷◌, Option, Some, None, sym, subst, ap, ◌∙◌, refl, inl, inr, arith}
 use Rattle.std.specs.Prelude.{length, min, ◌^◌, ◌-◌, Result, Ok, Err, IfOk, IfErr, OnOk, encode_utf8_all}
+use Rattle.std.proofs.Math.Nat.{le-min}
 use Rattle.event_schema.specs.declared.schema.Schema.{Schema}
 use Rattle.sig_base.specs.Judged.{first}
 use Rattle.sig_base.specs.declared.limits.Limits.{Limits}
@@ -25,6 +26,9 @@ use Rattle.sqlite_writer.specs.Refused.{IsRefused, IsUnwritten, deep_refusal}
 
 abbrev missing : Schema → Leaf → Option Lack
 missing schema l = sqlite_lacks schema.fields l
+
+below_min : (m a b : ℕ) → m < a → m < b → m < min a b
+below_min m a b first second = le-min first second
 
 module _ (limits : Limits) (schema : Schema) (t : Plain) (place : Place) where
   abbrev lack : Option Refusal
@@ -70,7 +74,9 @@ module _ (limits : Limits) (schema : Schema) (t : Plain) (place : Place) where
 
   -- a tree that is too deep is told with its depth
   pub too_deep_is : (r : Refusal) → deep_refusal limits schema t place ≡ Some r → IsTooDeep place r
-  too_deep_is r e = by_depth (min deep (2 ^ 64 - 1)) limits.sql_depth (told_so 112 place (min deep (2 ^ 64 - 1)) deep limits.sql_depth r e)
+  too_deep_is r e =
+      let so = told_so 112 place (min deep (2 ^ 64 - 1)) deep limits.sql_depth r e in
+      by_depth (min deep (2 ^ 64 - 1)) limits.sql_depth (below_min limits.sql_depth deep (2 ^ 64 - 1) so.0 (omega (arith, limits.sql_depth_in.1))) so.1
 
   -- a text of which all is known that bytes have to say means its tree
   pub means : IsQueryOf limits.sql_depth schema t (query_bytes schema t) → long ≤ limits.query_bytes
@@ -79,7 +85,7 @@ module _ (limits : Limits) (schema : Schema) (t : Plain) (place : Place) where
     query = is.expr;
     reads = record { characters = is.characters; scalars = is.scalars; encoded = is.encoded; reads = is.reads.reads };
     within = record {
-      short = short;
+      short = omega (arith, short);
       reads = record { characters = is.characters; text = record { scalars = is.scalars; encoded = is.encoded }; reads = is.reads };
     };
     only = is.only;

@@ -12,7 +12,8 @@ ghost use Rattle.sqlite_writer.specs.Pieces.{head_text, written_text};
 ghost use Rattle.sqlite_writer.specs.Sizes.{bytes_in};
 ghost use Rattle.sqlite_writer.specs.Joined.{guarded as guarded_tree};
 ghost use Rattle.sqlite_writer.specs.Lacking.{sqlite_lacks};
-ghost use Rattle.sqlite_writer.specs.Refused.{refusal, IsRefused, IsUnwritten};
+ghost use Rattle.backend_core.specs.Writing.{numbered};
+ghost use Rattle.sqlite_writer.specs.Refused.{IsRefused, IsUnwritten};
 ghost use Rattle.sqlite_writer.specs.Schemas.{IsFoundSchema};
 ghost use Rattle.sqlite_writer.specs.Shallow.{ListsAreShallow};
 
@@ -85,7 +86,7 @@ fn query_depth(written: &Tree) -> usize
 }
 
 fn refused(code: Code, place: Place, count: usize, limit: usize) -> Fault
-    ensures { result ≡ Fault.Refused (refusal code place count limit) }
+    ensures { result ≡ Fault.Refused (numbered code place count limit) }
 {
     Fault::Refused(Refusal {
         code,
