@@ -1,6 +1,6 @@
 use Rattle.std.specs.Prelude.{option_map}
 use Rattle.yaml_tree.specs.View.{node_view}
-use Rattle.rule_queries.proofs.Named.{by_name}
+use Rattle.rule_queries.proofs.ByName.{by_name}
 use Rattle.rule_queries.proofs.named.convert_node.Goals as goal
 
 pub returns : goal.returns
