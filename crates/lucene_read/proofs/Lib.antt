@@ -2,3 +2,6 @@ mod Walked
 mod Decimals
 mod Judged
 mod Nested
+mod Digits
+mod Bases
+mod Levels

@@ -3,11 +3,16 @@
 
 mod judging;
 mod mode;
+mod leaves;
+mod naming;
+mod numbers;
+mod partial;
 mod runs;
 mod scanning;
 mod sorting;
 #[cfg(test)]
 mod tests;
+mod stepping;
 mod token;
 mod tokens;
 

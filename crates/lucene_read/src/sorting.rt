@@ -50,7 +50,7 @@ fn has_wildcard(run: &Run) -> bool
     run.as_slice().iter().any(|c| is_wildcard(c))
 }
 
-fn text_of(alloc: Global, run: &Run) -> Result<Text, Fault>
+pub(crate) fn text_of(alloc: Global, run: &Run) -> Result<Text, Fault>
     ensures ok { IfOk result (λ text. text ≡ map tokens.character run.now) }
     ensures err { IfErr result (λ e. e ≡ Fault.Memory) }
 {
@@ -103,7 +103,7 @@ fn is_positive(text: &str) -> bool
 }
 
 #[tactic(auto, unfolding(lucene_lang::specs::Tokens::is_decimal), using(crate::proofs::Decimals::decimal_is))]
-fn is_decimal(text: &Text) -> bool
+pub(crate) fn is_decimal(text: &Text) -> bool
     ensures { result ≡ tokens.is_decimal text.now }
 {
     text.is("0") || is_positive(unsigned(text.as_str()))
