@@ -5,3 +5,4 @@ mod Nested
 mod Digits
 mod Bases
 mod Levels
+mod Stepped

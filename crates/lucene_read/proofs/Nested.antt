@@ -1,5 +1,5 @@
 -- Parentheses, counted from the left.
-use Rattle.std.proofs.Common.{ℕ, suc, ◌≡◌, ◌+◌, ◌<◌, ◌≤◌, refl, sym, ◌∙◌, ap, Bool, true, false, List, ◌∷◌, length, drop, get_or, arith}
+use Rattle.std.proofs.Common.{ℕ, suc, ◌≡◌, ◌+◌, ◌-◌, ◌<◌, ◌≤◌, refl, sym, ◌∙◌, ap, Bool, true, false, List, ◌∷◌, length, drop, get_or, arith}
 use Rattle.std.specs.Prelude.{◌||◌, if◌then◌else◌, nat_lt}
 use Rattle.std.proofs.lemmas.Bool.{lt-ltb, le-ltb}
 use Rattle.std.proofs.lemmas.List.{drop_more}
@@ -57,13 +57,13 @@ module _ (limit opened closed : ℕ) (ts : List Token) (i : ℕ) (t : Token) (de
       else if is_closing (sort_view t.sort) then opens_too_far limit opened (suc closed) (sorts (tokens_view (drop (i + 1) ts)))
       else opens_too_far limit opened closed (sorts (tokens_view (drop (i + 1) ts)))) (sym so) ∙ next_is
 
-  pub far_here : (b : Bool) (more : ℕ) → b ≡ is_opening (sort_view t.sort) → b ≡ true → more ≡ opened + 1 → closed + limit < more
+  pub far_here : (b : Bool) (more : ℕ) → b ≡ is_opening (sort_view t.sort) → b ≡ true → more ≡ opened + 1 → limit < more - closed
       → true ≡ opens_too_far limit 0 0 (sorts (tokens_view ts))
   far_here b more test so counted far =
       ap (λ (c : Bool). c || opens_too_far limit (suc opened) closed (sorts (tokens_view (drop (i + 1) ts)))) (sym (lt-ltb (closed + limit) (suc opened) (omega (arith, counted, far))))
       ∙ at_opening (sym test ∙ so)
 
-  pub opened_more : (b : Bool) (more : ℕ) → b ≡ is_opening (sort_view t.sort) → b ≡ true → more ≡ opened + 1 → more ≤ closed + limit
+  pub opened_more : (b : Bool) (more : ℕ) → b ≡ is_opening (sort_view t.sort) → b ≡ true → more ≡ opened + 1 → more - closed ≤ limit
       → Decides limit more closed ts (i + 1)
   opened_more b more test so counted near =
       ap (λ (n : ℕ). opens_too_far limit n closed (sorts (tokens_view (drop (i + 1) ts)))) (omega (arith, counted))

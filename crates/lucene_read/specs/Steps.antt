@@ -120,12 +120,12 @@ pub record Level : Type 0 where
 abbrev pub level : List Part → Option Word → Bool → Level
 level cs w negated = record { clauses = cs; word = w; negated = negated }
 
--- the first word that differs from its group's, and the first leaf that is ill
+-- the refusal of the first word that differs from its group's, and that of the first leaf that is ill
 pub record Wrong : Type 0 where
-  pub mixed : Option At
+  pub mixed : Option CodeAt
   pub ill : Option CodeAt
 
-abbrev pub wrong : Option At → Option CodeAt → Wrong
+abbrev pub wrong : Option CodeAt → Option CodeAt → Wrong
 wrong m i = record { mixed = m; ill = i }
 
 -- the nearest of the outer levels is the first here
@@ -145,15 +145,15 @@ abbrev pub first_of : {A : Type 0} → Option A → Option A → Option A
 first_of None b = b
 first_of (Some a) b = Some a
 
-abbrev pub place_if_so : Bool → At → Option At
-place_if_so true p = Some p
-place_if_so false p = None
+abbrev pub mixed_at : Bool → At → Option CodeAt
+mixed_at true p = Some (code_at 134 p)
+mixed_at false p = None
 
 abbrev pub with_ill : Wrong → Option CodeAt → Wrong
 with_ill w i = wrong w.mixed (first_of w.ill i)
 
 abbrev pub with_mixed : Wrong → Bool → At → Wrong
-with_mixed w b p = wrong (first_of w.mixed (place_if_so b p)) w.ill
+with_mixed w b p = wrong (first_of w.mixed (mixed_at b p)) w.ill
 
 abbrev pub reading_if : Level → List Level → Wrong → Option Partial → Option State
 reading_if l ls w None = None
@@ -207,8 +207,8 @@ abbrev pub refused : ℕ → At → Result Group CodeAt
 refused c p = Err (code_at c p)
 
 -- 134 before 132 and 133
-abbrev pub judged : Option At → Option CodeAt → Group → Result Group CodeAt
-judged (Some p) i g = refused 134 p
+abbrev pub judged : Option CodeAt → Option CodeAt → Group → Result Group CodeAt
+judged (Some f) i g = Err f
 judged None (Some f) g = Err f
 judged None None g = Ok g
 

@@ -1,13 +1,8 @@
 -- Tokens and modes of the scanner as the definitions have them.
-use Rattle.std.specs.Prelude.{◌≡◌, Bool, true, false, List, [], ◌∷◌, ◌++◌, map, Option, Some, None, Result, Ok, Err}
+use Rattle.std.specs.Prelude.{Bool, true, false, List, [], ◌∷◌, ◌++◌, map, Option, Some, None}
 use Rattle.sig_base.specs.declared.refusal.Place.{Place}
-use Rattle.sig_base.specs.declared.refusal.Detail.TheVariants as details
-use Rattle.sig_base.specs.declared.refusal.Fault.{Fault}
-use Rattle.sig_base.specs.declared.refusal.Fault.TheVariants.{Memory, Refused}
 use Rattle.text_places.specs.Places.{At, CodeAt, code_at}
-use Rattle.lucene_lang.specs.declared.query.Group.{Group}
-use Rattle.lucene_lang.specs.Query as query
-use Rattle.lucene_lang.specs.View.{atom_view, group_view, parts_view}
+use Rattle.lucene_lang.specs.View.{atom_view, parts_view}
 use Rattle.lucene_lang.specs.Tokens as tokens
 use Rattle.lucene_read.specs.declared.token.Sort.{Sort}
 use Rattle.lucene_read.specs.declared.token.Sort.TheVariants as sorts
@@ -127,8 +122,12 @@ abbrev pub levels_view : List Level → List steps.Level
 levels_view [] = []
 levels_view (l ∷ ls) = levels_view ls ++ level_view l ∷ []
 
+abbrev pub mixed_if : Option Place → Option CodeAt
+mixed_if None = None
+mixed_if (Some p) = Some (code_at 134 (place_view p))
+
 abbrev pub wrong_view : Wrong → steps.Wrong
-wrong_view w = steps.wrong (place_if w.mixed) (ill_if w.ill)
+wrong_view w = steps.wrong (mixed_if w.mixed) (ill_if w.ill)
 
 abbrev pub state_view : State → steps.State
 state_view s = steps.state (now_view s.now) (level_view s.level) (levels_view s.outer.items) (wrong_view s.wrong)
@@ -136,11 +135,3 @@ state_view s = steps.state (now_view s.now) (level_view s.level) (levels_view s.
 abbrev pub state_if : Option State → Option steps.State
 state_if None = None
 state_if (Some s) = Some (state_view s)
-
--- ---- what a reader answers
-
--- a query, or a refusal without a detail; want of memory is free
-abbrev pub Answers : Result Group Fault → Result query.Group CodeAt → Type 0
-Answers (Ok g) verdict = verdict ≡ Ok (group_view g)
-Answers (Err Memory) verdict = Unit {0}
-Answers (Err (Refused r)) verdict = (verdict ≡ Err (code_at r.code (place_view r.place))) × (r.detail ≡ details.None)

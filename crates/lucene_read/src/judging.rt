@@ -152,15 +152,15 @@ fn is_closing(sort: &Sort) -> bool
 
 /// Whether up to some token the signs `(` are more than the signs `)` by more than the limit.
 #[tactic(auto, using(crate::proofs::Nested::far_here, crate::proofs::Nested::opened_more, crate::proofs::Nested::closed_more, crate::proofs::Nested::other_more, crate::proofs::Nested::far_end))]
-pub fn opens_too_far(limit: u32, tokens: &[Token]) -> bool
+pub fn opens_too_far(limit: usize, tokens: &[Token]) -> bool
     ensures { result ≡ reading.opens_too_far limit 0 0 (sorts (tokens_view tokens.now)) }
 {
-    let mut opened: u64 = 0;
-    let mut closed: u64 = 0;
+    let mut opened: usize = 0;
+    let mut closed: usize = 0;
     for token in tokens {
         if is_opening(&token.sort) {
             opened += 1;
-            if closed + u64::from(limit) < opened {
+            if limit < opened.saturating_sub(closed) {
                 return true;
             }
             continue;

@@ -7,6 +7,8 @@ mod leaves;
 mod naming;
 mod numbers;
 mod partial;
+mod places;
+mod query;
 mod runs;
 mod scanning;
 mod sorting;

@@ -1,12 +1,12 @@
 //! The tokens of a text, character by character.
 
-ghost use Rattle.std.specs.Prelude.{◌≡◌, ◌<◌, ◌^◌, ◌-◌, length, ◌++◌, ◌∷◌, [], IfOk, IfErr, OnOk};
+ghost use Rattle.std.specs.Prelude.{◌≡◌, ◌<◌, ◌^◌, length, ◌++◌, ◌∷◌, [], IfOk, IfErr, OnOk};
 ghost use Rattle.std.specs.Str.{chars};
-ghost use Rattle.text_places.specs.Places.{after};
 ghost use Rattle.lucene_lang.specs.Tokens as specs;
 ghost use Rattle.lucene_read.specs.View.{sign_view, place_view, tokens_view, mode_view};
 
 use crate::mode::Mode;
+use crate::places::after;
 use crate::runs::Run;
 use crate::sorting::run_sort;
 use crate::token::Sort;
@@ -187,24 +187,6 @@ fn last(alloc: Global, tokens: &mut Tokens, mode: Mode) -> Result<(), Fault>
             tokens.push(Sort::Unclosed, backslash)
         }
         Mode::InPhrase(_, at) | Mode::EscapedInPhrase(_, at) => tokens.push(Sort::Unclosed, at),
-    }
-}
-
-/// The place after a character.
-fn after(place: Place, c: char) -> Place
-    requires line { place.line < 2 ^ 32 - 1 }
-    requires column { place.column < 2 ^ 32 - 1 }
-    ensures { place_view result ≡ after (place_view place) c }
-{
-    if c == '\n' {
-        return Place {
-            line: place.line + 1,
-            column: 1,
-        };
-    }
-    Place {
-        line: place.line,
-        column: place.column + 1,
     }
 }
 

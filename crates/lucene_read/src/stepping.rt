@@ -2,10 +2,11 @@
 
 ghost use Rattle.std.specs.Prelude.{◌≡◌, ◌<◌, ◌^◌, ◌∷◌, [], false, length, None, IfOk, IfErr};
 ghost use Rattle.lucene_lang.specs.Faults as faults;
+ghost use Rattle.lucene_lang.specs.Query.{OfGroup};
 ghost use Rattle.lucene_lang.specs.View.{atom_view, group_view};
 ghost use Rattle.lucene_read.specs.Steps as steps;
 ghost use Rattle.lucene_read.specs.View as view;
-ghost use Rattle.lucene_read.specs.View.{sort_view, place_view, place_if, partial_if, next_if, now_view, level_view, levels_view, wrong_view, state_if, state_view, token_view};
+ghost use Rattle.lucene_read.specs.View.{sort_view, place_view, partial_if, next_if, now_view, level_view, levels_view, wrong_view, state_if, state_view, token_view};
 
 use crate::leaves::{first, go_on};
 use crate::partial::{Ill, Level, Next, Now, Partial, State, Wrong};
@@ -36,7 +37,7 @@ fn first_ill(before: Option<Ill>, ill: Option<Ill>) -> Option<Ill>
 }
 
 fn first_mixed(before: Option<Place>, mixed: bool, place: Place) -> Option<Place>
-    ensures { place_if result ≡ steps.first_of (place_if before) (steps.place_if_so mixed (place_view place)) }
+    ensures { view.mixed_if result ≡ steps.first_of (view.mixed_if before) (steps.mixed_at mixed (place_view place)) }
 {
     if let Some(before) = before {
         return Some(before);
@@ -204,7 +205,12 @@ fn at_start(
     }
 }
 
-#[tactic(auto, using(crate::proofs::Levels::levels_more))]
+fn group_atom(group: Group) -> Atom
+    ensures { atom_view result ≡ OfGroup (group_view group) }
+{
+    Atom::Group(group)
+}
+
 fn close(group: Group, outer: Vec<Level>, wrong: Wrong) -> Option<State>
     ensures { state_if result ≡ steps.close (group_view group) (levels_view outer.items) (wrong_view wrong) }
 {
@@ -213,7 +219,7 @@ fn close(group: Group, outer: Vec<Level>, wrong: Wrong) -> Option<State>
         return None;
     };
     Some(State {
-        now: Now::Whole(Atom::Group(group)),
+        now: Now::Whole(group_atom(group)),
         level,
         outer,
         wrong,

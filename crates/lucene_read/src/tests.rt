@@ -138,7 +138,7 @@ fn first_token_that_is_left_out(rt: HostRuntime) -> Result<(), Fail> {
     Ok(())
 }
 
-fn nests(alloc: Global, limit: u32, text: &str) -> Result<bool, Fail> {
+fn nests(alloc: Global, limit: usize, text: &str) -> Result<bool, Fail> {
     if text.len() >= 1000 {
         return Ok(false);
     }
