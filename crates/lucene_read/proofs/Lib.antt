@@ -6,3 +6,4 @@ mod Digits
 mod Bases
 mod Levels
 mod Stepped
+mod Faulty
