@@ -7,3 +7,4 @@ mod Bases
 mod Levels
 mod Stepped
 mod Faulty
+mod Kept
