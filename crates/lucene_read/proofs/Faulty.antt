@@ -41,7 +41,7 @@ behind_sign : {A : Type 0} (ps : List A) (xs : List Sort) (y : Sort) (ys : List 
 behind_sign ps xs y ys = dropped (suc (length xs)) (length ys) ps ∙ same_drop ps (suc (length xs) + length ys) (length (xs ++ y ∷ ys)) (omega (arith, length-append xs (y ∷ ys)))
 
 -- the word of the clauses before, and the first one
-pub word_behind : Option Word → List Before → Option Word
+abbrev pub word_behind : Option Word → List Before → Option Word
 word_behind v [] = v
 word_behind v (b ∷ bs) = word_behind (Some (first_word v b.word)) bs
 
@@ -100,7 +100,6 @@ module _ (group : Option Word → Group → List At → List CodeAt) (clause : C
 
   before_more : (v : Option Word) (bs : List Before) (c : Clause) (w : Word) (ps : List At) → before_faults v (bs ++ before c w ∷ []) ps
       ≡ before_faults v bs ps ++ (clause c (drop (length (sofar_before bs)) ps) ++ word (word_behind v bs) w (nth (drop (length (sofar_before bs)) ps) (length (spell_clause c))))
-  unfolding word_behind
   before_more v [] c w ps = ap (λ (fs : List CodeAt). clause c ps ++ fs) (append-nil (word v w (nth ps (length (spell_clause c)))))
   before_more v (b ∷ bs) c w ps =
       let n = length (spell_clause b.clause) in

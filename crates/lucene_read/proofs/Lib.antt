@@ -8,3 +8,4 @@ mod Levels
 mod Stepped
 mod Faulty
 mod Kept
+mod Told

@@ -1,3 +1,4 @@
+use Rattle.lucene_read.proofs.Told.{read_is}
 use Rattle.lucene_read.proofs.Kept.{ranged_is}
 use Rattle.lucene_read.proofs.Faulty.{whole_faults}
 use Rattle.std.proofs.Common.{◌∙◌, ap}
