@@ -9,3 +9,4 @@ mod Stepped
 mod Faulty
 mod Kept
 mod Told
+mod Verdicts

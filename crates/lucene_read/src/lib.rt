@@ -20,6 +20,7 @@ mod tokens;
 
 pub use judging::{first_outside, opens_too_far};
 pub use mode::Mode;
+pub use query::read_query;
 pub use runs::Run;
 pub use scanning::scan;
 pub use token::{Sort, Token};

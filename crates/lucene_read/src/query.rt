@@ -108,3 +108,36 @@ fn read_text(alloc: Global, limit: usize, schema: &Schema, text: &str) -> Result
         place_behind(text),
     )
 }
+
+/// Bytes that are a text, as one.
+fn as_text(bytes: &[u8]) -> &str
+    requires { IsUtf8 bytes.now }
+    ensures { result.now ≡ bytes.now }
+{
+    std::str::from_utf8(bytes).unwrap()
+}
+
+/// The query that these bytes are under this schema, after Lucene's classic query syntax, in as many steps as there are
+/// bytes, each over the schema's fields. Refuses 1 at the first byte that is no UTF-8, and else the first of these: 131, a
+/// token that is left out of the language; 135, more open parentheses than `lucene_depth`; 130, where the text stops being
+/// a query; 134, a group with both words; 132 and 133, a name or a kind that isn't the schema's.
+pub fn read_query(
+    alloc: Global,
+    limits: &Limits,
+    schema: &Schema,
+    bytes: &[u8],
+) -> Result<Group, Fault>
+    requires few { length schema.now.fields < 2 ^ 32 }
+    requires short { length bytes.now ≤ limits.now.query_bytes + 1 }
+    ensures ok { IfOk result (λ g. BytesRead limits.now.lucene_depth schema.now bytes.now (group_view g)) }
+    ensures refused { IfErr result (λ e. IfRefused e (BytesRefused limits.now.lucene_depth schema.now bytes.now)) }
+{
+    lucene_lang::query_or_refusal();
+    match std::str::from_utf8(bytes) {
+        Ok(text) => read_text(alloc, limits.lucene_depth, schema, text),
+        Err(bad) => {
+            let (good, _) = bytes.split_at(bad.valid_up_to());
+            Err(refused(Code::NOT_UTF8, place_behind(as_text(good))))
+        }
+    }
+}

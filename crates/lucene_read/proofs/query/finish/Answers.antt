@@ -1,6 +1,3 @@
-use Rattle.lucene_read.proofs.Told.{read_is}
-use Rattle.lucene_read.proofs.Kept.{ranged_is}
-use Rattle.lucene_read.proofs.Faulty.{whole_faults}
 use Rattle.std.proofs.Common.{◌∙◌, ap}
 use Rattle.lucene_lang.specs.View.{atom_view}
 use Rattle.lucene_read.specs.declared.partial.Now.{Now}
