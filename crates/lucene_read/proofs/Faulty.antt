@@ -49,11 +49,10 @@ module _ (group : Option Word → Group → List At → List CodeAt) (clause : C
     (word : Option Word → Word → At → List CodeAt)
     (last_is : (v : Option Word) (c : Clause) (ps : List At) → group v (last c) ps ≡ clause c ps)
     (joined_is : (v : Option Word) (c : Clause) (w : Word) (g : Group) (ps : List At) → group v (joined c w g) ps
-        ≡ clause c ps ++ (word v w (nth ps (length (spell_clause c))) ++ group (Some (first_word v w)) g (drop (suc (length (spell_clause c))) ps)))
+    ≡ clause c ps ++ (word v w (nth ps (length (spell_clause c))) ++ group (Some (first_word v w)) g (drop (suc (length (spell_clause c))) ps)))
     (asked_is : (a : Atom) (ps : List At) → clause (asked a) ps ≡ atom a ps)
     (forbidden_is : (a : Atom) (ps : List At) → clause (forbidden a) ps ≡ atom a (drop 1 ps))
     (enclosed_is : (g : Group) (ps : List At) → atom (enclosed g) ps ≡ group None g (drop 1 ps)) where
-
   -- of the clauses before, each with the word behind it
   abbrev pub before_faults : Option Word → List Before → List At → List CodeAt
   before_faults v [] ps = []
@@ -140,8 +139,14 @@ module _ (group : Option Word → Group → List At → List CodeAt) (clause : C
         let where_is : nth rs k ≡ nth ps (length (sofar (Inside (Complete a) l ls))) =
         nth_dropped (length (sofar_before bs)) k qs
         ∙ (nth_dropped (length (sofar_outer ls)) (length (sofar_before bs) + k) ps
-        ∙ same_nth ps (length (sofar_outer ls) + (length (sofar_before bs) + k)) (length (sofar (Inside (Complete a) l ls))) (omega (arith, ap length (clause_spells l.negated a), length-append (sofar_not l.negated) (spell_atom a), length-append (sofar_before bs) (sofar_not l.negated),
-        length-append (sofar_level l) (spell_atom a), length-append (sofar_outer ls) (sofar_level l ++ spell_atom a)))) in
+        ∙ same_nth ps (length (sofar_outer ls) + (length (sofar_before bs) + k)) (length (sofar (Inside (Complete a) l ls))) (omega (
+          arith,
+          ap length (clause_spells l.negated a),
+          length-append (sofar_not l.negated) (spell_atom a),
+          length-append (sofar_before bs) (sofar_not l.negated),
+          length-append (sofar_level l) (spell_atom a),
+          length-append (sofar_outer ls) (sofar_level l ++ spell_atom a),
+        ))) in
         let said = word (word_behind None bs) w in
         ap (λ (fs : List CodeAt). (os ++ before_faults None (bs ++ before c w ∷ []) qs) ++ fs) nothing
         ∙ (append-nil (os ++ before_faults None (bs ++ before c w ∷ []) qs)

@@ -1,20 +1,22 @@
-//! The reader of Lucene queries, so far from a text to its tokens, and to the two causes that are looked for first.
+//! The reader of Lucene queries: from bytes to the query that they are under a schema, or their first refusal.
 #![tactic(auto)]
 
 mod judging;
-mod mode;
 mod leaves;
+mod mode;
 mod naming;
 mod numbers;
 mod partial;
 mod places;
 mod query;
+#[cfg(test)]
+mod reading_tests;
 mod runs;
 mod scanning;
 mod sorting;
+mod stepping;
 #[cfg(test)]
 mod tests;
-mod stepping;
 mod token;
 mod tokens;
 

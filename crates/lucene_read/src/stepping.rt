@@ -164,12 +164,7 @@ fn on_not(level: Level, outer: Vec<Level>, wrong: Wrong) -> Option<State>
 }
 
 #[tactic(auto, using(crate::proofs::Levels::levels_more))]
-fn on_opening(
-    alloc: Global,
-    level: Level,
-    outer: Vec<Level>,
-    wrong: Wrong,
-) -> Result<State, Fault>
+fn on_opening(alloc: Global, level: Level, outer: Vec<Level>, wrong: Wrong) -> Result<State, Fault>
     ensures ok { IfOk result (λ s. state_view s ≡ steps.state (steps.Reading steps.Start) (steps.level [] None false) (level_view level ∷ levels_view outer.items) (wrong_view wrong)) }
     ensures err { IfErr result (λ e. e ≡ Fault.Memory) }
 {

@@ -17,5 +17,5 @@ returns-in-Err c =
     record {
       ok = tt;
       refused = bad_is c.args.limits.now.lucene_depth c.args.schema.now c.args.bytes.now n c.as_text.result.now c.place_behind.result c.refused.result longest
-      (c.as_text.ensures ∙ c.split_at.ensures.front) c.place_behind.ensures c.refused.ensures;
+          (c.as_text.ensures ∙ c.split_at.ensures.front) c.place_behind.ensures c.refused.ensures;
     }
