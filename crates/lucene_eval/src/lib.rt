@@ -3,6 +3,8 @@
 
 mod selecting;
 mod terms;
+#[cfg(test)]
+mod tests;
 mod values;
 
 pub use selecting::selects;

@@ -60,13 +60,7 @@ fn is_above(low: Option<i64>, inside: bool, number: i64) -> bool
     ensures { result ≡ meaning.is_above low inside number }
 {
     match low {
-        Some(low) => {
-            if inside {
-                low <= number
-            } else {
-                low < number
-            }
-        }
+        Some(low) => { if inside { low <= number } else { low < number } }
         None => true,
     }
 }

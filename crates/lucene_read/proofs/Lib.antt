@@ -1,7 +1,3 @@
-mod Walked
-mod Decimals
-mod Judged
-mod Nested
 mod Digits
 mod Bases
 mod Levels

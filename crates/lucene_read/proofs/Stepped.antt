@@ -6,7 +6,7 @@ use Rattle.std.proofs.Math.ListN.{drop_of_length-le}
 use Rattle.event_schema.specs.declared.schema.Field.{Field}
 use Rattle.text_places.specs.Places.{At, CodeAt, code_at}
 use Rattle.lucene_lang.specs.Query.{Group}
-use Rattle.lucene_read.specs.declared.token.Token.{Token}
+use Rattle.lucene_scan.specs.declared.token.Token.{Token}
 use Rattle.lucene_read.specs.declared.partial.State as code
 use Rattle.lucene_read.specs.Steps.{State, begun, run, step, on_step, finish}
 use Rattle.lucene_read.specs.View.{place_view, token_view, tokens_view, state_view, state_if}

@@ -17,7 +17,7 @@ use Rattle.lucene_lang.specs.Tokens.{tokens}
 use Rattle.lucene_lang.specs.Reading.{BytesRead, BytesRefused, no_text, no_query, first_outside, opens_too_far}
 use Rattle.lucene_lang.specs.Verdict.{verdict, on_outside, on_nesting, IsVerdict}
 use Rattle.lucene_lang.specs.View.{group_view}
-use Rattle.lucene_read.specs.declared.token.Token.{Token}
+use Rattle.lucene_scan.specs.declared.token.Token.{Token}
 use Rattle.lucene_read.specs.Answers.{Answers, IfRefused}
 use Rattle.lucene_read.specs.Steps as steps
 use Rattle.lucene_read.specs.View.{place_view, place_if, tokens_view}

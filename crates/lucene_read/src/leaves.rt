@@ -14,10 +14,9 @@ ghost use Rattle.lucene_read.specs.View.{sort_view, place_view, name_view, parti
 use crate::naming::known_in;
 use crate::numbers::{is_number, number_in};
 use crate::partial::{Bound, Ill, Known, Leaf, Name, Next, Partial};
-use crate::sorting::text_of;
-use crate::token::Sort;
 use event_schema::Field;
 use lucene_lang::{Atom, Glyph, Glyphs, Sought, Written};
+use lucene_scan::{Sort, text_of};
 use sig_base::{Code, Fault, Place, Text};
 use std::alloc::Global;
 

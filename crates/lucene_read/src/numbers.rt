@@ -6,7 +6,7 @@ ghost use Rattle.lucene_lang.specs.Query.{digits_from};
 ghost use Rattle.lucene_lang.specs.Faults as faults;
 ghost use Rattle.lucene_read.specs.Known.{bounded, number_in};
 
-use crate::sorting::is_decimal;
+use lucene_scan::is_decimal;
 use sig_base::{Text, first_char};
 
 fn digit(c: char) -> u32

@@ -9,14 +9,11 @@ ghost use Rattle.lucene_read.specs.Answers.{Answers, IfRefused};
 ghost use Rattle.lucene_read.specs.Steps as steps;
 ghost use Rattle.lucene_read.specs.View.{place_view, mixed_if, ill_if, state_view, tokens_view};
 
-use crate::judging::{first_outside, opens_too_far};
 use crate::partial::{Now, Partial, State, Wrong};
-use crate::places::place_behind;
-use crate::scanning::scan;
 use crate::stepping::{ended, no_clauses, step};
-use crate::token::Token;
 use event_schema::{Field, Schema};
 use lucene_lang::Group;
+use lucene_scan::{Token, first_outside, opens_too_far, place_behind, scan};
 use sig_base::{Code, Fault, Limits, Place, refused};
 use std::alloc::Global;
 

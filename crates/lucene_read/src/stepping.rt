@@ -10,9 +10,9 @@ ghost use Rattle.lucene_read.specs.View.{sort_view, place_view, partial_if, next
 
 use crate::leaves::{first, go_on};
 use crate::partial::{Ill, Level, Next, Now, Partial, State, Wrong};
-use crate::token::{Sort, Token};
 use event_schema::Field;
 use lucene_lang::{Atom, Clause, Group, Word};
+use lucene_scan::{Sort, Token};
 use sig_base::{Fault, Place};
 use std::alloc::Global;
 
