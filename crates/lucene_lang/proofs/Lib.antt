@@ -4,7 +4,7 @@ mod Both
 pub mod Runs
 mod Atoms
 mod Selected
-mod Sofar
+pub mod Sofar
 mod Alive
 mod Judged
 mod Told

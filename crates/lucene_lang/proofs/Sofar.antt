@@ -20,11 +20,11 @@ sofar_partial (Upto n b e) = spell_name n ∷ Colon ∷ Opens b ∷ spell_end e 
 sofar_partial (High n b e f) = spell_name n ∷ Colon ∷ Opens b ∷ spell_end e ∷ To ∷ spell_end f ∷ []
 sofar_partial (Complete a) = spell_atom a
 
-abbrev sofar_before : List Before → List Sort
+abbrev pub sofar_before : List Before → List Sort
 sofar_before [] = []
 sofar_before (b ∷ bs) = spell_clause b.clause ++ Joins b.word ∷ sofar_before bs
 
-abbrev sofar_not : Bool → List Sort
+abbrev pub sofar_not : Bool → List Sort
 sofar_not true = Not ∷ []
 sofar_not false = []
 
@@ -50,7 +50,7 @@ group_spells (b ∷ bs) c =
     ap (λ (ts : List Sort). spell_clause b.clause ++ Joins b.word ∷ ts) (group_spells bs c)
     ∙ sym (append_assoc (spell_clause b.clause) (Joins b.word ∷ sofar_before bs) (spell_clause c))
 
-clause_spells : (b : Bool) (a : Atom) → spell_clause (clause_if b a) ≡ sofar_not b ++ spell_atom a
+pub clause_spells : (b : Bool) (a : Atom) → spell_clause (clause_if b a) ≡ sofar_not b ++ spell_atom a
 clause_spells true a = refl
 clause_spells false a = refl
 

@@ -1,6 +1,7 @@
 pub mod Tokens
 pub mod Grammar
 pub mod Query
+pub mod View
 pub mod Faults
 pub mod Reading
 pub mod Machine

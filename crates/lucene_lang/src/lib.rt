@@ -13,6 +13,6 @@ mod written;
 
 pub use laws::{machine_reads, no_stop_in_query, one_reading, one_spelling, one_stop};
 pub use meaning::{atoms_hold, groups_select, runs_and_characters};
-pub use query::{Glyph, Word};
+pub use query::{Atom, Clause, Glyph, Glyphs, Group, Sought, Word};
 pub use verdict::{no_refused_query, one_refusal, query_or_refusal};
 pub use written::Written;

@@ -1,4 +1,8 @@
-mod Walked
-mod Decimals
-mod Judged
-mod Nested
+mod Digits
+mod Bases
+mod Levels
+mod Stepped
+mod Faulty
+mod Kept
+mod Told
+mod Verdicts

@@ -1,1 +1,4 @@
+pub mod Known
+pub mod Steps
 pub mod View
+pub mod Answers

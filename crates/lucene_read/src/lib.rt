@@ -1,19 +1,13 @@
-//! The reader of Lucene queries, so far from a text to its tokens, and to the two causes that are looked for first.
+//! The reader of Lucene queries: from tokens to the query that they are under a schema, or the first refusal.
 #![tactic(auto)]
 
-mod judging;
-mod mode;
-mod runs;
-mod scanning;
-mod sorting;
+mod leaves;
+mod naming;
+mod numbers;
+mod partial;
+mod query;
+mod stepping;
 #[cfg(test)]
 mod tests;
-mod token;
-mod tokens;
 
-pub use judging::{first_outside, opens_too_far};
-pub use mode::Mode;
-pub use runs::Run;
-pub use scanning::scan;
-pub use token::{Sort, Token};
-pub use tokens::Tokens;
+pub use query::read_query;

@@ -1,0 +1,4 @@
+mod Walked
+mod Decimals
+mod Judged
+mod Nested
