@@ -101,7 +101,7 @@ fn within(left: &Side, low: i64, high: i64, event: &Event) -> Truth
 }
 
 /// The value of a test; a regular expression is the next one, which is passed.
-#[tactic(auto, using(crate::proofs::Valued::without_searches, crate::proofs::Valued::negated_search))]
+#[tactic(auto, using(crate::proofs::Valued::without_searches))]
 pub fn test_value(test: &SqlTest, event: &Event, finders: &mut Finders<'_>) -> Truth
     ensures texts { finders.new.texts ≡ finders.old.texts }
     ensures value { Values (test_patterns (test_view test.now)) (meaning.test_value (test_view test.now) (first_values event.now.values))

@@ -1,6 +1,6 @@
 //! Three values.
 
-ghost use Rattle.std.specs.Prelude.{◌≡◌};
+ghost use Rattle.std.specs.Prelude.{◌≡◌, ◌↔◌, true};
 ghost use Rattle.sql_lang.specs.Meaning as meaning;
 ghost use Rattle.sql_eval.specs.View.{truth_view};
 
@@ -54,4 +54,17 @@ pub fn negated_if(b: bool, a: Truth) -> Truth
     ensures { truth_view result ≡ meaning.negated_if b (truth_view a) }
 {
     if b { negation(a) } else { a }
+}
+
+impl Truth {
+    /// Whether it's a yes: only then a row is selected.
+    pub fn is_yes(self) -> bool
+        ensures { (result ≡ true) ↔ (truth_view self ≡ meaning.Yes) }
+    {
+        match self {
+            Truth::Yes => true,
+            Truth::No => false,
+            Truth::Unknown => false,
+        }
+    }
 }
