@@ -9,11 +9,7 @@ use sig_base::Fault;
 use sql_query::{Expr, SqlTest};
 use std::alloc::Global;
 
-fn gather_test<'q>(
-    alloc: Global,
-    test: &'q SqlTest,
-    finders: &mut Finders<'q>,
-) -> Result<(), Fault>
+fn gather_test<'q>(alloc: Global, test: &'q SqlTest, finders: &mut Finders<'q>) -> Result<(), Fault>
     ensures ok { OnOk result (finders.new.texts ≡ finders.old.texts ++ test_patterns (test_view test.now)) }
     ensures err { IfErr result (λ e. e ≡ Fault.Memory) }
     ensures free { test_patterns (test_view test.now) ≡ [] → IsOk result }
@@ -27,11 +23,7 @@ fn gather_test<'q>(
 /// Adds the searches with the regular expressions of an expression behind those that are there; only want of memory is answered,
 /// and only where there is a regular expression.
 #[cycle(gathering)]
-pub fn gather<'q>(
-    alloc: Global,
-    expr: &'q Expr,
-    finders: &mut Finders<'q>,
-) -> Result<(), Fault>
+pub fn gather<'q>(alloc: Global, expr: &'q Expr, finders: &mut Finders<'q>) -> Result<(), Fault>
     ensures ok { OnOk result (finders.new.texts ≡ finders.old.texts ++ patterns_in (expr_view expr.now)) }
     ensures err { IfErr result (λ e. e ≡ Fault.Memory) }
     ensures free { patterns_in (expr_view expr.now) ≡ [] → IsOk result }
@@ -45,11 +37,7 @@ pub fn gather<'q>(
 }
 
 #[cycle(gathering)]
-fn gather_all<'q>(
-    alloc: Global,
-    parts: &'q [Expr],
-    finders: &mut Finders<'q>,
-) -> Result<(), Fault>
+fn gather_all<'q>(alloc: Global, parts: &'q [Expr], finders: &mut Finders<'q>) -> Result<(), Fault>
     ensures ok { OnOk result (finders.new.texts ≡ finders.old.texts ++ all_patterns (exprs_view parts.now)) }
     ensures err { IfErr result (λ e. e ≡ Fault.Memory) }
     ensures free { all_patterns (exprs_view parts.now) ≡ [] → IsOk result }

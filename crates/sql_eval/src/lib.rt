@@ -13,5 +13,7 @@ mod gathering;
 mod query;
 mod seen;
 mod testing;
+#[cfg(test)]
+mod tests;
 mod truth;
 mod value;

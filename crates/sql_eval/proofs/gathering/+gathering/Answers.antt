@@ -14,7 +14,7 @@ gather_all-returns-in_err-gather-clause-free t c = λ none.
 pub gather_all-loop-part-preserved : goal.gather_all-loop-part-preserved
 gather_all-loop-part-preserved t c =
     let here : drop c.loop-part.part-index c.args.parts.now ≡ c.part-item.result ∷ drop (c.loop-part.part-index + 1) c.args.parts.now
-        = from_here c.args.parts.now c.loop-part.part-index c.part-item.result c.loop-part-test.true c.part-item.is in
+    = from_here c.args.parts.now c.loop-part.part-index c.part-item.result c.loop-part-test.true c.part-item.is in
     record {
       ran = gathered_more c.loop-part.finders.texts c.gather.new.finders.texts (patterns_in (expr_view c.part-item.result))
           (all_patterns (exprs_view (drop (c.loop-part.part-index + 1) c.args.parts.now))) _ c.in_ok-gather.ensures.ok

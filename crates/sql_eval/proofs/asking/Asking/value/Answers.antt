@@ -9,7 +9,7 @@ use Rattle.sql_eval.proofs.asking.Asking.value.Goals as goal
 pub returns-clause-value : goal.returns-clause-value
 returns-clause-value c =
     let whole : left_of c.rewind.new.self ≡ patterns_in (expr_view c.args.self.now.condition.now) ++ []
-        = c.rewind.ensures.left ∙ c.args.self.now.whole ∙ sym (append-nil (patterns_in (expr_view c.args.self.now.condition.now))) in
+    = c.rewind.ensures.left ∙ c.args.self.now.whole ∙ sym (append-nil (patterns_in (expr_view c.args.self.now.condition.now))) in
     let v : (truth_view c.expr_value.result ≡ sql_value (expr_view c.args.self.now.condition.now) (first_values c.args.event.now.values)) × (left_of c.expr_value.new.finders ≡ [])
-        = c.expr_value.ensures.value [] whole in
+    = c.expr_value.ensures.value [] whole in
     v.0

@@ -17,10 +17,11 @@ returns-clause-texts c =
 
 pub returns-clause-found : goal.returns-clause-found
 returns-clause-found c = λ text rest e.
-    let before : drop c.self.inside.passed (map text_at c.self.inside.finders.items) ≡ text ∷ rest = ap left_of c.self.view_is ∙ e in
-    (c.finds.ensures.found
-        ∙ ap (λ (t : List ℕ). finds t (chars c.args.value.now))
-            (ap text_at c.index_mut.ensures.value ∙ next_is text_at c.self.inside.finders.items c.self.inside.passed c.index_mut.result.now text rest before),
-    ap (drop (c.self.inside.passed + 1))
-        (map-set_same text_at c.self.inside.finders.items c.self.inside.passed c.finds.new.self c.index_mut.result.now (c.finds.ensures.same ∙ ap text_at c.index_mut.ensures.value))
-        ∙ rest_is (map text_at c.self.inside.finders.items) c.self.inside.passed text rest before)
+    let before : drop c.self.inside.passed (map text_at c.self.inside.finders.items) ≡ text ∷ rest = ap left_of c.self.view_is ∙ e in (
+      c.finds.ensures.found
+          ∙ ap (λ (t : List ℕ). finds t (chars c.args.value.now))
+          (ap text_at c.index_mut.ensures.value ∙ next_is text_at c.self.inside.finders.items c.self.inside.passed c.index_mut.result.now text rest before),
+      ap (drop (c.self.inside.passed + 1))
+          (map-set_same text_at c.self.inside.finders.items c.self.inside.passed c.finds.new.self c.index_mut.result.now (c.finds.ensures.same ∙ ap text_at c.index_mut.ensures.value))
+          ∙ rest_is (map text_at c.self.inside.finders.items) c.self.inside.passed text rest before,
+    )
