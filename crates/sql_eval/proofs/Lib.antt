@@ -1,0 +1,5 @@
+mod Columns
+mod Passed
+mod Same
+mod Truths
+mod Valued

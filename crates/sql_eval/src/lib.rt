@@ -1,0 +1,19 @@
+//! What SQL queries say of events, and which events they select.
+//!
+//! `sql_lang` has the meaning; a field's column has the first of its values.
+#![tactic(auto)]
+
+pub use query::{selects, value_of, with_selector};
+pub use truth::Truth;
+
+mod asking;
+mod comparing;
+mod finders;
+mod gathering;
+mod query;
+mod seen;
+mod testing;
+#[cfg(test)]
+mod tests;
+mod truth;
+mod value;
