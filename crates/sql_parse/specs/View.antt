@@ -28,7 +28,7 @@ use Rattle.sql_lang.specs.Machine as m
 
 abbrev pub literal_view : Literal → x.Literal
 literal_view (i.Text v) = x.a_text v
-literal_view (i.Number v) = x.a_number v
+literal_view (i.Number v) = x.a_number v.text
 
 abbrev pub right_view : Right → x.Right
 right_view (n.Name v) = x.a_name v
@@ -45,7 +45,7 @@ leaf_view (l.Like name b v e) = x.like name b v e
 leaf_view (l.Glob name b v) = x.glob name b v
 leaf_view (l.Regexp name b v) = x.regexp name b v
 leaf_view (l.OneOf name d b ls k) = x.one_of name (collate_view d) b (literals_view ls.items) (literal_view k)
-leaf_view (l.Between name d b low high) = x.between name (collate_view d) b low high
+leaf_view (l.Between name d b low high) = x.between name (collate_view d) b low.text high.text
 
 -- one level of the syntax, with what is inside already seen
 abbrev pub ors_step : Ors-F x.Nots x.Ands x.Nots x.Ors → x.Ors
@@ -94,8 +94,8 @@ partial_view (p.Among v d b) = m.Among v (collate_view d) b
 partial_view (p.Listing v d b ls) = m.Listing v (collate_view d) b (literals_view ls.items)
 partial_view (p.Listed v d b ls k) = m.Listed v (collate_view d) b (literals_view ls.items) (literal_view k)
 partial_view (p.Ranging v d b) = m.Ranging v (collate_view d) b
-partial_view (p.Low v d b w) = m.Low v (collate_view d) b w
-partial_view (p.High v d b w) = m.High v (collate_view d) b w
+partial_view (p.Low v d b w) = m.Low v (collate_view d) b w.text
+partial_view (p.High v d b w) = m.High v (collate_view d) b w.text
 partial_view (p.Complete t) = m.Complete (leaf_view t)
 partial_view (p.Closed o) = m.Closed (ors_view o.value)
 

@@ -3,6 +3,7 @@
 use crate::syntax::{Leaf, Literal, Ors, Right};
 use sig_base::Text;
 use sql_query::{Collate, SqlOp};
+use sql_scan::Numeral;
 
 #[derive(Drop)]
 pub enum Partial {
@@ -26,8 +27,8 @@ pub enum Partial {
     Listing(Text, Collate, bool, Vec<Literal>),
     Listed(Text, Collate, bool, Vec<Literal>, Literal),
     Ranging(Text, Collate, bool),
-    Low(Text, Collate, bool, Text),
-    High(Text, Collate, bool, Text),
+    Low(Text, Collate, bool, Numeral),
+    High(Text, Collate, bool, Numeral),
     Complete(Leaf),
     Closed(Box<Ors>),
 }

@@ -2,11 +2,12 @@
 
 use sig_base::Text;
 use sql_query::{Collate, SqlOp};
+use sql_scan::Numeral;
 
 #[derive(Drop)]
 pub enum Literal {
     Text(Text),
-    Number(Text),
+    Number(Numeral),
 }
 
 #[derive(Drop)]
@@ -56,8 +57,8 @@ pub enum Leaf {
         name: Text,
         collate: Collate,
         negated: bool,
-        low: Text,
-        high: Text,
+        low: Numeral,
+        high: Numeral,
     },
 }
 

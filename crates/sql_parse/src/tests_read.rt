@@ -12,7 +12,7 @@ use crate::partial::Partial;
 use crate::syntax::{Leaf, Literal, Right};
 use sig_base::Text;
 use sql_query::{Collate, SqlOp};
-use sql_scan::{Keyword, Sort};
+use sql_scan::{Keyword, Numeral, Sort};
 use std::alloc::{AllocError, Global};
 
 fn is_zero(w: &Text) -> bool
@@ -44,7 +44,7 @@ pub fn first(sort: Sort) -> Option<Partial>
 {
     match sort {
         Sort::Name(name) => Some(Partial::Named(name)),
-        Sort::Number(w) => constant(&w),
+        Sort::Number(w) => constant(&w.text),
         _ => None,
     }
 }
@@ -323,8 +323,8 @@ fn ranging(name: Text, collate: Collate, negated: bool, sort: Sort) -> Option<Pa
     }
 }
 
-fn low(name: Text, collate: Collate, negated: bool, low: Text, sort: Sort) -> Option<Partial>
-    ensures { option_view result ≡ machine.on_word tokens.AND (machine.High name (collate_view collate) negated low) (sort_view sort) }
+fn low(name: Text, collate: Collate, negated: bool, low: Numeral, sort: Sort) -> Option<Partial>
+    ensures { option_view result ≡ machine.on_word tokens.AND (machine.High name (collate_view collate) negated low.text) (sort_view sort) }
 {
     match sort {
         Sort::Word(Keyword::And) => Some(Partial::High(name, collate, negated, low)),
@@ -332,8 +332,8 @@ fn low(name: Text, collate: Collate, negated: bool, low: Text, sort: Sort) -> Op
     }
 }
 
-fn high(name: Text, collate: Collate, negated: bool, low: Text, sort: Sort) -> Option<Partial>
-    ensures { option_view result ≡ machine.on_number (λ v. machine.Complete (syntax.between name (collate_view collate) negated low v)) (sort_view sort) }
+fn high(name: Text, collate: Collate, negated: bool, low: Numeral, sort: Sort) -> Option<Partial>
+    ensures { option_view result ≡ machine.on_number (λ v. machine.Complete (syntax.between name (collate_view collate) negated low.text v)) (sort_view sort) }
 {
     match sort {
         Sort::Number(high) => Some(Partial::Complete(Leaf::Between {

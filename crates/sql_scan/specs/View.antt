@@ -47,7 +47,7 @@ abbrev pub sort_view : Sort → t.Sort
 sort_view (s.Word k) = t.Word (keyword_view k)
 sort_view (s.Name v) = t.Name v
 sort_view (s.Text v) = t.Text v
-sort_view (s.Number v) = t.Number v
+sort_view (s.Number v) = t.Number v.text
 sort_view s.Opening = t.Opening
 sort_view s.Closing = t.Closing
 sort_view s.Comma = t.Comma

@@ -11,4 +11,4 @@ mod turning;
 
 pub use judging::{first_other, nests_too_far};
 pub use scanning::{Scanned, scan};
-pub use token::{Keyword, Sort, Token};
+pub use token::{Keyword, Numeral, Sort, Token};

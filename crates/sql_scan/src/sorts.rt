@@ -1,12 +1,13 @@
 //! What runs and quoted texts are.
 
-ghost use Rattle.std.specs.Prelude.{◌≡◌, ◌++◌, ◌∷◌, [], IfOk, IfErr, OnOk, nat_lt, ◌^◌, true};
+ghost use Rattle.std.specs.Prelude.{◌≡◌, ◌++◌, ◌∷◌, [], IfOk, IfErr, OnOk, ◌<◌, ◌^◌, true};
 ghost use Rattle.std.specs.List.{list_all};
 ghost use Rattle.sig_base.specs.Folding.{folded};
 ghost use Rattle.sql_lang.specs.Tokens as tokens;
+ghost use Rattle.sql_scan.specs.Numerals.{IsSmall, IsNumber, begins_minus, signed};
 ghost use Rattle.sql_scan.specs.View.{sort_view, keyword_option_view};
 
-use crate::token::{Keyword, Sort};
+use crate::token::{Keyword, Numeral, Sort};
 use sig_base::{Fault, Text, fold};
 use std::alloc::Global;
 
@@ -141,30 +142,53 @@ fn are_digits(word: &[char]) -> bool
     }
 }
 
-/// Whether digits write a number below 2^63.
-fn is_small(digits: &[char]) -> bool
+/// The number that digits write, where it's below 2^63.
+fn small_value(digits: &[char]) -> Option<u64>
     requires { tokens.are_digits digits.now ≡ true }
-    ensures { result ≡ nat_lt (tokens.digits_from 0 digits.now) (2 ^ 63) }
+    ensures { IsSmall (tokens.digits_from 0 digits.now) result }
 {
     let mut value: u128 = 0;
     for c in digits {
         value = 10 * value + (*c as u32 - '0' as u32) as u128;
         if value >= 1 << 63 {
-            return false;
+            return None;
         }
     }
-    true
+    Some(value as u64)
 }
 
+fn begins_minus(word: &[char]) -> bool
+    ensures { result ≡ begins_minus word.now }
+{
+    match word {
+        [first, ..] => *first == '-',
+        [] => false,
+    }
+}
+
+fn signed(minus: bool, value: u64) -> i64
+    requires { value < 2 ^ 63 }
+    ensures { result ≡ signed minus value }
+{
+    if minus {
+        return -(value as i64);
+    }
+    value as i64
+}
+
+/// The number that a run writes, if it's one.
 #[tactic(auto, unfolding(sql_lang::specs::Tokens::is_number))]
-fn is_number(word: &[char]) -> bool
-    ensures { result ≡ tokens.is_number word.now }
+fn number(word: &[char]) -> Option<i64>
+    ensures { IsNumber word.now result }
 {
     let digits = unsigned(word);
     if !are_digits(digits) {
-        return false;
+        return None;
     }
-    is_small(digits)
+    match small_value(digits) {
+        Some(value) => Some(signed(begins_minus(word), value)),
+        None => None,
+    }
 }
 
 fn word_sort(word: Option<Keyword>) -> Sort
@@ -182,10 +206,14 @@ pub(crate) fn run_sort(alloc: Global, word: &[char]) -> Result<Sort, Fault>
     ensures ok { IfOk result (λ s. sort_view s ≡ tokens.run_sort word.now) }
     ensures err { IfErr result (λ e. e ≡ Fault.Memory) }
 {
-    if is_number(word) {
-        let text = copied(alloc, word)?;
-        return Ok(Sort::Number(text));
+    match number(word) {
+        Some(value) => {
+            let text = copied(alloc, word)?;
+            Ok(Sort::Number(Numeral { text, value }))
+        }
+        None => {
+            let low = folded_text(alloc, word)?;
+            Ok(word_sort(keyword(&low)))
+        }
     }
-    let low = folded_text(alloc, word)?;
-    Ok(word_sort(keyword(&low)))
 }

@@ -1,5 +1,8 @@
 //! Tokens.
 
+ghost use Rattle.std.specs.Prelude.{◌≡◌};
+ghost use Rattle.sql_lang.specs.Tokens.{number_of};
+
 use sig_base::{Place, Text};
 use sql_query::SqlOp;
 
@@ -24,13 +27,21 @@ pub enum Keyword {
     Binary,
 }
 
-/// What a token is. A number keeps its characters.
+/// Digits with a minus before them or not, and the number that they write.
+#[derive(Drop)]
+pub struct Numeral {
+    pub text: Text,
+    pub value: i64,
+    pub ghost written: { value ≡ number_of text },
+}
+
+/// What a token is.
 #[derive(Drop)]
 pub enum Sort {
     Word(Keyword),
     Name(Text),
     Text(Text),
-    Number(Text),
+    Number(Numeral),
     Opening,
     Closing,
     Comma,
