@@ -1,0 +1,3 @@
+mod Turns
+mod Shown
+mod NotsIn

@@ -1,0 +1,4 @@
+mod Digits
+mod Walked
+mod Nested
+mod Judged
