@@ -21,10 +21,20 @@ pub record IsFirst {Query : Type 0} (is_query is_within : Query → Type 0) (ref
       → SomeOf (λ p. (p.place ≡ place_of r) × IsAmong p.pattern gained × IsCause gained p.pattern r.code) patterns
   pub unread : is_of_pattern r.code ≡ false → (q : Query) → is_query q → is_within q → ⊥
 
--- what is read is a query within the limits, for which the builder refused nothing
+-- What is read is a query within the limits, for which the builder refused nothing, and of which nothing is refused for such a list either.
+pub record IsRead {Query : Type 0} (is_query is_within : Query → Type 0) (refuses : List CodeAt → Refusal → Type 0)
+    (patterns : List PatternAt) (gained : List (List ℕ)) (q : Query) : Type 0 where
+  pub query : is_query q
+  pub within : is_within q
+  pub built : gained ≡ []
+  pub places : List CodeAt
+  pub are : AreRefused patterns gained places
+  pub unrefused : (r : Refusal) → refuses places r → ⊥
+
+-- what is answered, with the texts that the builder refused in this call
 abbrev pub IsAnswer : {Query : Type 0} → (is_query is_within : Query → Type 0) → (List CodeAt → Refusal → Type 0)
     → List PatternAt → List (List ℕ) → Result Query Fault → Type 0
-IsAnswer is_query is_within refuses patterns gained (Ok q) = is_query q × is_within q × (gained ≡ [])
+IsAnswer is_query is_within refuses patterns gained (Ok q) = IsRead is_query is_within refuses patterns gained q
 IsAnswer is_query is_within refuses patterns gained (Err Memory) = ⊤
 IsAnswer is_query is_within refuses patterns gained (Err (Refused r)) = IsFirst is_query is_within refuses patterns gained r
 

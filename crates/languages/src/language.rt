@@ -72,10 +72,12 @@ pub trait Language {
         ensures err { IfErr result (λ e. (e ≡ Fault.Memory) × (asker.new ≡ asker.old)) }
         ensures free { takes_memory (plain query.now) ≡ false → IsOk result };
 
-    /// Bytes are one query at most. For each list of places that are refused for their regular expressions, bytes that `read` is asked
-    /// for are a query within the limits of which nothing is refused, or they have a first refusal, and one only.
+    /// Bytes are one query at most, and each event is picked by a query, or it isn't. For each list of places that are refused for their
+    /// regular expressions, bytes that `read` is asked for are a query within the limits of which nothing is refused, or they have a first
+    /// refusal, and one only.
     fn law()
         ensures one_query { (schema : Schema) (bytes : List ℕ) (p q : Plain) → is_query schema bytes p → is_query schema bytes q → p ≡ q }
+        ensures picks { (query : Plain) (row : List (List Value)) → picks query row ⊎ (picks query row → ⊥) }
         ensures one_refusal { (limits : Limits) (schema : Schema) (bytes : List ℕ) (places : List CodeAt) (r s : Refusal)
             → refuses limits schema bytes places r → refuses limits schema bytes places s → r ≡ s }
         ensures decided { (limits : Limits) (schema : Schema) (bytes : List ℕ) (places : List CodeAt) → length bytes ≤ limits.query_bytes + 1

@@ -1,6 +1,6 @@
 //! Queries that are ready to be asked of many events.
 
-ghost use Rattle.std.specs.Prelude.{◌≡◌, ◌↔◌, List, true};
+ghost use Rattle.std.specs.Prelude.{◌≡◌, ◌↔◌, ◌⊎◌, List, true};
 ghost use Rattle.event_schema.specs.declared.schema.Schema.{Schema};
 ghost use Rattle.event_schema.specs.declared.value.Value.{Value};
 ghost use Rattle.event_schema.specs.Events.{IsEvent};
@@ -21,6 +21,10 @@ pub trait Selector {
         requires event { IsEvent schema.now.fields event.now.values }
         ensures picks { (result ≡ true) ↔ picks (plain self.old) event.now.values }
         ensures same { plain self.new ≡ plain self.old };
+
+    /// Each event is picked by a query, or it isn't.
+    fn law()
+        ensures { (query : Plain) (row : List (List Value)) → picks query row ⊎ (picks query row → ⊥) };
 }
 
 /// Who asks a query of as many events as it likes.

@@ -1,9 +1,10 @@
 //! A language for tests: the bytes are a regular expression, and events are picked whose first field has, first of its values, a
 //! text that it finds.
 
-ghost use Rattle.std.specs.Prelude.{◌≡◌, ◌↔◌, List, ℕ, [], ◌∷◌, map, true, ⊤, Some, chars, if◌then◌else◌};
+ghost use Rattle.std.specs.Prelude.{◌≡◌, ◌↔◌, ◌⊎◌, List, ℕ, [], ◌∷◌, map, true, ⊤, Some, chars, if◌then◌else◌};
 ghost use Rattle.std.specs.Str.{is_utf8};
 ghost use Rattle.event_schema.specs.Rows.{field_values, first_value};
+ghost use Rattle.event_schema.specs.declared.value.Value.{Value};
 ghost use Rattle.event_schema.specs.declared.value.Value.TheVariants as values;
 ghost use Rattle.languages.specs.Patterns.{finds};
 ghost use Rattle.sig_base.specs.Judged.{first, must, refusal};
@@ -43,6 +44,12 @@ impl<'s> Selector for Ready<'s> {
     fn selects(&mut self, _schema: &Schema, event: &Event) -> bool {
         is_found(&mut self.finder, event)
     }
+
+    fn law()
+        ensures { (pattern : List ℕ) (row : List (List Value))
+            → ((text : List ℕ) × (first_value (field_values row 0) ≡ Some (values.Text text)) × (finds pattern text ≡ true))
+            ⊎ (((text : List ℕ) × (first_value (field_values row 0) ≡ Some (values.Text text)) × (finds pattern text ≡ true)) → ⊥) }
+    {}
 }
 
 impl Language for Small {

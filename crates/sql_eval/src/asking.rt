@@ -51,6 +51,8 @@ impl<'q> Asking<'q> {
 }
 
 impl<'q> Selector for Asking<'q> {
+    ghost use Rattle.std.specs.Prelude.{◌⊎◌, List};
+    ghost use Rattle.event_schema.specs.declared.value.Value.{Value};
     ghost use Rattle.sql_lang.specs.Expression as plain;
     ghost use Rattle.sql_queries.specs.Queries.{Picks};
 
@@ -63,4 +65,8 @@ impl<'q> Selector for Asking<'q> {
     fn selects(&mut self, _schema: &Schema, event: &Event) -> bool {
         self.value(event).is_yes()
     }
+
+    fn law()
+        ensures { (query : plain.Expr) (row : List (List Value)) → Picks query row ⊎ (Picks query row → ⊥) }
+    {}
 }

@@ -1,8 +1,12 @@
 use Rattle.std.proofs.Common.{inl, inr, sym, ◌∙◌, refl, chars}
 use Rattle.std.proofs.lemmas.Option.{same_Some}
 use Rattle.std.specs.Str.{is_utf8}
-use Rattle.languages.proofs.OnePattern.{decided}
+use Rattle.event_schema.specs.Rows.{field_values, first_value}
+use Rattle.languages.proofs.OnePattern.{decided, found_or_not}
 use Rattle.languages.proofs.small.SmallLanguage.law.Goals as goal
+
+pub returns-clause-picks : goal.returns-clause-picks
+returns-clause-picks c = λ pattern row. found_or_not pattern (first_value (field_values row 0))
 
 pub returns-clause-one_refusal : goal.returns-clause-one_refusal
 returns-clause-one_refusal c = λ limits schema bytes places r s first second. same_Some r s (sym first ∙ second)

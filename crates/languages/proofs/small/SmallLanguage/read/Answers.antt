@@ -12,6 +12,7 @@ returns-in_ok-text-in-Ok g c =
       answers = read_text (chars c.args.bytes.now) (g.B.Builder.refused c.args.builder.now) (g.B.Builder.refused c.read.new.builder)
           (is_utf8 c.args.bytes.now) (is_utf8-from_IsUtf8 c.args.bytes.now c.in-Ok.ensures.cases.1) c.read.result
           (subst (λ t. IfOk c.read.result (λ s. s.text ≡ t)) is c.read.ensures.text)
+          c.read.ensures.pattern
           (subst (λ t. SearchAnswers (g.B.Builder.refused c.args.builder.now) (g.B.Builder.refused c.read.new.builder) t start c.read.result) is c.read.ensures.refused);
     }
 
