@@ -1,0 +1,7 @@
+mod Folds
+mod Columned
+mod Named
+mod Patterned
+mod Judged
+mod Deep
+mod Literals
