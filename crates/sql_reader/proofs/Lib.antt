@@ -1,0 +1,9 @@
+mod Looked
+mod Regexps
+mod Choosing
+mod Going
+mod Past
+mod Leaf
+mod Placed
+mod Wholes
+mod Verdicts

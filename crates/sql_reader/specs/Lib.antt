@@ -1,0 +1,4 @@
+pub mod Checks
+pub mod Chains
+pub mod Walks
+pub mod Answers

@@ -1,0 +1,12 @@
+//! SQL queries as they are read: from bytes to the query, or its first refusal.
+#![tactic(auto)]
+
+mod leaves;
+mod passing;
+mod placing;
+mod reading;
+#[cfg(test)]
+mod tests;
+mod walking;
+
+pub use reading::read_select;
