@@ -1,0 +1,10 @@
+//! SQL as a language whose queries are read and asked of events.
+#![tactic(auto)]
+
+mod language;
+mod laws;
+#[cfg(test)]
+mod tests;
+
+pub use language::SqlReader;
+pub use laws::same_queries;
