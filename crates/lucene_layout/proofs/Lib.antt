@@ -1,0 +1,6 @@
+pub mod Scanned
+mod Escapes
+mod Laid
+mod LeafRead
+mod Numbers
+mod Selection
