@@ -1,5 +1,5 @@
 -- The causes for which a tree isn't written, one by one.
-use Rattle.std.proofs.Common.{ℕ, ◌≡◌, ◌≤◌, ◌<◌, Bool, true, false, List, [], ◌∷◌, Option, Some, None, refl, sym, ap, ◌∙◌}
+use Rattle.std.proofs.Common.{ℕ, ◌≡◌, ◌≤◌, ◌<◌, Bool, true, false, List, [], ◌∷◌, Option, Some, None, refl, sym, ◌∙◌}
 use Rattle.std.specs.Prelude.{nat_le, if◌then◌else◌, length}
 use Rattle.std.proofs.lemmas.Bool.{leb-true, leb-false, le-leb, lt-leb}
 use Rattle.std.proofs.lemmas.Option.{none-some, same_Some}
@@ -10,7 +10,7 @@ use Rattle.sig_base.specs.declared.refusal.Place.{Place}
 use Rattle.sig_base.specs.declared.refusal.Refusal.{Refusal}
 use Rattle.backend_core.specs.Lacks.{lack_refusal}
 use Rattle.backend_core.specs.Trees.{Plain}
-use Rattle.backend_core.specs.Writing.{at_most, numbered, write_checks, write_refusal}
+use Rattle.backend_core.specs.Writing.{at_most, numbered, write_refusal}
 use Rattle.backend_core.specs.declared.lack.Lack.{Lack}
 use Rattle.backend_core.specs.declared.tree.Leaf.{Leaf}
 

@@ -1,5 +1,5 @@
 -- What a backend lacks for a tree: some leaf asks what no query of its language can say.
-use Rattle.std.specs.Prelude.{ℕ, List, [], ◌∷◌, Option, Some, None, codes}
+use Rattle.std.specs.Prelude.{ℕ, Bool, if◌then◌else◌, List, [], ◌∷◌, Option, Some, None, codes}
 use Rattle.sig_base.specs.Judged.{first}
 use Rattle.sig_base.specs.declared.refusal.Detail.TheVariants as details
 use Rattle.sig_base.specs.declared.refusal.Refusal.{Refusal}
@@ -10,6 +10,25 @@ use Rattle.backend_core.specs.Trees.{Plain, all, any, negated, leaf, never, Plai
 
 abbrev pub lack_name : Lack → List ℕ
 lack_name lack.Many = codes "Many"
+lack_name lack.Cased = codes "Cased"
+lack_name lack.WholePattern = codes "WholePattern"
+lack_name lack.EmptyText = codes "EmptyText"
+
+-- Where a backend lacks several of these for a leaf, the first in this order is told: letters by their case, a pattern of numbers, and
+-- the empty text; a field of several values is before them, which no backend lacks beside another.
+pub record Asks : Type 0 where
+  pub many : Bool
+  pub cased : Bool
+  pub whole_pattern : Bool
+  pub empty_text : Bool
+
+abbrev pub first_lack : Asks → Option Lack
+first_lack asks =
+    if asks.many then Some lack.Many
+    else if asks.cased then Some lack.Cased
+    else if asks.whole_pattern then Some lack.WholePattern
+    else if asks.empty_text then Some lack.EmptyText
+    else None
 
 -- the refusal where something is lacking for a leaf, at its place
 abbrev pub leaf_refusal : Leaf → Option Lack → Option Refusal

@@ -19,6 +19,12 @@ use std::alloc::Global;
 pub enum Lack {
     /// a test of a field that may have several values
     Many,
+    /// a pattern by case, of a field whose texts' case isn't kept
+    Cased,
+    /// a pattern of a field of whole numbers
+    WholePattern,
+    /// the empty text among several values
+    EmptyText,
 }
 
 impl Lack {
@@ -28,6 +34,9 @@ impl Lack {
     {
         match self {
             Lack::Many => "Many",
+            Lack::Cased => "Cased",
+            Lack::WholePattern => "WholePattern",
+            Lack::EmptyText => "EmptyText",
         }
     }
 }

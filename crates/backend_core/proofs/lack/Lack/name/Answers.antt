@@ -1,14 +1,16 @@
-use Rattle.std.proofs.Common.{◌≡◌, refl}
+use Rattle.std.proofs.Common.{refl}
 use Rattle.std.specs.Prelude.{codes}
-use Rattle.std.specs.Str.{chars}
 use Rattle.sig_base.proofs.TextLemmas.{ascii_chars}
-use Rattle.backend_core.specs.Lacks.{lack_name}
-use Rattle.backend_core.specs.declared.lack.Lack.{Lack}
-use Rattle.backend_core.specs.declared.lack.Lack.TheVariants.{Many}
 use Rattle.backend_core.proofs.lack.Lack.name.Goals as goal
 
-many : (lack : Lack) → chars (codes "Many") ≡ lack_name lack
-many Many = ascii_chars (codes "Many") refl
+pub returns-in-Many : goal.returns-in-Many
+returns-in-Many c = rw c.in-Many.is (ascii_chars (codes "Many") refl)
 
-pub returns : goal.returns
-returns c = many c.args.self.now
+pub returns-in-Cased : goal.returns-in-Cased
+returns-in-Cased c = rw c.in-Cased.is (ascii_chars (codes "Cased") refl)
+
+pub returns-in-EmptyText : goal.returns-in-EmptyText
+returns-in-EmptyText c = rw c.in-EmptyText.is (ascii_chars (codes "EmptyText") refl)
+
+pub returns-in-WholePattern : goal.returns-in-WholePattern
+returns-in-WholePattern c = rw c.in-WholePattern.is (ascii_chars (codes "WholePattern") refl)

@@ -1,0 +1,10 @@
+mod Names
+mod Rows
+mod Signs
+mod Texts
+mod Terms
+mod Means
+mod Counted
+mod Indexed
+mod CountRows
+mod Answered

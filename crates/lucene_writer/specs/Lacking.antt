@@ -1,0 +1,42 @@
+-- What Lucene lacks: a pattern by case of a field without a twin, a pattern of a field of whole numbers, and the empty text in a
+-- field that may have several values, where NOT `f:?*` says that each value is empty, and not that one is.
+use Rattle.std.specs.Prelude.{ℕ, zero, suc, Bool, true, false, not, ◌&&◌, List, [], ◌∷◌, Option}
+use Rattle.event_schema.specs.declared.schema.Field.{Field}
+use Rattle.sig_strings.specs.declared.part.Part.{Part}
+use Rattle.backend_core.specs.Lacks.{Asks, first_lack}
+use Rattle.backend_core.specs.declared.lack.Lack.{Lack}
+use Rattle.backend_core.specs.declared.tree.Leaf.{Leaf}
+use Rattle.backend_core.specs.declared.tree.LeafTest.{LeafTest}
+use Rattle.backend_core.specs.declared.tree.LeafTest.TheVariants as tests
+use Rattle.lucene_lang.specs.Faults.{is_whole_at}
+
+-- whether field k keeps the case of its texts in a twin, and whether it may have several values
+abbrev pub is_cased : List Field → ℕ → Bool
+is_cased [] k = false
+is_cased (field ∷ fields) zero = field.cased
+is_cased (field ∷ fields) (suc k) = is_cased fields k
+
+abbrev pub is_many : List Field → ℕ → Bool
+is_many [] k = false
+is_many (field ∷ fields) zero = field.many
+is_many (field ∷ fields) (suc k) = is_many fields k
+
+abbrev pub is_empty : List Part → Bool
+is_empty [] = true
+is_empty (p ∷ ps) = false
+
+abbrev pub nothing : Asks
+nothing = record { many = false; cased = false; whole_pattern = false; empty_text = false }
+
+abbrev pub pattern_asks : (cased whole empty : Bool) → Asks
+pattern_asks cased whole empty = record { many = false; cased = cased; whole_pattern = whole; empty_text = empty }
+
+-- of a field that has a twin, is of whole numbers, may have several values
+abbrev pub test_asks : (twin whole many : Bool) → LeafTest → Asks
+test_asks twin whole many tests.Has = nothing
+test_asks twin whole many tests.Absent = nothing
+test_asks twin whole many (tests.Fits pattern cased) = pattern_asks (cased && not twin) whole (many && is_empty pattern)
+test_asks twin whole many (tests.Equals n) = nothing
+
+abbrev pub lucene_lacks : List Field → Leaf → Option Lack
+lucene_lacks fields l = first_lack (test_asks (is_cased fields l.field) (is_whole_at fields l.field) (is_many fields l.field) l.test)

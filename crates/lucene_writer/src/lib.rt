@@ -1,0 +1,17 @@
+//! Trees written as Lucene queries, with the outermost pair of parentheses left out.
+#![tactic(auto)]
+
+mod backend;
+mod counting;
+mod lacking;
+mod law;
+mod place;
+mod putting;
+#[cfg(test)]
+mod tests;
+mod tests_of;
+mod walk;
+mod writer;
+
+pub use law::{patterns_are_terms, schemas_are_indexed, tree_is_query};
+pub use writer::LuceneText;
