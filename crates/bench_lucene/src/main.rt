@@ -1,6 +1,7 @@
-//! Shows how long a query of Lucene takes to be read: the words `UNIT COUNT` are a text, and how often it stands in the
-//! query, which may have 4,194,304 bytes. The schema has one field of texts, `a`. Written is the code of the query's
-//! refusal and its place, or how many clauses were read. (Run it by hand with a clock around it: `time out/bench_lucene '(' 1000000`.)
+//! Shows how long a query of Lucene takes to be read: the words `UNIT COUNT FIELDS` are a text, how often it stands in the
+//! query, which may have 4,194,304 bytes, and how many fields the schema has, all of texts: `winlog.event_data.0` and so on, and
+//! `a`, which is the last. Written is the code of the query's refusal and its place, or how many clauses were read. (Run it by hand
+//! with a clock around it: `time out/bench_lucene 'a:x OR ' 500000 512`.)
 #![tactic(auto)]
 
 use event_schema::{Field, FieldKind, FieldList, Schema};
@@ -9,16 +10,25 @@ use sig_base::{Fault, Limits, Text, Texts};
 use std::alloc::Global;
 use std::{env, io};
 
-fn schema(alloc: Global) -> Result<Schema, Fault> {
-    let mut fields = FieldList::new(alloc);
-    fields.push(Field {
-        name: Text::copy(alloc, "a")?,
+fn field(alloc: Global, name: &str) -> Result<Field, Fault> {
+    Ok(Field {
+        name: Text::copy(alloc, name)?,
         kind: FieldKind::Text,
         at: Texts::new(alloc),
         search: false,
-        cased: false,
+        cased: true,
         many: false,
-    })?;
+    })
+}
+
+/// A schema of so many fields and one more.
+fn schema(alloc: Global, others: usize) -> Result<Schema, Fault> {
+    let mut fields = FieldList::new(alloc);
+    for number in 0..others {
+        let name = format!(in alloc; "winlog.event_data.{number}")?;
+        fields.push(field(alloc, name.as_str())?)?;
+    }
+    fields.push(field(alloc, "a")?)?;
     Ok(Schema {
         table: Text::copy(alloc, "events")?,
         fields,
@@ -35,11 +45,11 @@ fn query_of(alloc: Global, unit: &str, count: usize) -> Result<Vec<u8>, Fault> {
 }
 
 /// How many clauses a query has.
-fn clauses(alloc: Global, unit: &str, count: usize) -> Result<usize, Fault> {
+fn clauses(alloc: Global, unit: &str, count: usize, others: usize) -> Result<usize, Fault> {
     let limits = Limits::standard();
-    let schema = schema(alloc)?;
+    let schema = schema(alloc, others)?;
     let bytes = query_of(alloc, unit, count)?;
-    if bytes.len() > limits.query_bytes || schema.fields.as_slice().len() > 1 {
+    if bytes.len() > limits.query_bytes {
         return Err(Fault::Memory);
     }
     let group = read_query(alloc, &limits, &schema, bytes.as_slice())?;
@@ -56,7 +66,10 @@ fn main(rt: HostRuntime) -> io::Result<()> {
     let (Some(unit), Some(count)) = (words.next(), number(words.next())) else {
         return Err(io::Error::from(io::ErrorKind::InvalidInput));
     };
-    match clauses(rt.alloc(), unit.as_str(), count) {
+    let Some(fields) = number(words.next()) else {
+        return Err(io::Error::from(io::ErrorKind::InvalidInput));
+    };
+    match clauses(rt.alloc(), unit.as_str(), count, fields.saturating_sub(1)) {
         Ok(count) => println!(rt; "{count} clauses"),
         Err(Fault::Memory) => println!(rt; "no memory, or more bytes than a query may have"),
         Err(Fault::Refused(refusal)) => {

@@ -1,5 +1,5 @@
 -- Terms and phrases by their front.
-use Rattle.std.proofs.Common.{ℕ, ◌≡◌, refl, sym, ◌∙◌, ap, Bool, true, false, List, [], ◌∷◌, ◌++◌, subst, ◌⊎◌, inl, inr, ◌<◌, length, arith}
+use Rattle.std.proofs.Common.{ℕ, ◌≡◌, refl, sym, ap, Bool, true, false, List, [], ◌∷◌, ◌++◌, subst, ◌⊎◌, inl, inr, ◌<◌, length, arith}
 use Rattle.std.specs.Prelude.{◌==◌, ◌||◌, ◌&&◌, ◌↔◌, map, IsTrue}
 use Rattle.std.specs.Str.{bytes_eq}
 use Rattle.matching.specs.Suffixes.{SuffixHolds, CharThen}

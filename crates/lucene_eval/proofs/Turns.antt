@@ -1,17 +1,13 @@
 -- Walks over clauses, a turn at a time.
-use Rattle.std.proofs.Common.{◌≡◌, ℕ, ◌+◌, ◌<◌, ◌≤◌, Bool, true, false, ◌&&◌, List, [], ◌∷◌, length, get_or, drop, refl, sym, ap, ◌∙◌}
-use Rattle.std.specs.Prelude.{◌||◌, not, ◌==◌, Option}
+use Rattle.std.proofs.Common.{◌≡◌, ℕ, ◌+◌, ◌<◌, ◌≤◌, Bool, true, false, ◌&&◌, List, ◌∷◌, length, get_or, drop, refl, sym, ap, ◌∙◌}
+use Rattle.std.specs.Prelude.{◌||◌, not}
 use Rattle.std.specs.List.{list_any, list_all}
 use Rattle.std.proofs.lemmas.List.{drop_more, at_drop_all}
-use Rattle.event_schema.specs.declared.value.Value.{Value}
-use Rattle.lucene_lang.specs.declared.query.Atom.{Atom}
-use Rattle.lucene_lang.specs.declared.query.Group.{Group}
 use Rattle.lucene_lang.specs.declared.query.Clause.{Clause}
-use Rattle.lucene_lang.specs.declared.query.Atom.TheFolds.{fold_out-Group, fold_out-Clause, fold_out-Atom}
+use Rattle.lucene_lang.specs.declared.query.Atom.TheFolds.{fold_out-Clause}
 use Rattle.lucene_lang.specs.Query as query
-use Rattle.lucene_lang.specs.Meaning.{atom_holds}
-use Rattle.lucene_lang.specs.View.{Part, group_step, clause_step, atom_step, group_view, clause_view, atom_view, parts_view}
-use Rattle.lucene_eval.specs.Joined.{agrees, is_hit, is_asked}
+use Rattle.lucene_lang.specs.View.{Part, group_step, clause_step, atom_step, clause_view, atom_view, parts_view}
+use Rattle.lucene_eval.specs.Joined.{is_asked}
 
 abbrev pub part_of : Clause → Part
 part_of c = record { negated = c.negated; atom = atom_view c.atom }

@@ -59,24 +59,20 @@ fn same_kept(cased: bool, phrase: &str, text: &str) -> bool
 fn is_above(low: Option<i64>, inside: bool, number: i64) -> bool
     ensures { result ≡ meaning.is_above low inside number }
 {
-    match low {
-        Some(low) => { if inside { low <= number } else { low < number } }
-        None => true,
+    match (low, inside) {
+        (None, _) => true,
+        (Some(low), true) => low <= number,
+        (Some(low), false) => low < number,
     }
 }
 
 fn is_below(high: Option<i64>, inside: bool, number: i64) -> bool
     ensures { result ≡ meaning.is_below high inside number }
 {
-    match high {
-        Some(high) => {
-            if inside {
-                number <= high
-            } else {
-                number < high
-            }
-        }
-        None => true,
+    match (high, inside) {
+        (None, _) => true,
+        (Some(high), true) => number <= high,
+        (Some(high), false) => number < high,
     }
 }
 

@@ -1,6 +1,6 @@
 -- What stands before the end of a twin's name.
 use Rattle.std.proofs.Common.{ℕ, ◌≡◌, ◌-◌, length, take, subst, refl, sym, ◌∙◌, ap, Bool, true, false, List, ◌++◌}
-use Rattle.std.specs.Prelude.{codes, Option, Some, None, encode_utf8_all}
+use Rattle.std.specs.Prelude.{codes, Some, encode_utf8_all}
 use Rattle.std.specs.Str.{chars, bytes_eq, IsUtf8}
 use Rattle.std.specs.Str.Pattern.{FindsTextSuffix}
 use Rattle.std.proofs.lemmas.List.{append_cancel_right}

@@ -3,9 +3,8 @@ use Rattle.std.proofs.Common.{ℕ, zero, suc, ◌≡◌, ◌+◌, refl, sym, ◌
 use Rattle.std.specs.Prelude.{Option, Some, None}
 use Rattle.text_places.specs.Places.{At, CodeAt, nth}
 use Rattle.lucene_lang.specs.declared.query.Word.{Word}
-use Rattle.lucene_lang.specs.declared.query.Word.TheVariants.{And, Or}
 use Rattle.lucene_lang.specs.Tokens.{Sort, Joins, Opening}
-use Rattle.lucene_lang.specs.Grammar.{Group, last, joined, Clause, asked, forbidden, Leaf, Atom, a_leaf, enclosed, spell_clause, spell_atom}
+use Rattle.lucene_lang.specs.Grammar.{Group, last, joined, Clause, asked, forbidden, Atom, enclosed, spell_clause, spell_atom}
 use Rattle.lucene_lang.specs.Faults.{first_word}
 use Rattle.lucene_lang.specs.Machine.{Partial, Complete, Before, before, Level, level, clause_if, group_with, ended, State, Inside}
 use Rattle.lucene_lang.proofs.Sofar.{sofar_before, sofar_not, sofar_level, sofar_outer, sofar, clause_spells}

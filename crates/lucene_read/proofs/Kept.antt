@@ -1,9 +1,9 @@
 -- What is kept of a query's parts: a leaf that is ill asks for nothing, and where none is, the query is what it means.
-use Rattle.std.proofs.Common.{ℕ, zero, suc, ◌≡◌, ◌+◌, refl, sym, ◌∙◌, ap, Bool, true, false, List, [], ◌∷◌, ◌++◌, length, drop, arith}
-use Rattle.std.specs.Prelude.{Option, Some, None, if◌then◌else◌, ◌&&◌, ◌||◌, not, codes, ℤ}
+use Rattle.std.proofs.Common.{ℕ, suc, ◌≡◌, ◌+◌, refl, sym, ◌∙◌, ap, Bool, true, false, List, [], ◌∷◌, ◌++◌, length, drop, arith}
+use Rattle.std.specs.Prelude.{Option, Some, None, if◌then◌else◌, ◌&&◌, ◌||◌, not, ℤ}
 use Rattle.std.specs.Str.{bytes_eq}
 use Rattle.event_schema.specs.declared.schema.Field.{Field}
-use Rattle.text_places.specs.Places.{At, origin, CodeAt, code_at, code_at_if, nth}
+use Rattle.text_places.specs.Places.{At, origin, CodeAt, code_at_if, nth}
 use Rattle.lucene_lang.specs.declared.query.Word.{Word}
 use Rattle.lucene_lang.specs.declared.query.Word.TheVariants.{And}
 use Rattle.lucene_lang.specs.Grammar as grammar
@@ -15,7 +15,7 @@ use Rattle.lucene_lang.specs.Machine.{Before, before, Level, level, clause_if, g
 use Rattle.lucene_lang.specs.View.{Part, part, clauses_of}
 use Rattle.lucene_read.specs.declared.partial.Known.{Known}
 use Rattle.lucene_read.specs.declared.partial.Bound.{Bound}
-use Rattle.lucene_read.specs.declared.partial.Bound.TheVariants.{Unbounded, At as Number, Far}
+use Rattle.lucene_read.specs.declared.partial.Bound.TheVariants.{Unbounded}
 use Rattle.lucene_read.specs.Known.{known, known_in, number_in, bound_if, bound_number, is_far, ill_if, ill_of, Name, name_at, Leafed, leaf_with, leaf_for}
 use Rattle.lucene_read.specs.Steps as steps
 use Rattle.lucene_read.specs.Steps.{first_of, word_or_and, ranged}

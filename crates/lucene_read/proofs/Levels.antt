@@ -1,9 +1,9 @@
 -- Levels and clauses, one more or one less.
-use Rattle.std.proofs.Common.{ℕ, ◌≡◌, subst, refl, sym, ◌∙◌, ap, List, [], ◌∷◌, ◌++◌}
+use Rattle.std.proofs.Common.{ℕ, ◌≡◌, ◌==◌, subst, refl, sym, ◌∙◌, ap, Bool, true, false, List, [], ◌∷◌, ◌++◌, length}
 use Rattle.lucene_lang.specs.declared.query.Clause.{Clause}
 use Rattle.lucene_lang.specs.View.{Part, clause_view, parts_view}
 use Rattle.lucene_read.specs.declared.partial.Level.{Level}
-use Rattle.std.specs.Prelude.{Option, Some, Result, Err}
+use Rattle.std.specs.Prelude.{Some, Result, Err}
 use Rattle.sig_base.specs.declared.refusal.Place.{Place}
 use Rattle.sig_base.specs.declared.refusal.Fault.{Fault}
 use Rattle.sig_base.specs.declared.refusal.Fault.TheVariants.{Refused}
@@ -28,9 +28,16 @@ closed g a all ls l w same is =
     ap (λ (b : Atom). Some (steps.state (steps.Whole b) (level_view l) (levels_view ls) w)) same
     ∙ sym (ap (λ (ms : List steps.Level). steps.close g ms w) (ap levels_view is ∙ levels_more ls l))
 
-pub not_ended : (a : Atom) (l : steps.Level) (all ls : List Level) (m : Level) (w : steps.Wrong) (end : At) → all ≡ ls ++ m ∷ []
+open_level : (a : Atom) (l : steps.Level) (ls : List steps.Level) (m : steps.Level) (w : steps.Wrong) (end : At) → steps.ends (steps.Whole a) l (ls ++ m ∷ []) w end ≡ Err (code_at 130 end)
+open_level a l [] m w end = refl
+open_level a l (k ∷ ls) m w end = refl
+
+pub not_ended : (a : Atom) (l : steps.Level) (all : List Level) (n : ℕ) (b : Bool) (w : steps.Wrong) (end : At) → n ≡ length all → b ≡ (n == 0) → b ≡ false
     → steps.ends (steps.Whole a) l (levels_view all) w end ≡ Err (code_at 130 end)
-not_ended a l all ls m w end is = ap (λ (ms : List steps.Level). steps.ends (steps.Whole a) l ms w end) (ap levels_view is ∙ levels_more ls m)
+not_ended a l [] n b w end long is some =
+    let bad : true ≡ false = ap (λ (k : ℕ). k == 0) (sym long) ∙ (sym is ∙ some) in
+    absurd cc
+not_ended a l (m ∷ ls) n b w end long is some = open_level a l (levels_view ls) (level_view m) w end
 
 pub refused_as : (x : Fault) (code : ℕ) (p : Place) (v : Result Group CodeAt) → x ≡ Refused (refusal code p) → v ≡ Err (code_at code (place_view p)) → Answers (Err x) v
 refused_as x code p v is told = subst (λ (y : Fault). Answers (Err y) v) (sym is) (told, refl)

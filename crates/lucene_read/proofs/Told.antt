@@ -1,22 +1,22 @@
 -- The reader's steps are those of the reading token by token, with what is kept of its state and the faults so far.
-use Rattle.std.proofs.Common.{ℕ, zero, suc, ◌≡◌, ◌+◌, ◌-◌, refl, sym, ◌∙◌, ap, Bool, true, false, List, [], ◌∷◌, ◌++◌, length, drop, append_assoc, append-nil, length-append, subst, arith}
-use Rattle.std.specs.Prelude.{Option, Some, None, Result, Ok, Err, if◌then◌else◌, codes, map}
+use Rattle.std.proofs.Common.{ℕ, ◌≡◌, ◌+◌, ◌-◌, refl, sym, ◌∙◌, ap, Bool, true, false, List, [], ◌∷◌, ◌++◌, length, drop, append_assoc, append-nil, length-append, subst, arith}
+use Rattle.std.specs.Prelude.{Option, Some, None, Ok, Err, if◌then◌else◌}
 use Rattle.event_schema.specs.declared.schema.Field.{Field}
 use Rattle.event_schema.specs.declared.schema.Schema.{Schema}
 use Rattle.text_places.specs.Places.{At, origin, place_after, CodeAt, code_at, code_at_if, nth}
 use Rattle.text_places.specs.Tokens.{sorts, places, token_place}
 use Rattle.lucene_lang.specs.declared.query.Word.{Word}
-use Rattle.lucene_lang.specs.Tokens.{Token, Sort, Joins, Not, Star, Wild, To, Decimal, Plain, Phrase, Opening, Closing, Opens, Closes, Colon, Unclosed, tokens}
+use Rattle.lucene_lang.specs.Tokens.{Token, Sort, Joins, Not, Star, Wild, To, Decimal, Plain, Phrase, Opening, Closing, Opens, Closes, Colon, tokens}
 use Rattle.lucene_lang.specs.Grammar as grammar
 use Rattle.lucene_lang.specs.Grammar.{Name, to, decimal, plain, star, wild, exact, a_term, a_phrase, a_range, Value, Leaf, everything, sought, last, joined, asked, forbidden, a_leaf, enclosed, spell_atom, spell_clause}
 use Rattle.lucene_lang.specs.Query as query
 use Rattle.lucene_lang.specs.Query.{Atom, OfGroup, Everything, name_text, found_in, group_of}
-use Rattle.lucene_lang.specs.Faults.{differs, first_word, group_mixed, clause_mixed, atom_mixed, group_faults, clause_faults, atom_faults, found_faults, leaf_faults, query_faults}
+use Rattle.lucene_lang.specs.Faults.{differs, group_mixed, clause_mixed, atom_mixed, group_faults, clause_faults, atom_faults, found_faults, leaf_faults}
 use Rattle.lucene_lang.specs.Machine as machine
 use Rattle.lucene_lang.specs.Machine.{Partial, Start, Starred, StarColon, Named, Seeking, Ranging, Low, Upto, High, Complete, Before, before, Level, level, clause_if, ended, State, Inside, begun}
 use Rattle.lucene_lang.specs.Verdict.{on_faults, on_query}
 use Rattle.lucene_lang.proofs.Sofar.{sofar_level, sofar_outer, sofar, Grows, step_grows}
-use Rattle.lucene_read.specs.Known.{known_in, Leafed}
+use Rattle.lucene_read.specs.Known.{Leafed}
 use Rattle.lucene_read.specs.Steps as steps
 use Rattle.lucene_read.specs.Steps.{first_of, mixed_at, with_ill, wrong}
 use Rattle.lucene_read.proofs.Faulty as faulty

@@ -1,5 +1,5 @@
 -- Names of fields, leaves and numbers, as the reader finds them.
-use Rattle.std.specs.Prelude.{ℕ, zero, suc, ◌^◌, Bool, true, false, if◌then◌else◌, nat_lt, List, [], ◌∷◌, Option, Some, None, ℤ, pos}
+use Rattle.std.specs.Prelude.{ℕ, suc, ◌^◌, Bool, true, false, if◌then◌else◌, nat_lt, List, [], ◌∷◌, Option, Some, None, ℤ, pos}
 use Rattle.std.specs.Str.{bytes_eq}
 use Rattle.event_schema.specs.declared.schema.Field.{Field}
 use Rattle.text_places.specs.Places.{At, CodeAt, code_at}
@@ -74,7 +74,7 @@ abbrev pub ill_of : Option Known → At → (text_ill : Bool) → (whole_ill : B
 ill_of None p text_ill whole_ill = Some (code_at 132 p)
 ill_of (Some k) p text_ill whole_ill = ill_if (if k.whole then whole_ill else text_ill) p
 
--- an ill leaf asks for nothing
+-- an ill leaf is kept as *:*, since its query is refused
 abbrev pub leaf_with : Option Known → Option CodeAt → Sought → Leafed
 leaf_with None ill s = record { atom = Everything; ill = ill }
 leaf_with (Some k) None s = record { atom = OfField k.field k.cased s; ill = None }

@@ -1,8 +1,8 @@
 -- The reader's own steps: what was read of a query as the code keeps it, and what the next token makes of it.
-use Rattle.std.specs.Prelude.{ℕ, Bool, true, false, not, ◌&&◌, ◌||◌, if◌then◌else◌, List, [], ◌∷◌, ◌++◌, map, codes, Option, Some, None, Result, Ok, Err}
+use Rattle.std.specs.Prelude.{ℕ, Bool, true, false, not, ◌||◌, if◌then◌else◌, List, [], ◌∷◌, ◌++◌, map, codes, Option, Some, None, Result, Ok, Err}
 use Rattle.event_schema.specs.declared.schema.Field.{Field}
-use Rattle.text_places.specs.Places.{At, CodeAt, code_at}
-use Rattle.lucene_lang.specs.declared.query.Glyph.{Glyph}
+use Rattle.text_places.specs.Places.{At, origin, CodeAt, code_at}
+use Rattle.text_places.specs.Tokens.{sorts}
 use Rattle.lucene_lang.specs.declared.query.Glyph.TheVariants.{Char, Run}
 use Rattle.lucene_lang.specs.declared.query.Word.{Word}
 use Rattle.lucene_lang.specs.declared.query.Word.TheVariants.{And}
@@ -11,6 +11,7 @@ use Rattle.lucene_lang.specs.Query as query
 use Rattle.lucene_lang.specs.Query.{Group, a_group, Atom, Everything, OfGroup, Term, Range, glyphs}
 use Rattle.lucene_lang.specs.View.{Part, part, clauses_of}
 use Rattle.lucene_lang.specs.Faults.{is_number, differs, first_word}
+use Rattle.lucene_lang.specs.Reading.{first_outside, opens_too_far}
 use Rattle.lucene_read.specs.declared.partial.Bound.{Bound}
 use Rattle.lucene_read.specs.declared.partial.Bound.TheVariants.{Unbounded}
 use Rattle.lucene_read.specs.Known.{known_in, bound_if, bound_number, is_far, number_in, Name, name_at, Leafed, leaf_for}
@@ -229,3 +230,19 @@ on_step (Some s) go p = go s
 abbrev pub run : List Field → State → List Token → At → Result Group CodeAt
 run fields s [] end = finish s end
 run fields s (t ∷ ts) end = on_step (step fields s t) (λ u. run fields u ts end) t.place
+
+-- ---- the whole
+
+-- 131 before 135
+abbrev pub first_cause : Option At → Bool → Option CodeAt
+first_cause (Some p) far = Some (code_at 131 p)
+first_cause None true = Some (code_at 135 origin)
+first_cause None false = None
+
+-- either before the reading
+abbrev pub unless : Option CodeAt → Result Group CodeAt → Result Group CodeAt
+unless (Some f) r = Err f
+unless None r = r
+
+abbrev pub verdict : ℕ → List Field → List Token → At → Result Group CodeAt
+verdict limit fields ts end = unless (first_cause (first_outside false ts) (opens_too_far limit 0 0 (sorts ts))) (run fields begun ts end)

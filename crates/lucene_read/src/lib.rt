@@ -1,4 +1,4 @@
-//! The reader of Lucene queries: from tokens to the query that they are under a schema, or the first refusal.
+//! The reader of Lucene queries: the query that bytes are under a schema, or their first refusal.
 #![tactic(auto)]
 
 mod leaves;

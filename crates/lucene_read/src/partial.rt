@@ -48,7 +48,7 @@ pub struct Ill {
     pub place: Place,
 }
 
-/// A whole leaf, and what is wrong with it; an ill one asks for nothing.
+/// A whole leaf, and what is wrong with it; an ill one is kept as `*:*`, since its query is refused.
 #[derive(Drop)]
 pub struct Leaf {
     pub atom: Atom,

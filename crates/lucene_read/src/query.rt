@@ -1,15 +1,17 @@
 //! The query that bytes are.
 
-ghost use Rattle.std.specs.Prelude.{◌≡◌, ◌≤◌, ◌<◌, ◌+◌, ◌^◌, length, IsUtf8, IfOk, IfErr};
+ghost use Rattle.std.specs.Prelude.{◌≡◌, ◌≤◌, ◌<◌, ◌+◌, ◌^◌, false, length, IsUtf8, IfOk, IfErr};
 ghost use Rattle.std.specs.Str.{chars};
+ghost use Rattle.lucene_lang.specs.Reading as reading;
 ghost use Rattle.lucene_lang.specs.Reading.{BytesRead, BytesRefused};
 ghost use Rattle.lucene_lang.specs.Verdict.{verdict};
 ghost use Rattle.lucene_lang.specs.View.{group_view};
+ghost use Rattle.text_places.specs.Tokens.{sorts};
 ghost use Rattle.lucene_read.specs.Answers.{Answers, IfRefused};
 ghost use Rattle.lucene_read.specs.Steps as steps;
 ghost use Rattle.lucene_read.specs.View.{place_view, mixed_if, ill_if, state_view, tokens_view};
 
-use crate::partial::{Now, Partial, State, Wrong};
+use crate::partial::{Ill, Now, Partial, State, Wrong};
 use crate::stepping::{ended, no_clauses, step};
 use event_schema::{Field, Schema};
 use lucene_lang::Group;
@@ -51,20 +53,21 @@ fn finish(state: State, end: Place) -> Result<Group, Fault>
     let State {
         now,
         level,
-        mut outer,
+        outer,
         wrong,
     } = state;
     let Now::Whole(atom) = now else {
         return Err(refused(Code::LUCENE_SYNTAX, end));
     };
-    if let Some(_) = outer.pop() {
+    if !outer.is_empty() {
         return Err(refused(Code::LUCENE_SYNTAX, end));
     }
     let group = ended(level, atom)?;
     judged(wrong, group)
 }
 
-/// The query that tokens are, where none is left out of the language; the text ends at this place.
+/// The query that tokens are, where none is left out of the language; the text ends at this place. More fields than can be
+/// numbered are want of memory.
 #[tactic(auto, using(crate::proofs::Stepped::goes_on, crate::proofs::Stepped::stops))]
 fn read_tokens(
     alloc: Global,
@@ -72,9 +75,11 @@ fn read_tokens(
     tokens: &[Token],
     end: Place,
 ) -> Result<Group, Fault>
-    requires { length fields.now < 2 ^ 32 }
     ensures { Answers result (steps.run fields.now steps.begun (tokens_view tokens.now) (place_view end)) }
 {
+    if fields.len() > u32::MAX as usize {
+        return Err(Fault::Memory);
+    }
     let mut state = begun(alloc);
     for token in tokens {
         let Some(next) = step(alloc, fields, state, token)? else {
@@ -85,24 +90,54 @@ fn read_tokens(
     finish(state, end)
 }
 
+/// A token that is left out of the language, or else parentheses that nest too far.
+fn first_cause(limit: usize, tokens: &[Token]) -> Option<Ill>
+    ensures { ill_if result ≡ steps.first_cause (reading.first_outside false (tokens_view tokens.now)) (reading.opens_too_far limit 0 0 (sorts (tokens_view tokens.now))) }
+{
+    if let Some(place) = first_outside(tokens) {
+        return Some(Ill {
+            code: Code::LUCENE_OUTSIDE,
+            place,
+        });
+    }
+    if opens_too_far(limit, tokens) {
+        return Some(Ill {
+            code: Code::LUCENE_DEPTH,
+            place: Place { line: 1, column: 1 },
+        });
+    }
+    None
+}
+
+/// The query that tokens are, or their first refusal; the text ends at this place.
+fn judge(
+    alloc: Global,
+    limit: usize,
+    fields: &[Field],
+    tokens: &[Token],
+    end: Place,
+) -> Result<Group, Fault>
+    ensures { Answers result (steps.verdict limit fields.now (tokens_view tokens.now) (place_view end)) }
+{
+    if let Some(ill) = first_cause(limit, tokens) {
+        return Err(refused(ill.code, ill.place));
+    }
+    read_tokens(alloc, fields, tokens, end)
+}
+
 /// The query that a text is, or its first refusal.
 fn read_text(alloc: Global, limit: usize, schema: &Schema, text: &str) -> Result<Group, Fault>
-    requires few { length schema.now.fields < 2 ^ 32 }
     requires short { length text.now < 2 ^ 31 }
     ensures { Answers result (verdict limit schema.now (chars text.now)) }
 {
     let tokens = scan(alloc, text)?;
-    if let Some(place) = first_outside(tokens.as_slice()) {
-        return Err(refused(Code::LUCENE_OUTSIDE, place));
-    }
-    if opens_too_far(limit, tokens.as_slice()) {
-        return Err(refused(Code::LUCENE_DEPTH, Place::START));
-    }
-    read_tokens(
+    let end = place_behind(text);
+    judge(
         alloc,
+        limit,
         schema.fields.as_slice(),
         tokens.as_slice(),
-        place_behind(text),
+        end,
     )
 }
 
@@ -114,17 +149,16 @@ fn as_text(bytes: &[u8]) -> &str
     std::str::from_utf8(bytes).unwrap()
 }
 
-/// The query that these bytes are under this schema, after Lucene's classic query syntax, in as many steps as there are
-/// bytes, each over the schema's fields. Refuses 1 at the first byte that is no UTF-8, and else the first of these: 131, a
-/// token that is left out of the language; 135, more open parentheses than `lucene_depth`; 130, where the text stops being
-/// a query; 134, a group with both words; 132 and 133, a name or a kind that isn't the schema's.
+/// The query that these bytes are under this schema, after Lucene's classic query syntax. Refuses 1 at the first byte that is no
+/// UTF-8, and else the first of these: 131, a token that is left out of the language; 135, more open parentheses than
+/// `lucene_depth`; 130, where the text stops being a query; 134, a group with both words; 132 and 133, a name or a kind that
+/// isn't the schema's. A schema of 2^32 fields and more, which can't be numbered, is want of memory.
 pub fn read_query(
     alloc: Global,
     limits: &Limits,
     schema: &Schema,
     bytes: &[u8],
 ) -> Result<Group, Fault>
-    requires few { length schema.now.fields < 2 ^ 32 }
     requires short { length bytes.now ≤ limits.now.query_bytes + 1 }
     ensures ok { IfOk result (λ g. BytesRead limits.now.lucene_depth schema.now bytes.now (group_view g)) }
     ensures refused { IfErr result (λ e. IfRefused e (BytesRefused limits.now.lucene_depth schema.now bytes.now)) }

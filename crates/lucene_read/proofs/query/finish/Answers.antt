@@ -6,9 +6,9 @@ use Rattle.lucene_read.specs.View.{place_view, now_view, level_view, levels_view
 use Rattle.lucene_read.proofs.Levels.{not_ended, refused_as}
 use Rattle.lucene_read.proofs.query.finish.Goals as goal
 
-pub returns-in-Some : goal.returns-in-Some
-returns-in-Some c =
+pub returns-then-not-is_empty : goal.returns-then-not-is_empty
+returns-then-not-is_empty c =
     let s = c.args.state in
-    refused_as c.refused-in-Some.result 130 c.args.end _ c.refused-in-Some.ensures
+    refused_as c.refused-then-not-is_empty.result 130 c.args.end _ c.refused-then-not-is_empty.ensures
     (ap (λ (n : Now). ends (now_view n) (level_view s.level) (levels_view s.outer.items) (wrong_view s.wrong) (place_view c.args.end)) c.in-Whole.is
-    ∙ not_ended (atom_view c.in-Whole.atom) (level_view s.level) s.outer.items c.pop.new.self.items c.in-Some.field-0 (wrong_view s.wrong) (place_view c.args.end) c.in-Some.ensures.items)
+    ∙ not_ended (atom_view c.in-Whole.atom) (level_view s.level) s.outer.items _ c.is_empty.result (wrong_view s.wrong) (place_view c.args.end) s.outer.ok.0 c.is_empty.ensures c.if-not-is_empty.true)

@@ -1,6 +1,4 @@
-use Rattle.std.proofs.Common.{◌≡◌, drop}
-use Rattle.lucene_read.specs.Steps.{run, begun}
-use Rattle.lucene_read.specs.View.{place_view, state_view, tokens_view}
+use Rattle.lucene_read.specs.View.{place_view, state_view}
 use Rattle.lucene_read.proofs.Stepped.{Decides}
 use Rattle.lucene_read.proofs.query.read_tokens.Given as goal
 

@@ -1,5 +1,4 @@
-use Rattle.std.proofs.Common.{sym, ◌∙◌, ap, map-id, List, ℕ}
-use Rattle.std.specs.Str.{chars}
+use Rattle.std.proofs.Common.{sym, ◌∙◌, ap, map-id}
 use Rattle.std.proofs.lemmas.Iterator.{YieldsList-from_chars}
 use Rattle.std.proofs.lemmas.Iterator.Consumers.{YieldsList-end}
 use Rattle.text_places.specs.Places.{origin, place_after}
