@@ -1,0 +1,11 @@
+//! Lucene as a language whose queries are read and asked of events.
+#![tactic(auto)]
+
+mod asking;
+mod language;
+mod laws;
+#[cfg(test)]
+mod tests;
+
+pub use language::LuceneReader;
+pub use laws::same_queries;
