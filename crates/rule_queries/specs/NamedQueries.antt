@@ -6,11 +6,18 @@ use Rattle.backend_core.specs.declared.lack.Lack.{Lack}
 use Rattle.backend_core.specs.declared.tree.Leaf.{Leaf}
 use Rattle.event_schema.specs.declared.schema.Schema.{Schema}
 use Rattle.event_schema.specs.declared.value.Value.{Value}
+use Rattle.lucene_lang.specs.Meaning.{LuceneSelects}
+use Rattle.lucene_lang.specs.Query.{Group}
+use Rattle.lucene_lang.specs.Reading as lucene_reading
+use Rattle.lucene_queries.specs.Queries as lucene_queries
+use Rattle.lucene_writer.specs.Lacking.{lucene_lacks}
+use Rattle.lucene_writer.specs.Queries as lucene
+use Rattle.lucene_writer.specs.Refused as lucene_refused
 use Rattle.rule_model.specs.Plain.{PlainRule}
 use Rattle.rule_queries.specs.Queries as queries
 use Rattle.rule_queries.specs.Verdicts as verdicts
 use Rattle.rule_queries.specs.declared.backend_name.BackendName.{BackendName}
-use Rattle.rule_queries.specs.declared.backend_name.BackendName.TheVariants.{Sqlite}
+use Rattle.rule_queries.specs.declared.backend_name.BackendName.TheVariants.{Sqlite, Lucene}
 use Rattle.sig_base.specs.declared.limits.Limits.{Limits}
 use Rattle.sig_base.specs.declared.refusal.Fault.{Fault}
 use Rattle.sig_base.specs.declared.refusal.Place.{Place}
@@ -28,32 +35,39 @@ use Rattle.yaml_tree.specs.Tree.{Tree}
 -- what it lacks for a leaf
 abbrev pub missing : BackendName → Schema → Leaf → Option Lack
 missing Sqlite schema l = sqlite_lacks schema.fields l
+missing Lucene schema l = lucene_lacks schema.fields l
 
 -- its text of a tree
 abbrev pub text : BackendName → Schema → Plain → List ℕ
 text Sqlite = query_bytes
+text Lucene = lucene.query_bytes
 
 -- how it refuses a tree for its depth or its number of clauses
 abbrev pub too_deep : BackendName → Limits → Schema → Plain → Place → Option Refusal
 too_deep Sqlite = deep_refusal
+too_deep Lucene = lucene_refused.deep_refusal
 
 -- ---- the language that it writes. (No field that a query of SQLite tests has more than one value, and the query selects an event as
 -- the row with the first value of each field.)
 
 abbrev pub Query : BackendName → Type 0
 Query Sqlite = Expr
+Query Lucene = Group
 
 -- which bytes are which query of a schema
 abbrev pub is_query : (backend : BackendName) → Schema → List ℕ → Query backend → Type 0
 is_query Sqlite = Reads
+is_query Lucene = lucene_reading.Reads
 
 -- which are one within the limits
 abbrev pub is_within : (backend : BackendName) → Limits → Schema → List ℕ → Query backend → Type 0
 is_within Sqlite = IsWithin
+is_within Lucene = lucene_queries.IsWithin
 
 -- which rows it picks
 abbrev pub picks : (backend : BackendName) → Query backend → List (List Value) → Type 0
 picks Sqlite = Picks
+picks Lucene = LuceneSelects
 
 -- ---- rules and their queries
 

@@ -5,4 +5,6 @@
 pub enum BackendName {
     /// queries of SQLite
     Sqlite,
+    /// queries of Lucene
+    Lucene,
 }

@@ -14,6 +14,7 @@ ghost use Rattle.yaml_tree.specs.View.{node_view};
 use crate::backend_name::BackendName;
 use crate::{converting, law};
 use event_schema::Schema;
+use lucene_writer::LuceneText;
 use sig_base::{Bytes, Fault, Limits};
 use sqlite_writer::Sqlite;
 use std::alloc::Global;
@@ -31,6 +32,7 @@ pub fn convert_node(
 {
     match backend {
         BackendName::Sqlite => converting::convert_node(&Sqlite, alloc, limits, given, node),
+        BackendName::Lucene => converting::convert_node(&LuceneText, alloc, limits, given, node),
     }
 }
 
@@ -40,4 +42,5 @@ pub fn queries_mean_rules()
         → HasScalarTexts t → IsConverted backend limits given t rule → Converts backend limits given rule (query_of backend given rule) }
 {
     law::queries_mean_rules::<Sqlite>();
+    law::queries_mean_rules::<LuceneText>();
 }

@@ -7,7 +7,6 @@ pub mod Laws
 pub mod Ran
 pub mod Reports
 pub mod RuleFiles
-pub mod Selected
 pub mod Served
 pub mod UnderSchema
 pub mod Words

@@ -8,11 +8,11 @@ use Rattle.rule_matching.specs.Matching.{Matches}
 use Rattle.rule_model.specs.Plain.{PlainRule}
 use Rattle.rule_runs.specs.Runs.{IsRun, IsNotRun}
 use Rattle.rule_schema.specs.Inferred.{schema_for}
+use Rattle.selected_lines.specs.Selected.{Selects}
 use Rattle.sig_base.specs.declared.limits.Limits.{Limits}
 use Rattle.sig_base.specs.declared.refusal.Refusal.{Refusal}
 use Rattle.sigma_app.specs.Reports.{refusal_share}
 use Rattle.sigma_app.specs.RuleFiles.{contents}
-use Rattle.sigma_app.specs.Selected.{Selects}
 use Rattle.sigma_app.specs.UnderSchema.{UnderSchema, file_part}
 
 -- what a line of events is answered where a rule is run under a schema

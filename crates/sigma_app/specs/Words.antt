@@ -7,7 +7,7 @@ use Rattle.command_words.specs.Table.{row_of, backend, schema, IsGiven}
 use Rattle.command_words.specs.declared.command_name.CommandName.{CommandName}
 use Rattle.command_words.specs.declared.command_name.CommandName.TheVariants as commands
 use Rattle.rule_queries.specs.declared.backend_name.BackendName.{BackendName}
-use Rattle.rule_queries.specs.declared.backend_name.BackendName.TheVariants.{Sqlite}
+use Rattle.rule_queries.specs.declared.backend_name.BackendName.TheVariants.{Sqlite, Lucene}
 use Rattle.sigma_app.specs.declared.request.Request.{Request}
 use Rattle.sigma_app.specs.declared.request.Request.TheVariants.{Check, Convert, Run}
 
@@ -27,6 +27,7 @@ schema_in items = option_map chars (value_of schema items)
 abbrev pub backend_names : List (List ℕ × BackendName)
 backend_names =
     (codes "sqlite", Sqlite)
+    ∷ (codes "lucene", Lucene)
     ∷ []
 
 -- the first of these that goes by the word

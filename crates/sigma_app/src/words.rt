@@ -89,6 +89,9 @@ fn backend_named(name: &str) -> Option<BackendName>
     if name.as_bytes() == b"sqlite".as_slice() {
         return Some(BackendName::Sqlite);
     }
+    if name.as_bytes() == b"lucene".as_slice() {
+        return Some(BackendName::Lucene);
+    }
     None
 }
 

@@ -12,13 +12,13 @@ ghost use Rattle.sigma_app.specs.Ran.{RunGives, RanUnder, Ran};
 use crate::documents::put_refusal;
 use crate::given_schema::{SchemaCommand, answer_schema};
 use crate::law::each_answer;
-use crate::selecting::put_picked;
 use answer_parts::{LineCommand, Outside, Stop, answer_lines, read_file, tell_line_refusal};
 use detection_eval::Ready;
 use event_reading::read_event;
 use event_schema::Schema;
 use rule_model::Rule;
 use rule_runs::{rule_alone, rule_under};
+use selected_lines::put_picked;
 use sig_base::{Bytes, Fault, Limits, Text};
 use std::alloc::Global;
 

@@ -178,6 +178,45 @@ fn refuses_what_has_no_query(rt: HostRuntime) -> Result<(), Fail> {
 
 /// A refusal in one document leaves the others as they are, in one file and in several.
 #[test]
+fn converts_rules_for_lucene(rt: HostRuntime) -> Result<(), Fail> {
+    let limits = Limits::standard();
+    let words: [&str; 4] = ["convert", "--backend", "lucene", "r.yml"];
+    let cases: [(&str, &str, &str); 4] = [
+        ("Image: cmd.exe", "selection", "Image:cmd.exe\n"),
+        (
+            "Image: cmd.exe",
+            "not selection",
+            "*:* AND NOT Image:cmd.exe\n",
+        ),
+        (
+            "Image: 'C:\\Windows\\\\*'",
+            "selection",
+            "Image:C\\:\\\\Windows\\\\*\n",
+        ),
+        ("Field: ''", "selection", "Field:* AND NOT Field:?*\n"),
+    ];
+    for (line, condition, want) in cases {
+        let file = rule_of(rt.alloc(), &[line], condition)?;
+        check(
+            &rt,
+            &run_on(rt.alloc(), &words, &limits, file.as_str())?,
+            0,
+            want,
+            "",
+        );
+    }
+    let file = rule_of(rt.alloc(), &["Name|cased: AND"], "selection")?;
+    check(
+        &rt,
+        &run_on(rt.alloc(), &words, &limits, file.as_str())?,
+        1,
+        "",
+        "r.yml:6:5: 111 Lacks Cased\n",
+    );
+    Ok(())
+}
+
+#[test]
 fn answers_each_document(rt: HostRuntime) -> Result<(), Fail> {
     let limits = Limits::standard();
     let five = format!(in rt.alloc(); "{FOUR}---\n{RULE}")?;

@@ -21,7 +21,7 @@ fn accepts_no_other_words(rt: HostRuntime) -> Result<(), Fail> {
         &["convert"],
         &["convert", "b.yml"],
         &["convert", "--backend", "sqlite"],
-        &["convert", "--backend", "lucene", "b.yml"],
+        &["convert", "--backend", "lucenes", "b.yml"],
         &["convert", "--backend", "sqlite", "b.yml", ""],
         &["checks", "b.yml"],
         &[
@@ -60,11 +60,12 @@ fn accepts_no_other_words(rt: HostRuntime) -> Result<(), Fail> {
 fn accepts_commands_over_rules(rt: HostRuntime) -> Result<(), Fail> {
     let limits = Limits::standard();
     let files: [(&str, &[u8]); 1] = [("b.yml", FOUR.as_bytes())];
-    let commands: [&[&str]; 6] = [
+    let commands: [&[&str]; 7] = [
         &["check", "b.yml"],
         &["check", "--", "b.yml"],
         &["convert", "--backend", "sqlite", "b.yml"],
         &["convert", "--backend=sqlite", "b.yml"],
+        &["convert", "--backend=lucene", "b.yml"],
         &["convert", "b.yml", "--backend=sqlite"],
         &["convert", "--backend", "sqlite", "--", "b.yml"],
     ];

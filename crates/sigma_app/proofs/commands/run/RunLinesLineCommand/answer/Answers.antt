@@ -7,7 +7,7 @@ use Rattle.rule_matching.specs.Matching.{Matches}
 use Rattle.rule_model.specs.Plain.{rule_view}
 use Rattle.sig_base.specs.declared.refusal.Fault.TheVariants.{Refused}
 use Rattle.sig_base.specs.declared.refusal.Place.{Place}
-use Rattle.sigma_app.proofs.Selected.{event_gives, refused_gives}
+use Rattle.selected_lines.proofs.Selected.{event_gives, refused_gives}
 use Rattle.sigma_app.specs.Ran.{RunGives}
 use Rattle.sigma_app.proofs.commands.run.RunLinesLineCommand.answer.Goals as goal
 
