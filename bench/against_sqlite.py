@@ -1,7 +1,7 @@
 #!/usr/bin/env python3
 """Tries converted rules in a real SQLite. Run by hand; it needs Python 3 with its `sqlite3` and a built program.
 
-    python3 bench/against_sqlite.py PROGRAM [--rules N] [--seed S] [--indexes] [--schema] [--run]
+    python3 bench/against_sqlite.py PROGRAM [--rules N] [--seed S] [--indexes] [--schema] [--run] [--query] [--lucene]
 
 PROGRAM is the built program, as crates/sigma_app/out/sigma_app. It makes N small rules of odd values (wildcards, escapes, quotes,
 signs of LIKE and GLOB, letters beyond ASCII, numbers, null, lists, each modifier, conditions that nest; one in 200 has a list of
@@ -19,6 +19,10 @@ keywords search: rules then ask it for numbers, for texts that are decimals and 
 
 With --run each rule is also run by the program over 20 events as JSON lines, null values written or left out: it has to write the lines of
 the events that SQLite selects, and to refuse a rule where a selector takes nothing with the line that converting it has.
+
+With --query each query that was written is also asked by the program, in a file with the line feed behind it as it was written, of such events: it
+has to be read, and to select the same events. With --lucene the same is tried of the Lucene queries of the rules, under a schema whose text fields keep
+their case in a twin; those for which Lucene lacks something (111) or that have too many clauses (113) are counted apart.
 """
 import argparse
 import json
@@ -280,33 +284,38 @@ def matches(condition, detections, event):
 # ---- the trial
 
 
-def schema_words(folder):
-    """The option for the schema's file, which is written here, if there is one."""
-    if not WHOLE:
+def schema_words(folder, always=False):
+    """The option for the schema's file, which is written here, if there is one or if it's wanted always."""
+    if not WHOLE and not always:
         return []
-    fields = [{"name": field, "kind": "whole" if field in WHOLE else "text", "search": field in SEARCHED} for field in FIELDS]
+    fields = [{"name": field, "kind": "whole" if field in WHOLE else "text", "search": field in SEARCHED, "cased": field not in WHOLE} for field in FIELDS]
     with open(os.path.join(folder, "schema.json"), "w", encoding="utf-8") as file:
         json.dump({"fields": fields}, file)
     return ["--schema", "schema.json"]
 
 
-def converted(program, folder, rules):
-    """The query of each rule, or the line of its refusal."""
+def converted(program, folder, rules, backend):
+    """The query of each rule for a backend, or the line of its refusal."""
     names = [f"{number}.yml" for number in range(len(rules))]
     for name, (text, _, _) in zip(names, rules):
         with open(os.path.join(folder, name), "w", encoding="utf-8", newline="") as file:
             file.write(text)
-    ran = subprocess.run([program, "convert", "--backend", "sqlite", *schema_words(folder), *names], cwd=folder, capture_output=True)
+    words = ["convert", "--backend", backend, *schema_words(folder, backend == "lucene"), *names]
+    ran = subprocess.run([program, *words], cwd=folder, capture_output=True)
     lines = {line.split(":")[0]: line for line in ran.stderr.decode().splitlines()}
     queries = iter(ran.stdout.decode().split("\n"))
     return [(None, lines[name]) if name in lines else (next(queries), None) for name in names]
 
 
-def run_lines(program, folder, name, rng, events):
-    """The numbers of the events whose lines the program writes for the rule, and its diagnostics."""
-    lines = [json.dumps({"number": number, **{field: value for field, value in event.items() if value is not None or rng.randrange(2)}})
-             for number, event in enumerate(events)]
-    ran = subprocess.run([program, "run", *schema_words(folder), name], cwd=folder, capture_output=True, input="\n".join(lines).encode())
+def event_lines(rng, events):
+    """The events as JSON lines, null values written or left out."""
+    return [json.dumps({"number": number, **{field: value for field, value in event.items() if value is not None or rng.randrange(2)}})
+            for number, event in enumerate(events)]
+
+
+def written_by(program, folder, words, lines):
+    """The numbers of the events whose lines the program writes, and its diagnostics."""
+    ran = subprocess.run([program, *words], cwd=folder, capture_output=True, input="\n".join(lines).encode())
     written = ran.stdout.decode().splitlines()
     if any(line not in lines for line in written):
         return None, ran.stderr.decode()
@@ -341,22 +350,20 @@ def swapped(rng, detections):
     return {field: rng.choice(numbers + [None]) if field in WHOLE else str(rng.choice(values + [""])).swapcase() for field in FIELDS}
 
 
-def tried(databases, rng, rule, query, line, wrong, run):
+def tried(databases, rng, rule, query, line, wrong, run, ask):
     """Whether the rule is refused rightly, and whether its query selects what it should; None where it was refused so. `run` gives
-    what running the rule over events writes, if it is to be tried."""
+    what running the rule over events writes, and `ask` what asking its queries of them does, each if it is to be tried."""
     _, detections, condition = rule
     events = [some_event(rng) for _ in range(12)]
-    if databases[1:] or run:
-        events += [swapped(rng, detections) for _ in range(8 if run else 12)]
+    if databases[1:] or run or ask:
+        events += [swapped(rng, detections) for _ in range(8 if run or ask else 12)]
     try:
         wanted = {number for number, event in enumerate(events) if matches(condition, detections, event)}
     except Nothing:
         if run and line and run(events) != (set(), line + "\n"):
             return False
         return None if line and " 64 " in line else False
-    if run and run(events) != (wanted, ""):
-        return False
-    if line:
+    if run and run(events) != (wanted, "") or line or ask and not ask(events, query, wanted):
         return False
     found = [selected(database, events, query) for database in databases]
     if found[2:] and found[2] != wanted:
@@ -372,29 +379,44 @@ def main():
     parser.add_argument("--indexes", action="store_true", help="run the queries with indexes too")
     parser.add_argument("--schema", action="store_true", help="convert under a schema with whole numbers and keywords")
     parser.add_argument("--run", action="store_true", help="run each rule over events too")
+    parser.add_argument("--query", action="store_true", help="have the program ask each query of events too")
+    parser.add_argument("--lucene", action="store_true", help="have the program write and ask Lucene's queries of the rules too")
     told = parser.parse_args()
     if told.schema:
         FIELDS.append("n")
         WHOLE.append("n")
         SEARCHED.extend(["Image", "Cmd"])
     rng, program = random.Random(told.seed), os.path.abspath(told.program)
-    databases, wrong = tables(told.indexes), []
+    databases, wrong, lacking = tables(told.indexes), [], 0
     counts = {True: 0, False: 0, None: 0}
     with tempfile.TemporaryDirectory() as folder:
         for start in range(0, told.rules, 200):
             rules = [some_rule(rng) for _ in range(min(200, told.rules - start))]
             rules[-1] = some_long_rule(rng)
-            for number, (rule, (query, line)) in enumerate(zip(rules, converted(program, folder, rules))):
+            others = converted(program, folder, rules, "lucene") if told.lucene else [None] * len(rules)
+            for number, (rule, (query, line), other) in enumerate(zip(rules, converted(program, folder, rules, "sqlite"), others)):
                 def run(events, name=f"{number}.yml"):
-                    return run_lines(program, folder, name, rng, events)
-                verdict = tried(databases, rng, rule, query, line, wrong, run if told.run else None)
+                    return written_by(program, folder, ["run", *schema_words(folder), name], event_lines(rng, events))
+
+                def asked(events, query, backend):
+                    with open(os.path.join(folder, "q"), "w", encoding="utf-8", newline="") as file:
+                        file.write(query + "\n")
+                    return written_by(program, folder, ["query", "--backend", backend, *schema_words(folder, True), "q"], event_lines(rng, events))
+
+                def ask(events, query, wanted, other=other):
+                    return (not told.query or asked(events, query, "sqlite") == (wanted, "")) and (
+                        not other or (asked(events, other[0], "lucene") == (wanted, "") if other[0] else re.search(" 11[13] ", other[1]) is not None))
+                lacking += bool(other and other[1] and " 64 " not in other[1])
+                verdict = tried(databases, rng, rule, query, line, wrong, run if told.run else None, ask if told.query or told.lucene else None)
                 counts[verdict] += 1
                 if verdict is False:
-                    print(f"{rule[0]}{query or line}\n")
+                    print(f"{rule[0]}{query or line}\n{other and (other[0] or other[1])}\n")
     if told.indexes:
         for query, wanted, found in sorted(wrong, key=lambda case: len(case[0]))[:3]:
             print(f"ordinary indexes: {found} rows in place of {wanted} for {query}")
         print(f"ordinary indexes: {len(wrong)} queries select other rows than they should")
+    if told.lucene:
+        print(f"Lucene: {lacking} rules for which it lacks something, or with too many clauses")
     print(f"{counts[True]} as they should be, {counts[None]} refused as they should be, {counts[False]} not (SQLite {sqlite3.sqlite_version})")
     sys.exit(1 if counts[False] else 0)
 
