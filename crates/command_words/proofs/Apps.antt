@@ -9,7 +9,7 @@ use Rattle.clap.specs.Simple.{built, is_simple}
 use Rattle.command_words.specs.Given.{Word, is_among}
 use Rattle.command_words.specs.declared.command_name.Count.{Count}
 use Rattle.command_words.specs.declared.command_name.Count.TheVariants.{NoName}
-use Rattle.command_words.specs.Table.{Row, takes_names, backend, schema, check, convert, run}
+use Rattle.command_words.specs.Table.{Row, takes_names, backend, schema, check, convert, run, query}
 use Rattle.command_words.proofs.Shapes.{file_id, option_rule, file_rule, shape_with, IsName, IsOption, HasFiles, Serves}
 use Rattle.command_words.specs.Apps.{app_with}
 
@@ -84,4 +84,18 @@ run_served = record {
   defaults = (refl, (refl, tt));
   pass = refl;
   known = tt;
+}
+
+pub query_served : IsServed query
+query_served = record {
+  simple = refl;
+  built_is = refl;
+  no_name = refl;
+  serves = serves_by (rules_of_row query) (backend ∷ schema ∷ []) true
+      (record { required = true; by_long = refl; by_id = refl; name = backend_name }, (record { required = true; by_long = refl; by_id = refl; name = schema_name }, tt))
+      (λ e. record { by_index = refl; by_id = refl });
+  free = refl;
+  defaults = (refl, (refl, (refl, tt)));
+  pass = refl;
+  known = (refl, (refl, tt));
 }

@@ -183,14 +183,19 @@ lacks_of text none = by (cut_of text) where
       let bad : true ≡ false = sym has ∙ none in
       absurd cc
 
-pub plain_names : (command : CommandName) → AreNames ((row_of command).required ++ (row_of command).optional)
-plain_names commands.Check x e = absurd cc
-plain_names commands.Convert x e = by (bytes_eq backend x) refl (bytes_eq schema x) refl e where
+-- an option that is the backend's or the schema's
+one_of_both : (x : Word) → is_among x (backend ∷ schema ∷ []) ≡ true → IsOptionName x
+one_of_both x e = by (bytes_eq backend x) refl (bytes_eq schema x) refl e where
   by : (b : Bool) → bytes_eq backend x ≡ b → (c : Bool) → bytes_eq schema x ≡ c → (b || (c || false)) ≡ true → IsOptionName x
   by true same c is e = subst IsOptionName ((bytes_eq-Decides backend x).0 same) (refl, lacks_of backend refl)
   by false same true is e = subst IsOptionName ((bytes_eq-Decides schema x).0 is) (refl, lacks_of schema refl)
   by false same false is e = absurd cc
+
+pub plain_names : (command : CommandName) → AreNames ((row_of command).required ++ (row_of command).optional)
+plain_names commands.Check x e = absurd cc
+plain_names commands.Convert x e = one_of_both x e
 plain_names commands.Run x e = by (bytes_eq schema x) refl e where
   by : (b : Bool) → bytes_eq schema x ≡ b → (b || false) ≡ true → IsOptionName x
   by true same e = subst IsOptionName ((bytes_eq-Decides schema x).0 same) (refl, lacks_of schema refl)
   by false same e = absurd cc
+plain_names commands.Query x e = one_of_both x e

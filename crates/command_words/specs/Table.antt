@@ -30,10 +30,14 @@ convert = record { name = codes "convert"; required = backend ∷ []; optional =
 abbrev pub run : Row
 run = record { name = codes "run"; required = []; optional = schema ∷ []; files = OneName }
 
+abbrev pub query : Row
+query = record { name = codes "query"; required = backend ∷ schema ∷ []; optional = []; files = OneName }
+
 abbrev pub row_of : CommandName → Row
 row_of commands.Check = check
 row_of commands.Convert = convert
 row_of commands.Run = run
+row_of commands.Query = query
 
 abbrev pub takes_names : Count → Bool
 takes_names NoName = false

@@ -17,6 +17,7 @@ pub enum CommandName {
     Check,
     Convert,
     Run,
+    Query,
 }
 
 static NO_OPTIONS: [&str; 0] = [];
@@ -24,6 +25,8 @@ static NO_OPTIONS: [&str; 0] = [];
 static BACKEND: [&str; 1] = ["backend"];
 
 static SCHEMA: [&str; 1] = ["schema"];
+
+static BACKEND_AND_SCHEMA: [&str; 2] = ["backend", "schema"];
 
 impl CommandName {
     /// The word that stands for the command.
@@ -34,6 +37,7 @@ impl CommandName {
             CommandName::Check => "check",
             CommandName::Convert => "convert",
             CommandName::Run => "run",
+            CommandName::Query => "query",
         }
     }
 
@@ -44,6 +48,7 @@ impl CommandName {
         match self {
             CommandName::Check | CommandName::Run => NO_OPTIONS.as_slice(),
             CommandName::Convert => BACKEND.as_slice(),
+            CommandName::Query => BACKEND_AND_SCHEMA.as_slice(),
         }
     }
 
@@ -52,7 +57,7 @@ impl CommandName {
         ensures { map (λ s. s.now) result.now ≡ (row_of self).optional }
     {
         match self {
-            CommandName::Check => NO_OPTIONS.as_slice(),
+            CommandName::Check | CommandName::Query => NO_OPTIONS.as_slice(),
             CommandName::Convert | CommandName::Run => SCHEMA.as_slice(),
         }
     }
@@ -63,7 +68,7 @@ impl CommandName {
     {
         match self {
             CommandName::Check | CommandName::Convert => Count::SomeNames,
-            CommandName::Run => Count::OneName,
+            CommandName::Run | CommandName::Query => Count::OneName,
         }
     }
 

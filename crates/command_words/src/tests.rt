@@ -176,3 +176,33 @@ fn words_of_run(rt: HostRuntime) -> Result<(), Fail> {
     }
     Ok(())
 }
+
+#[test]
+fn words_of_query(rt: HostRuntime) -> Result<(), Fail> {
+    let alloc = rt.alloc();
+    for (words, want) in [
+        (
+            ["--backend", "sqlite", "--schema", "s.json", "q"].as_slice(),
+            "sqlite: under s.json: q;",
+        ),
+        (
+            ["q", "--schema=s", "--backend=lucene"].as_slice(),
+            "lucene: under s: q;",
+        ),
+        (
+            ["--schema=s", "--backend=sqlite", "--", "-q"].as_slice(),
+            "sqlite: under s: -q;",
+        ),
+        (["--backend=sqlite", "q"].as_slice(), "not taken"),
+        (["--schema=s", "q"].as_slice(), "not taken"),
+        (
+            ["--backend=sqlite", "--schema=s", "a", "b"].as_slice(),
+            "not taken",
+        ),
+        (["--backend=sqlite", "--schema=s"].as_slice(), "not taken"),
+        ([].as_slice(), "not taken"),
+    ] {
+        assert_eq!(rt; told(alloc, CommandName::Query, words)?.as_str(), want);
+    }
+    Ok(())
+}

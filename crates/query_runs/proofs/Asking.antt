@@ -87,11 +87,6 @@ module _ {Query : Type 0} (is_query : Schema → List ℕ → Query → Type 0) 
 
 -- ---- what reading answers
 
-none_among : (P Q : PatternAt → Type 0) (ps : List PatternAt) → SomeOf (λ p. P p × IsAmong p.pattern [] × Q p) ps → ⊥
-none_among P Q [] some = some
-none_among P Q (p ∷ ps) (inl h) = h.1
-none_among P Q (p ∷ ps) (inr h) = none_among P Q ps h
-
 module _ {Query Plain : Type 0} (plain : Query → Plain) (is_query : Schema → List ℕ → Plain → Type 0) (is_within : Limits → Schema → List ℕ → Plain → Type 0)
     (refuses : Limits → Schema → List ℕ → List CodeAt → Refusal → Type 0) (limits : Limits) (schema : Schema) (bytes : List ℕ) (patterns : List PatternAt)
     (before after : List (List ℕ)) where
@@ -103,7 +98,7 @@ module _ {Query Plain : Type 0} (plain : Query → Plain) (is_query : Schema →
   too_many large same = record {
     gained = [];
     follows = same ∙ sym (append-nil before);
-    answer = ((let some = some_places patterns [] in (some.0, some.1, too_large large refl)), (λ of nothing. not_both (sym of)));
+    answer = ((let some = some_places patterns [] in (some.0, some.1, too_large large refl)), (λ of. absurd (not_both (sym of))));
   }
 
   pub asks : length bytes ≤ limits.query_bytes + 1 → (result : Result Query Fault)
@@ -117,5 +112,5 @@ module _ {Query Plain : Type 0} (plain : Query → Plain) (is_query : Schema →
   asks few (Err (Refused r)) read = let a = read.answers in record {
     gained = read.gained;
     follows = read.follows;
-    answer = ((a.places, a.are, unread few a.first), (λ of nothing. none_among _ _ patterns (subst (λ gained. SomeOf (λ p. (p.place ≡ place_of r) × IsAmong p.pattern gained × IsCause read.gained p.pattern r.code) patterns) nothing (a.built of))));
+    answer = ((a.places, a.are, unread few a.first), a.built);
   }

@@ -12,7 +12,7 @@ use Rattle.text_places.specs.Places.{CodeAt}
 abbrev pub file_start : Place
 file_start = record { line = 1; column = 1 }
 
--- a query's file may have a line feed behind as many bytes as a query has at most
+-- a query's file may have one byte more than a query has at most, since a line feed may stand behind it
 abbrev pub most_bytes : Limits → ℕ
 most_bytes limits = limits.query_bytes + 1
 

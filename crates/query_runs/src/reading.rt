@@ -8,8 +8,8 @@ use languages::{Builder, Language};
 use sig_base::{Code, Fault, Limits, Place, refused};
 use std::alloc::Global;
 
-/// The query that a file of these bytes is asked of events as, under a schema. It's refused 2 where it has more bytes than a query may
-/// have, a line feed behind them not counted, and else as its language refuses it.
+/// The query that a file of these bytes is asked of events as, under a schema. It's refused 2 where it has two bytes or more past
+/// what a query may have, since a line feed may stand behind one, and else as its language refuses it.
 pub fn read_query<L: Language, B: Builder>(
     alloc: Global,
     limits: &Limits,

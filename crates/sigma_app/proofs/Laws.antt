@@ -1,5 +1,5 @@
 -- The laws of the answers.
-use Rattle.std.proofs.Common.{◌≡◌, ℕ, List, [], ◌∷◌, ap, sym, ◌∙◌, subst, Option, None, Some, Result, Ok, Err}
+use Rattle.std.proofs.Common.{◌≡◌, ℕ, false, List, [], ◌∷◌, refl, ap, sym, ◌∙◌, subst, append-nil, Option, None, Some, Result, Ok, Err}
 use Rattle.std.specs.Prelude.{IfSome}
 use Rattle.std.specs.List.{AllByRecursion}
 use Rattle.answer_parts.proofs.Rows.{each_parts, parts_one}
@@ -21,13 +21,16 @@ use Rattle.sigma_app.proofs.Judged.{each_checks, each_converts, one_checks, one_
 use Rattle.sigma_app.proofs.Schemed.{each_schema}
 use Rattle.sigma_app.specs.Check.{CheckGives}
 use Rattle.sigma_app.specs.Convert.{ConvertGives, has_query, no_query, ConvertMeans, means_rule, means_none}
-use Rattle.sigma_app.specs.Converted.{RulesBy}
-use Rattle.sigma_app.specs.Laws.{EachDocument, EachFile, EachAnswer, EachConverted, EachRan, OneDocument, OneFile, OneUnder, OneAnswer, OfBoth, EachRule, OneRule, EachLone, OneLone, QueriesMean, AnswersMean}
+use Rattle.sigma_app.specs.Converted.{Converted, RulesBy}
+use Rattle.sigma_app.specs.Laws.{EachDocument, EachFile, EachAnswer, EachConverted, EachQueried, EachRan, OneDocument, OneFile, OneQueried, OneUnder, OneAnswer, OfBoth, EachRule, OneRule, EachLone, OneLone, QueriesMean, AnswersMean}
 use Rattle.sigma_app.specs.Reports.{refusal_share}
-use Rattle.sigma_app.specs.Ran.{RanUnder}
+use Rattle.sigma_app.proofs.Lifted.{query_places}
+use Rattle.sigma_app.specs.Languages.{AskedBy, AskedAt}
+use Rattle.sigma_app.specs.Ran.{RanUnder, Ran}
 use Rattle.sigma_app.specs.RuleFiles.{DocumentGives, as_one, by_document, RuleFile, contents}
 use Rattle.sigma_app.specs.UnderSchema.{BySchema, UnderSchema, without, under, refused, file_part}
-use Rattle.sigma_app.specs.declared.request.Request.TheVariants.{Check, Convert, Run}
+use Rattle.sigma_app.specs.declared.request.Request.TheVariants.{Check, Convert, Run, Query}
+use Rattle.text_places.specs.Places.{CodeAt}
 use Rattle.yaml_bounds.specs.Laws.{TextsAreScalars}
 use Rattle.yaml_documents.specs.Verdicts as yaml
 use Rattle.yaml_tree.specs.Texts.{HasScalarTexts, AnswerHas}
@@ -56,12 +59,24 @@ each_under file backend limits given rules world =
 pub each_converted : OfBoth EachFile → EachConverted
 each_converted file backend limits rules given world = each_under file backend limits given rules world
 
-pub each_answer : EachRule → EachLone → yaml.EachVerdict → EachRan → EachAnswer
-each_answer rule lone file ran limits (Check rules) world =
-    each_parts (RuleFile (CheckGives limits) limits) (each_part (CheckGives limits) limits (both_files rule lone file limits).0) rules world
-each_answer rule lone file ran limits (Convert backend schema rules) world =
-    each_schema (RulesBy (ConvertGives backend limits) limits rules) limits (each_converted (both_files rule lone file) backend limits rules) schema world
-each_answer rule lone file ran limits (Run schema file_run) world = each_schema (RanUnder limits file_run) limits (ran limits file_run) schema world
+-- an answer without a query has no refused places
+abbrev Unplaced : (List Part → Type 0) → List Part → Type 0
+Unplaced P parts = (places : List CodeAt) × (places ≡ []) × P parts
+
+unplaced : (P : List Part → Type 0) → (parts : List Part) × P parts → (parts : List Part) × Unplaced P parts
+unplaced P (parts, is) = (parts, ([], refl, is))
+
+pub each_answer : EachRule → EachLone → yaml.EachVerdict → EachRan → EachQueried → EachAnswer
+each_answer rule lone file ran queried limits built (Check rules) world =
+    unplaced (EachPart (RuleFile (CheckGives limits) limits) rules world)
+    (each_parts (RuleFile (CheckGives limits) limits) (each_part (CheckGives limits) limits (both_files rule lone file limits).0) rules world)
+each_answer rule lone file ran queried limits built (Convert backend schema rules) world =
+    unplaced (Converted (ConvertGives backend limits) limits schema rules world)
+    (each_schema (RulesBy (ConvertGives backend limits) limits rules) limits (each_converted (both_files rule lone file) backend limits rules) schema world)
+each_answer rule lone file ran queried limits built (Run schema file_run) world = unplaced (Ran limits schema file_run world) (each_schema (RanUnder limits file_run) limits (ran limits file_run) schema world)
+each_answer rule lone file ran queried limits built (Query language schema query) world =
+    let a = each_schema (AskedBy language limits query built built false) limits (queried language limits query built built [] (sym (append-nil built))) (Some schema) world in
+    (a.0, query_places language limits schema query built built false world a.0 a.1)
 
 pub one_documents : OneRule → OneLone → OfBoth OneDocument
 one_documents rule lone limits = (
@@ -148,11 +163,13 @@ module _ (by : BySchema) (one_by : OneUnder by) (limits : Limits) (schema : Opti
 abbrev pub OneRan : Type 0
 OneRan = (limits : Limits) (file : List ℕ) → OneUnder (RanUnder limits file)
 
-pub one_answer : OfBoth OneFile → OneRan → OneAnswer
-one_answer file ran limits (Check rules) world a b first second = parts_one (RuleFile (CheckGives limits) limits) (one_part (CheckGives limits) limits (file limits).0) rules world a b first second
-one_answer file ran limits (Convert backend schema rules) world a b first second =
+pub one_answer : OfBoth OneFile → OneRan → OneQueried → OneAnswer
+one_answer file ran queried limits places (Check rules) world a b first second = parts_one (RuleFile (CheckGives limits) limits) (one_part (CheckGives limits) limits (file limits).0) rules world a b first second
+one_answer file ran queried limits places (Convert backend schema rules) world a b first second =
     one_schema (RulesBy (ConvertGives backend limits) limits rules) (λ given w x y. one_under file backend limits given rules w x y) limits schema world a b first second
-one_answer file ran limits (Run schema rule) world a b first second = one_schema (RanUnder limits rule) (ran limits rule) limits schema world a b first second
+one_answer file ran queried limits places (Run schema rule) world a b first second = one_schema (RanUnder limits rule) (ran limits rule) limits schema world a b first second
+one_answer file ran queried limits places (Query language schema query) world a b first second =
+    one_schema (AskedAt language limits query places) (queried language limits query places) limits (Some schema) world a b first second
 
 -- ---- what queries mean
 

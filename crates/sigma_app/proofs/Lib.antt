@@ -1,7 +1,11 @@
 pub mod Documented
 pub mod Filed
+pub mod Fronts
 pub mod Judged
 pub mod Laws
+pub mod Lifted
+pub mod Named
+pub mod Queried
 pub mod Ran
 pub mod ReportLines
 pub mod Running

@@ -1,6 +1,6 @@
 -- What running the rule of a file leaves, and that there is exactly one answer.
-use Rattle.std.proofs.Common.{◌≡◌, ℕ, ◌+◌, Bool, true, List, [], ◌∷◌, take, refl, ap, sym, ◌∙◌, subst, arith, Option, Some, None, Result, Ok, Err, inl, inr}
-use Rattle.std.specs.Prelude.{◌⊎◌, MatchOption, unwrap_or, Contains}
+use Rattle.std.proofs.Common.{◌≡◌, ℕ, ◌+◌, Bool, true, List, [], ◌∷◌, refl, ap, sym, ◌∙◌, subst, arith, Option, Some, None, Result, Ok, Err, inl, inr}
+use Rattle.std.specs.Prelude.{◌⊎◌, Contains}
 use Rattle.answer_parts.proofs.Behind.{ends_behind}
 use Rattle.answer_parts.proofs.Ending.{ends_written}
 use Rattle.answer_parts.proofs.Lined.{each_answer, lines_one}
@@ -21,10 +21,11 @@ use Rattle.rule_runs.specs.Files.{file_start}
 use Rattle.rule_runs.specs.Laws as files
 use Rattle.rule_runs.specs.Runs.{IsRun, IsNotRun}
 use Rattle.rule_schema.specs.Inferred.{schema_for}
-use Rattle.sig_base.specs.Files.{file_at, IsFront}
+use Rattle.sig_base.specs.Files.{IsFront}
 use Rattle.sig_base.specs.Judged.{refusal}
 use Rattle.sig_base.specs.declared.limits.Limits.{Limits}
 use Rattle.sig_base.specs.declared.refusal.Refusal.{Refusal}
+use Rattle.sigma_app.proofs.Fronts.{file_is}
 use Rattle.sigma_app.specs.Laws.{AsksUnlessUnrun, AsksNoneUnschemed, EachRan, EachSelected, EachUnder, OneUnder}
 use Rattle.sigma_app.specs.Ran.{RunGives, RanUnder, runs, isnt_run}
 use Rattle.sigma_app.specs.Reports.{refusal_share}
@@ -91,16 +92,7 @@ asks_none_unschemed limits schema file world parts code refused_so (under name i
 asks_none_unschemed limits schema file world parts code refused_so (refused name is other_code so same) =
     subst NoneOfEvents (sym same) (quiet name (refusal_share name (refusal other_code file_start)))
 
--- ---- what was read of a file that is told, said of the file
-
-file_is : (limits : Limits) (Q : List ℕ → Type 0) (name : List ℕ) → ((all : List ℕ) → Q (take (limits.file_bytes + 1) all) → Q all)
-    → (files : Option (List (List ℕ × List ℕ))) (told : List (List ℕ × List ℕ)) (bytes : List ℕ) → files ≡ Some told → IsFront files name (limits.file_bytes + 1) bytes
-    → Q bytes → Q (contents told name)
-file_is limits Q name whole files told bytes is front so = found (file_at told name) (subst (λ f. IsFront f name (limits.file_bytes + 1) bytes) is front)
-  where
-    found : (at : Option (List ℕ)) → MatchOption at ⊥ (λ all. bytes ≡ take (limits.file_bytes + 1) all) → Q (unwrap_or at [])
-    found None bad = absurd bad
-    found (Some all) same = whole all (subst Q same so)
+-- ---- what running a file leaves
 
 module _ (limits : Limits) (file : List ℕ) (given : Option Schema) where
   abbrev needs : Needs
@@ -139,7 +131,7 @@ module _ (limits : Limits) (file : List ℕ) (given : Option Schema) where
     run_refused r result is wrote =
         ends_written needs (RanUnder limits file given) (λ share. share ≡ refusal_share file r) (Some (File file)) result old new
         (λ world told share same. isnt_run r
-        (file_is limits (λ bs. IsNotRun limits given bs r) file (λ all. not_run_front limits all given r) old.inputs.files world.files bytes (told.files file there) front is)
+        (file_is (limits.file_bytes + 1) (λ bs. IsNotRun limits given bs r) file (λ all. not_run_front limits all given r) old.inputs.files world.files bytes (told.files file there) front is)
         (ap (λ (s : Share). file_part file s ∷ []) same)) wrote
 
     -- the file is run, and the lines of events are answered
@@ -150,4 +142,4 @@ module _ (limits : Limits) (file : List ℕ) (given : Option Schema) where
         ends_behind needs (record { names = []; events = true }) (file_part file no_share ∷ []) refl none_there refl
         (EventLines (RunGives (schema_for given rule) rule) limits) (RanUnder limits file given) result old new
         (λ world told ps lines. runs rule
-        (file_is limits (λ bs. IsRun limits given bs rule) file (λ all. run_front limits all given rule) old.inputs.files world.files bytes (told.files file there) front is) ps lines refl) e
+        (file_is (limits.file_bytes + 1) (λ bs. IsRun limits given bs rule) file (λ all. run_front limits all given rule) old.inputs.files world.files bytes (told.files file there) front is) ps lines refl) e

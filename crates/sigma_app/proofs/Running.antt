@@ -11,18 +11,20 @@ use Rattle.answer_parts.specs.declared.stop.Stop.{Stop}
 use Rattle.answer_parts.specs.declared.stop.Stop.TheVariants as stop
 use Rattle.rule_queries.specs.declared.backend_name.BackendName.{BackendName}
 use Rattle.sig_base.specs.declared.limits.Limits.{Limits}
+use Rattle.sigma_app.proofs.Lifted.{places_cut}
 use Rattle.sigma_app.proofs.Wording.{one_request, decided}
-use Rattle.sigma_app.specs.Answers.{Answers, needs_of}
+use Rattle.sigma_app.specs.Answers.{AnswersAt, ArePlaces, Answers, needs_of}
 use Rattle.sigma_app.specs.Convert.{ConvertMeans}
 use Rattle.sigma_app.specs.Converted.{Converted}
 use Rattle.sigma_app.specs.Laws.{EachAnswer, OneAnswer, AnswersMean}
 use Rattle.sigma_app.specs.Reports.{usage_share}
-use Rattle.sigma_app.specs.Served.{Answer, accepted, unaccepted, status_of, Serves, Tells, StandsCut, StandsAfter, StandsUnread, MayBeUnread, IsCutOff, IsRead, ReadsNoEvents, usage_part}
+use Rattle.sigma_app.specs.Served.{Builds, PlacesOf, Answer, accepted, unaccepted, status_of, Serves, Tells, Unasked, StandsCut, StandsAfter, StandsUnread, MayBeUnread, IsCutOff, IsRead, ReadsNoEvents, usage_part}
 use Rattle.sigma_app.specs.Words.{IsAccepted, IsUnaccepted}
 use Rattle.sigma_app.specs.declared.request.Request.{Request}
 use Rattle.sigma_app.specs.declared.request.Request.TheVariants.{Convert}
 use Rattle.sigma_app.specs.declared.status.Status.{Status}
 use Rattle.sigma_app.specs.declared.status.Status.TheVariants.{Usage, ReadFault, WriteFault, Memory}
+use Rattle.text_places.specs.Places.{CodeAt}
 
 -- ---- how a run of a request ends
 
@@ -42,26 +44,43 @@ not_cut : (found : Bool) → IsCutOff (status_of found) → ⊥
 not_cut true is = is
 not_cut false is = is
 
-module _ (limits : Limits) (words : List (List ℕ)) (request : Request) (is_accepted : IsAccepted words request) (old new : State) where
+module _ (limits : Limits) (builds : Builds) (words : List (List ℕ)) (request : Request) (is_accepted : IsAccepted words request) (old new : State) where
+  -- the answers to this request, where the run came to its end or didn't
+  abbrev pub By : Bool → World → List Part → Type 0
+  By ended = Answers limits builds.before builds.after ended request
+
+  -- the places of the request are those of the words
+  of_words : (ended : Bool) (world : World) (places : List CodeAt) → ArePlaces limits builds.before builds.after ended request world places → PlacesOf limits builds ended words world places
+  of_words ended world places are other too = subst (λ (r : Request). ArePlaces limits builds.before builds.after ended r world places) (one_request words request other is_accepted too) are
+
+  cut_of_words : (ended : Bool) (world : World) (places : List CodeAt) → ArePlaces limits builds.before builds.after ended request world places → PlacesOf limits builds false words world places
+  cut_of_words ended world places are = of_words false world places (places_cut limits builds.before builds.after ended request world places are)
+
   -- where the one answer asks for no events, none were read
-  not_asked : OneAnswer → (result : Result Bool Stop) → Ends (needs_of request) (Answers limits request) result old new
-      → (world : World) → Tells words old.inputs world → (other : Status) (parts : List Part) → Answer limits words world other parts → NoneOfEvents parts → EventsStay old.inputs new.inputs
-  not_asked one result e world tells other parts (accepted another too answers status) none =
+  stay : OneAnswer → (world : World) (own : List Part) (places : List CodeAt) → AnswersAt limits places request world own → (NoneOfEvents own → EventsStay old.inputs new.inputs)
+      → (status : Status) (parts : List Part) → Answer limits places words world status parts → NoneOfEvents parts → EventsStay old.inputs new.inputs
+  stay one world own places own_answer quiet status parts (accepted another too answers is) none =
+      let same : parts ≡ own = one limits places request world parts own
+      (subst (λ (r : Request). AnswersAt limits places r world parts) (one_request words another request too is_accepted) answers) own_answer in
+      quiet (subst NoneOfEvents same none)
+  stay one world own places own_answer quiet status parts (unaccepted is usage same) none = absurd (is request is_accepted)
+
+  not_asked : OneAnswer → (ended : Bool) (result : Result Bool Stop) → Ends (needs_of request) (By ended) result old new
+      → (world : World) → Tells words old.inputs world → Unasked limits builds words world old.inputs new.inputs
+  not_asked one ended result e world tells =
       let s = e.stands world (tells request is_accepted) in
-      let same : parts ≡ s.0 = one limits request world parts s.0
-      (subst (λ (r : Request). Answers limits r world parts) (one_request words another request too is_accepted) answers) s.1 in
-      s.3 (subst NoneOfEvents same none)
-  not_asked one result e world tells other parts (unaccepted is status usage) none = absurd (is request is_accepted)
+      (s.1.0, cut_of_words ended world s.1.0 s.1.1, λ status parts answer none. stay one world s.0 s.1.0 s.1.2 s.3 status parts answer none)
 
-  converted : AnswersMean → (world : World) (parts : List Part) (backend : BackendName) (schema : Option (List ℕ)) (rules : List (List ℕ)) → Answers limits request world parts
+  converted : AnswersMean → (world : World) (places : List CodeAt) (parts : List Part) (backend : BackendName) (schema : Option (List ℕ)) (rules : List (List ℕ)) → AnswersAt limits places request world parts
       → IsAccepted words (Convert backend schema rules) → Converted (ConvertMeans backend limits) limits schema rules world parts
-  converted means world parts backend schema rules answers too =
-      means backend limits schema rules world parts (subst (λ (r : Request). Answers limits r world parts) (one_request words request (Convert backend schema rules) is_accepted too) answers)
+  converted means world places parts backend schema rules answers too =
+      means backend limits schema rules world parts (subst (λ (r : Request). AnswersAt limits places r world parts) (one_request words request (Convert backend schema rules) is_accepted too) answers)
 
-  pub serves_whole : OneAnswer → AnswersMean → (found : Bool) → Ends (needs_of request) (Answers limits request) (Ok found) old new → Serves limits words (status_of found) old.inputs new.inputs old.streams new.streams
+  pub serves_whole : OneAnswer → AnswersMean → (found : Bool) → Ends (needs_of request) (By true) (Ok found) old new → Serves limits builds words (status_of found) old.inputs new.inputs old.streams new.streams
   serves_whole one means found e = record {
-    answer = λ _ world tells. let s = e.stands world (tells request is_accepted) in (s.0, accepted request is_accepted s.1 (ap status_of s.2.0), s.2.1);
-    headline = λ _ world tells backend schema rules too. let s = e.stands world (tells request is_accepted) in (s.0, converted means world s.0 backend schema rules s.1 too, s.2.1);
+    answer = λ _ world tells. let s = e.stands world (tells request is_accepted) in
+        (s.1.0, of_words true world s.1.0 s.1.1, s.0, accepted request is_accepted s.1.2 (ap status_of s.2.0), s.2.1);
+    headline = λ _ world tells backend schema rules too. let s = e.stands world (tells request is_accepted) in (s.0, converted means world s.1.0 s.0 backend schema rules s.1.2 too, s.2.1);
     usage = λ _ other. absurd (other request is_accepted);
     unaccepted = λ is. absurd (not_usage found is);
     still = λ _. (e.cause.1, e.cause.2);
@@ -69,16 +88,16 @@ module _ (limits : Limits) (words : List (List ℕ)) (request : Request) (is_acc
     write_fault = λ is. absurd (not_unwritten found is);
     after_fault = λ is. absurd (not_cut found is);
     apart = λ quiet. e.apart (quiet request is_accepted);
-    unasked = not_asked one (Ok found) e;
+    unasked = not_asked one true (Ok found) e;
   }
 
-  pub serves_as : OneAnswer → AnswersMean → (found so : Bool) → found ≡ so → Ends (needs_of request) (Answers limits request) (Ok found) old new → Serves limits words (status_of so) old.inputs new.inputs old.streams new.streams
-  serves_as one means found so is e = subst (λ (f : Bool). Serves limits words (status_of f) old.inputs new.inputs old.streams new.streams) is (serves_whole one means found e)
+  pub serves_as : OneAnswer → AnswersMean → (found so : Bool) → found ≡ so → Ends (needs_of request) (By true) (Ok found) old new → Serves limits builds words (status_of so) old.inputs new.inputs old.streams new.streams
+  serves_as one means found so is e = subst (λ (f : Bool). Serves limits builds words (status_of f) old.inputs new.inputs old.streams new.streams) is (serves_whole one means found e)
 
   unread_by : (unread : Option Input) → Cause (needs_of request) (Err stop.Unread) unread old new
-      → ((world : World) → IsTold (needs_of request) old.inputs world → (parts : List Part) × Answers limits request world parts × Stands (Answers limits request) world (Err stop.Unread) unread parts old new
+      → ((world : World) → IsTold (needs_of request) old.inputs world → (parts : List Part) × By false world parts × Stands (By false) world (Err stop.Unread) unread parts old new
       × (NoneOfEvents parts → EventsStay old.inputs new.inputs))
-      → (input : Input) × IsRead words input × WasUnread input old.inputs new.inputs × NoWriteFailed old.streams new.streams × ((world : World) → Tells words old.inputs world → StandsUnread limits words world stop.Unread input new.inputs.left old.streams new.streams)
+      → (input : Input) × IsRead words input × WasUnread input old.inputs new.inputs × NoWriteFailed old.streams new.streams × ((world : World) → Tells words old.inputs world → StandsUnread limits builds words world stop.Unread input new.inputs.left old.streams new.streams)
   unread_by None cause stands = absurd cause
   unread_by (Some input) cause stands = (
     input,
@@ -88,7 +107,7 @@ module _ (limits : Limits) (words : List (List ℕ)) (request : Request) (is_acc
     λ world tells. let s = stands world (tells request is_accepted) in (request, is_accepted, s.0, s.1, s.2),
   )
 
-  pub serves_unread : OneAnswer → Ends (needs_of request) (Answers limits request) (Err stop.Unread) old new → Serves limits words ReadFault old.inputs new.inputs old.streams new.streams
+  pub serves_unread : OneAnswer → Ends (needs_of request) (By false) (Err stop.Unread) old new → Serves limits builds words ReadFault old.inputs new.inputs old.streams new.streams
   serves_unread one e = record {
     answer = λ is. absurd is;
     headline = λ is. absurd is;
@@ -99,7 +118,7 @@ module _ (limits : Limits) (words : List (List ℕ)) (request : Request) (is_acc
     write_fault = λ is. absurd (apart_too is);
     after_fault = λ is. absurd is;
     apart = λ quiet. e.apart (quiet request is_accepted);
-    unasked = not_asked one (Err stop.Unread) e;
+    unasked = not_asked one false (Err stop.Unread) e;
   }
     where
       apart : ReadFault ≡ Usage → ⊥
@@ -113,13 +132,14 @@ module _ (limits : Limits) (words : List (List ℕ)) (request : Request) (is_acc
   unwritten_by None cause = ((λ _. cause.0), cause.1)
   unwritten_by (Some input) cause = (((request, is_accepted, cause.0), cause.1), cause.2)
 
-  stands_after : (unread : Option Input) (world : World) (parts : List Part) → Answers limits request world parts
-      → Stands (Answers limits request) world (Err stop.Unwritten) unread parts old new → StandsAfter limits words world unread new.inputs.left old.streams new.streams
-  stands_after None world parts answers s = (status_of (share_of parts).refused, parts, accepted request is_accepted answers refl, s)
+  stands_after : (unread : Option Input) (world : World) (parts : List Part) → By false world parts
+      → Stands (By false) world (Err stop.Unwritten) unread parts old new → StandsAfter limits builds words world unread new.inputs.left old.streams new.streams
+  stands_after None world parts answers s =
+      (answers.0, of_words false world answers.0 answers.1, status_of (share_of parts).refused, parts, accepted request is_accepted answers.2 refl, s)
   stands_after (Some input) world parts answers s = (request, is_accepted, parts, answers, s)
 
-  pub serves_unwritten : OneAnswer → Ends (needs_of request) (Answers limits request) (Err stop.Unwritten) old new
-      → Serves limits words WriteFault old.inputs new.inputs old.streams new.streams
+  pub serves_unwritten : OneAnswer → Ends (needs_of request) (By false) (Err stop.Unwritten) old new
+      → Serves limits builds words WriteFault old.inputs new.inputs old.streams new.streams
   serves_unwritten one e = record {
     answer = λ is. absurd is;
     headline = λ is. absurd is;
@@ -135,7 +155,7 @@ module _ (limits : Limits) (words : List (List ℕ)) (request : Request) (is_acc
       λ world tells. let s = e.stands world (tells request is_accepted) in stands_after e.unread world s.0 s.1 s.2,
     );
     apart = λ quiet. e.apart (quiet request is_accepted);
-    unasked = not_asked one (Err stop.Unwritten) e;
+    unasked = not_asked one false (Err stop.Unwritten) e;
   }
     where
       apart : WriteFault ≡ Usage → ⊥
@@ -156,14 +176,11 @@ memory_unread is = cc
 memory_unwritten : Memory ≡ WriteFault → ⊥
 memory_unwritten is = cc
 
-abbrev Unasked : Limits → List (List ℕ) → Inputs → Inputs → Type 0
-Unasked limits words before after = (world : World) → Tells words before world → (other : Status) (parts : List Part) → Answer limits words world other parts → NoneOfEvents parts
-    → EventsStay before after
-
 -- memory was missing: what stands is cut off
-pub serves_cut : (limits : Limits) (words : List (List ℕ)) (old new : State) → (ReadsNoEvents words → EventsStay old.inputs new.inputs) → Unasked limits words old.inputs new.inputs
-    → ((world : World) → Tells words old.inputs world → StandsCut limits words world old.streams new.streams) → Serves limits words Memory old.inputs new.inputs old.streams new.streams
-serves_cut limits words old new quiet unasked cut = record {
+pub serves_cut : (limits : Limits) (builds : Builds) (words : List (List ℕ)) (old new : State) → (ReadsNoEvents words → EventsStay old.inputs new.inputs)
+    → ((world : World) → Tells words old.inputs world → Unasked limits builds words world old.inputs new.inputs)
+    → ((world : World) → Tells words old.inputs world → StandsCut limits builds words world old.streams new.streams) → Serves limits builds words Memory old.inputs new.inputs old.streams new.streams
+serves_cut limits builds words old new quiet unasked cut = record {
   answer = λ is. absurd is;
   headline = λ is. absurd is;
   usage = λ is. absurd is;
@@ -176,36 +193,44 @@ serves_cut limits words old new quiet unasked cut = record {
   unasked = unasked;
 }
 
-pub serves_memory : (limits : Limits) (words : List (List ℕ)) (request : Request) → IsAccepted words request → (old new : State) → OneAnswer
-    → Ends (needs_of request) (Answers limits request) (Err stop.Memory) old new → Serves limits words Memory old.inputs new.inputs old.streams new.streams
-serves_memory limits words request is_accepted old new one e =
-    serves_cut limits words old new (λ quiet. e.apart (quiet request is_accepted)) (not_asked limits words request is_accepted old new one (Err stop.Memory) e)
-    (λ world tells. let s = e.stands world (tells request is_accepted) in (status_of (share_of s.0).refused, s.0, accepted request is_accepted s.1 refl, s.2))
+pub serves_memory : (limits : Limits) (builds : Builds) (words : List (List ℕ)) (request : Request) → IsAccepted words request → (old new : State) → OneAnswer
+    → Ends (needs_of request) (Answers limits builds.before builds.after false request) (Err stop.Memory) old new → Serves limits builds words Memory old.inputs new.inputs old.streams new.streams
+serves_memory limits builds words request is_accepted old new one e =
+    serves_cut limits builds words old new (λ quiet. e.apart (quiet request is_accepted)) (not_asked limits builds words request is_accepted old new one false (Err stop.Memory) e)
+    (λ world tells. let s = e.stands world (tells request is_accepted) in
+    (s.1.0, of_words limits builds words request is_accepted old new false world s.1.0 s.1.1, status_of (share_of s.0).refused, s.0, accepted request is_accepted s.1.2 refl, s.2))
 
 -- memory was missing for the words
-pub serves_nothing : EachAnswer → (limits : Limits) (words : List (List ℕ)) (s : State) → Serves limits words Memory s.inputs s.inputs s.streams s.streams
-serves_nothing each limits words s = serves_cut limits words s s (λ _. (refl, refl)) (λ world tells other parts answer none. (refl, refl)) (λ world _. some world (decided words))
+pub serves_nothing : EachAnswer → (limits : Limits) (refused : List (List ℕ)) (words : List (List ℕ)) (s : State)
+    → Serves limits (record { before = refused; after = refused }) words Memory s.inputs s.inputs s.streams s.streams
+serves_nothing each limits refused words s =
+    serves_cut limits (record { before = refused; after = refused }) words s s (λ _. (refl, refl))
+    (λ world tells. let c = some world (decided words) in (c.0, c.1, λ status parts answer none. (refl, refl))) (λ world _. some world (decided words))
   where
-    some : (world : World) → ((request : Request) × IsAccepted words request) ⊎ IsUnaccepted words → StandsCut limits words world s.streams s.streams
+    some : (world : World) → ((request : Request) × IsAccepted words request) ⊎ IsUnaccepted words → StandsCut limits (record { before = refused; after = refused }) words world s.streams s.streams
     some world (inl (request, is_accepted)) =
-        let a = each limits request world in (status_of (share_of a.0).refused, a.0, accepted request is_accepted a.1 refl, cut_nothing (share_of a.0) s.streams)
-    some world (inr other) = (Usage, usage_part ∷ [], unaccepted other refl refl, cut_nothing (share_of (usage_part ∷ [])) s.streams)
+        let a = each limits refused request world in
+        (a.1.0, of_words limits (record { before = refused; after = refused }) words request is_accepted s s false world a.1.0 a.1.1, status_of (share_of a.0).refused, a.0, accepted request is_accepted a.1.2 refl, cut_nothing (share_of a.0) s.streams)
+    some world (inr other) = ([], (λ request too. absurd (other request too)), Usage, usage_part ∷ [], unaccepted other refl refl, cut_nothing (share_of (usage_part ∷ [])) s.streams)
 
 -- ---- words that aren't accepted
 
 abbrev IsUsage : Share → Type 0
 IsUsage share = share ≡ usage_share
 
-module _ (limits : Limits) (words : List (List ℕ)) (other : IsUnaccepted words) (old new : State) where
+module _ (limits : Limits) (builds : Builds) (words : List (List ℕ)) (other : IsUnaccepted words) (old new : State) where
+  no_places : (ended : Bool) (world : World) → PlacesOf limits builds ended words world []
+  no_places ended world request too = absurd (other request too)
+
   same_gains : (share : Share) → IsUsage share → Gains share old.streams new.streams → Gains (share_of (usage_part ∷ [])) old.streams new.streams
   same_gains share is gains = subst (λ (s : Share). Gains s old.streams new.streams) is gains
 
   same_cut : (share : Share) → IsUsage share → Cut share old.streams new.streams → Cut (share_of (usage_part ∷ [])) old.streams new.streams
   same_cut share is cut = subst (λ (s : Share). Cut s old.streams new.streams) is cut
 
-  pub serves_usage : (found : Bool) → Writes IsUsage (Ok found) old new → Serves limits words Usage old.inputs new.inputs old.streams new.streams
+  pub serves_usage : (found : Bool) → Writes IsUsage (Ok found) old new → Serves limits builds words Usage old.inputs new.inputs old.streams new.streams
   serves_usage found w = record {
-    answer = λ _ world _. (usage_part ∷ [], unaccepted other refl refl, same_gains w.share w.is w.outcome.1);
+    answer = λ _ world _. ([], no_places true world, usage_part ∷ [], unaccepted other refl refl, same_gains w.share w.is w.outcome.1);
     headline = λ _ world _ backend schema rules too. absurd (other (Convert backend schema rules) too);
     usage = λ _ _. refl;
     unaccepted = λ _. other;
@@ -214,7 +239,7 @@ module _ (limits : Limits) (words : List (List ℕ)) (other : IsUnaccepted words
     write_fault = λ is. absurd (apart_too is);
     after_fault = λ is. absurd is;
     apart = λ _. (ap (λ (i : Inputs). i.left) w.inputs, ap (λ (i : Inputs). i.faults) w.inputs);
-    unasked = λ world tells status parts answer none. (ap (λ (i : Inputs). i.left) w.inputs, ap (λ (i : Inputs). i.faults) w.inputs);
+    unasked = λ world tells. ([], no_places false world, λ status parts answer none. (ap (λ (i : Inputs). i.left) w.inputs, ap (λ (i : Inputs). i.faults) w.inputs));
   }
     where
       apart : Usage ≡ ReadFault → ⊥
@@ -223,7 +248,7 @@ module _ (limits : Limits) (words : List (List ℕ)) (other : IsUnaccepted words
       apart_too : Usage ≡ WriteFault → ⊥
       apart_too is = cc
 
-  pub usage_unwritten : Writes IsUsage (Err stop.Unwritten) old new → Serves limits words WriteFault old.inputs new.inputs old.streams new.streams
+  pub usage_unwritten : Writes IsUsage (Err stop.Unwritten) old new → Serves limits builds words WriteFault old.inputs new.inputs old.streams new.streams
   usage_unwritten w = record {
     answer = λ is. absurd is;
     headline = λ is. absurd is;
@@ -232,19 +257,19 @@ module _ (limits : Limits) (words : List (List ℕ)) (other : IsUnaccepted words
     still = λ is. absurd is;
     read_fault = λ is. absurd (apart is);
     write_fault = λ _. w.outcome.1;
-    after_fault = λ _. (None, (λ _. refl), (λ _. (ap (λ (i : Inputs). i.failed) w.inputs, ap (λ (i : Inputs). i.faults) w.inputs)), λ world _. (Usage, usage_part ∷ [], unaccepted other refl refl, same_cut w.share w.is w.outcome.0));
+    after_fault = λ _. (None, (λ _. refl), (λ _. (ap (λ (i : Inputs). i.failed) w.inputs, ap (λ (i : Inputs). i.faults) w.inputs)), λ world _. ([], no_places false world, Usage, usage_part ∷ [], unaccepted other refl refl, same_cut w.share w.is w.outcome.0));
     apart = λ _. (ap (λ (i : Inputs). i.left) w.inputs, ap (λ (i : Inputs). i.faults) w.inputs);
-    unasked = λ world tells status parts answer none. (ap (λ (i : Inputs). i.left) w.inputs, ap (λ (i : Inputs). i.faults) w.inputs);
+    unasked = λ world tells. ([], no_places false world, λ status parts answer none. (ap (λ (i : Inputs). i.left) w.inputs, ap (λ (i : Inputs). i.faults) w.inputs));
   }
     where
       apart : WriteFault ≡ ReadFault → ⊥
       apart is = cc
 
-  pub usage_memory : (s : Stop) → Writes IsUsage (Err s) old new → Serves limits words Memory old.inputs new.inputs old.streams new.streams
+  pub usage_memory : (s : Stop) → Writes IsUsage (Err s) old new → Serves limits builds words Memory old.inputs new.inputs old.streams new.streams
   usage_memory s w =
-      serves_cut limits words old new (λ _. (ap (λ (i : Inputs). i.left) w.inputs, ap (λ (i : Inputs). i.faults) w.inputs))
-      (λ world tells status parts answer none. (ap (λ (i : Inputs). i.left) w.inputs, ap (λ (i : Inputs). i.faults) w.inputs))
-      (λ world _. (Usage, usage_part ∷ [], unaccepted other refl refl, same_cut w.share w.is (cut s w.outcome)))
+      serves_cut limits builds words old new (λ _. (ap (λ (i : Inputs). i.left) w.inputs, ap (λ (i : Inputs). i.faults) w.inputs))
+      (λ world tells. ([], no_places false world, λ status parts answer none. (ap (λ (i : Inputs). i.left) w.inputs, ap (λ (i : Inputs). i.faults) w.inputs)))
+      (λ world _. ([], no_places false world, Usage, usage_part ∷ [], unaccepted other refl refl, same_cut w.share w.is (cut s w.outcome)))
     where
       cut : (by : Stop) → Outcome w.share (Err by) old.streams new.streams → Cut w.share old.streams new.streams
       cut stop.Unread outcome = absurd outcome

@@ -24,6 +24,7 @@ named_so : (command : CommandName) → command_named (row_of command).name ≡ S
 named_so commands.Check = refl
 named_so commands.Convert = refl
 named_so commands.Run = refl
+named_so commands.Query = refl
 
 pub accepted_read : (words : List (List ℕ)) (request : Request) → IsAccepted words request → read words ≡ Some request
 accepted_read words request accepted =
@@ -58,8 +59,11 @@ one_of word first command others rest is = elim (choose (bytes_eq word (row_of f
   | inr h ↦ rest h.1
 ]
 
+abbrev named_query : List ℕ → Option CommandName
+named_query word = cond (bytes_eq word (row_of commands.Query).name) (Some commands.Query) None
+
 abbrev named_run : List ℕ → Option CommandName
-named_run word = cond (bytes_eq word (row_of commands.Run).name) (Some commands.Run) None
+named_run word = cond (bytes_eq word (row_of commands.Run).name) (Some commands.Run) (named_query word)
 
 abbrev named_convert : List ℕ → Option CommandName
 named_convert word = cond (bytes_eq word (row_of commands.Convert).name) (Some commands.Convert) (named_run word)
@@ -67,7 +71,8 @@ named_convert word = cond (bytes_eq word (row_of commands.Convert).name) (Some c
 name_of : (word : List ℕ) (command : CommandName) → command_named word ≡ Some command → word ≡ (row_of command).name
 name_of word command is =
     one_of word commands.Check command (named_convert word)
-    (one_of word commands.Convert command (named_run word) (one_of word commands.Run command None (λ none. absurd (none_some command none)))) is
+    (one_of word commands.Convert command (named_run word)
+    (one_of word commands.Run command (named_query word) (one_of word commands.Query command None (λ none. absurd (none_some command none))))) is
 
 -- the items that were read, and what they ask for
 asked_of : (command : CommandName) (others : List (List ℕ)) (request : Request) → asked command others ≡ Some request

@@ -1,5 +1,5 @@
 -- Laws of the answers: there is exactly one to each document, file and request, and the query of each rule means the rule.
-use Rattle.std.specs.Prelude.{◌≡◌, ◌↔◌, ℕ, List, Option, None, Some, IfSome, Err}
+use Rattle.std.specs.Prelude.{◌≡◌, ◌↔◌, ◌++◌, ℕ, false, List, Option, None, Some, IfSome, Err}
 use Rattle.answer_parts.specs.EventLines.{EachLine}
 use Rattle.answer_parts.specs.Input.{World}
 use Rattle.answer_parts.specs.Parts.{Share, Part, NoneOfEvents}
@@ -14,14 +14,17 @@ use Rattle.rule_queries.specs.declared.backend_name.BackendName.{BackendName}
 use Rattle.rule_runs.specs.Runs.{IsNotRun}
 use Rattle.sig_base.specs.declared.limits.Limits.{Limits}
 use Rattle.sig_base.specs.declared.refusal.Refusal.{Refusal}
-use Rattle.sigma_app.specs.Answers.{Answers}
+use Rattle.sigma_app.specs.Answers.{AnswersAt, Answers}
 use Rattle.sigma_app.specs.Check.{CheckGives}
 use Rattle.sigma_app.specs.Convert.{ConvertGives, ConvertMeans}
 use Rattle.sigma_app.specs.Converted.{Converted, RulesBy}
+use Rattle.sigma_app.specs.Languages.{AskedBy, AskedAt}
 use Rattle.sigma_app.specs.Ran.{RunGives, RanUnder, Ran}
 use Rattle.sigma_app.specs.RuleFiles.{ByTree, DocumentGives, FileGives, contents}
 use Rattle.sigma_app.specs.UnderSchema.{BySchema}
+use Rattle.sigma_app.specs.declared.language_name.LanguageName.{LanguageName}
 use Rattle.sigma_app.specs.declared.request.Request.{Request}
+use Rattle.text_places.specs.Places.{CodeAt}
 use Rattle.yaml_tree.specs.Tree.{Tree, Answer}
 
 -- each tree is answered, in a file of each name
@@ -48,9 +51,14 @@ EachRan = (limits : Limits) (file : List ℕ) → EachUnder (RanUnder limits fil
 abbrev pub EachSelected : Type 0
 EachSelected = (schema : Schema) (rule : PlainRule) → EachLine (RunGives schema rule)
 
--- each request has an answer in each world
+-- said of the query that is asked, whatever the builder refused, of an answer that is cut off
+abbrev pub EachQueried : Type 0
+EachQueried = (language : LanguageName) (limits : Limits) (file : List ℕ) (before after gained : List (List ℕ)) → after ≡ before ++ gained
+    → EachUnder (AskedBy language limits file before after false)
+
+-- each request has an answer in each world, and one that is cut off before anything is built
 abbrev pub EachAnswer : Type 0
-EachAnswer = (limits : Limits) (request : Request) (world : World) → (parts : List Part) × Answers limits request world parts
+EachAnswer = (limits : Limits) (refused : List (List ℕ)) (request : Request) (world : World) → (parts : List Part) × Answers limits refused refused false request world parts
 
 -- exactly where a file isn't run, its answer asks for no events
 abbrev pub AsksUnlessUnrun : Type 0
@@ -76,9 +84,13 @@ OneFile by = (limits : Limits) (name bytes : List ℕ) (a b : Share) → FileGiv
 abbrev pub OneUnder : BySchema → Type 0
 OneUnder by = (given : Option Schema) (world : World) (a b : List Part) → by given world a → by given world b → a ≡ b
 
--- each request has one answer in each world
+-- said of the query that is asked, for each list of places that are refused for their regular expressions
+abbrev pub OneQueried : Type 0
+OneQueried = (language : LanguageName) (limits : Limits) (file : List ℕ) (places : List CodeAt) → OneUnder (AskedAt language limits file places)
+
+-- each request has one answer in each world, for each such list
 abbrev pub OneAnswer : Type 0
-OneAnswer = (limits : Limits) (request : Request) (world : World) (a b : List Part) → Answers limits request world a → Answers limits request world b → a ≡ b
+OneAnswer = (limits : Limits) (places : List CodeAt) (request : Request) (world : World) (a b : List Part) → AnswersAt limits places request world a → AnswersAt limits places request world b → a ≡ b
 
 -- said of both commands that answer trees, of each backend and under each schema
 abbrev pub OfBoth : (ByTree → Type 0) → Type 0

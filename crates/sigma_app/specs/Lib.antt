@@ -3,7 +3,9 @@ pub mod Check
 pub mod Codes
 pub mod Convert
 pub mod Converted
+pub mod Languages
 pub mod Laws
+pub mod Queried
 pub mod Ran
 pub mod Reports
 pub mod RuleFiles

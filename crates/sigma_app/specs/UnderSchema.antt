@@ -1,7 +1,8 @@
 -- The answer to a command that a schema's file may be named for: it's read before all else.
-use Rattle.std.specs.Prelude.{◌≡◌, ℕ, List, [], ◌∷◌, Option, None, Some, Ok, Err}
+use Rattle.std.specs.Prelude.{◌≡◌, ℕ, Bool, true, false, List, [], ◌∷◌, Option, None, Some, Result, Ok, Err}
 use Rattle.answer_parts.specs.Input.{World, File}
 use Rattle.answer_parts.specs.Parts.{Share, Part, no_share}
+use Rattle.answer_parts.specs.declared.stop.Stop.{Stop}
 use Rattle.event_reading.specs.SchemaOf.{schema_of}
 use Rattle.event_schema.specs.declared.schema.Schema.{Schema}
 use Rattle.rule_runs.specs.Files.{file_start}
@@ -13,6 +14,16 @@ use Rattle.sigma_app.specs.RuleFiles.{contents}
 -- what is answered under the given schema, or where none is given
 abbrev pub BySchema : Type 1
 BySchema = Option Schema → World → List Part → Type 0
+
+-- it came to its end, and wasn't cut off
+abbrev pub is_ended : Result Bool Stop → Bool
+is_ended (Ok refused) = true
+is_ended (Err stop) = false
+
+-- what is answered where the builder's list of refused texts was the first of these before and is the second after, and where it came to its
+-- end or didn't
+abbrev pub ByBuilds : Type 1
+ByBuilds = List (List ℕ) → List (List ℕ) → Bool → BySchema
 
 -- the part of an answer that belongs to a file
 abbrev pub file_part : List ℕ → Share → Part

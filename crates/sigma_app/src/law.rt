@@ -1,9 +1,12 @@
 //! That words are one request at most, that each request has exactly one answer, and that each rule's query means the rule.
 
 ghost use Rattle.std.specs.Prelude.{◌≡◌, ◌↔◌, List, ℕ, Some};
-ghost use Rattle.sigma_app.specs.Laws.{AsksUnlessUnrun, AsksNoneUnschemed, EachDocument, EachFile, EachConverted, EachRan, EachSelected, EachAnswer, OneDocument, OneFile, OneAnswer, OfBoth, QueriesMean, AnswersMean};
+ghost use Rattle.sigma_app.specs.Laws.{AsksUnlessUnrun, AsksNoneUnschemed, EachDocument, EachFile, EachConverted, EachQueried, EachRan, EachSelected, EachAnswer, OneDocument, OneFile, OneAnswer, OfBoth, QueriesMean, AnswersMean};
 ghost use Rattle.sigma_app.specs.Words.{IsAccepted, read};
 ghost use Rattle.sigma_app.specs.declared.request.Request.{Request};
+
+use languages::Language;
+use lucene_language::LuceneReader;
 
 /// The words are accepted as the request that is read word by word, and as no other.
 pub fn words_are_read()
@@ -16,6 +19,7 @@ pub fn each_answer()
     ensures file { OfBoth EachFile }
     ensures converted { EachConverted }
     ensures ran { EachRan }
+    ensures queried { EachQueried }
     ensures selected { EachSelected }
     ensures request { EachAnswer }
 {
@@ -23,6 +27,8 @@ pub fn each_answer()
     rule_model::lone_rules();
     rule_runs::one_run();
     detection_eval::matches_or_not();
+    query_runs::asked_once::<LuceneReader>();
+    LuceneReader::law();
     yaml_documents::laws::verdicts();
 }
 
@@ -35,6 +41,7 @@ pub fn one_answer()
     rule_queries::one_verdict();
     rule_model::lone_rules();
     rule_runs::one_run();
+    query_runs::asked_once::<LuceneReader>();
     yaml_documents::laws::verdicts();
     yaml_documents::laws::one_verdict();
 }

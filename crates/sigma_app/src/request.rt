@@ -1,5 +1,6 @@
 //! What the words ask for.
 
+use crate::language_name::LanguageName;
 use rule_queries::BackendName;
 use sig_base::{Text, Texts};
 
@@ -20,5 +21,11 @@ pub enum Request {
     Run {
         schema: Option<Text>,
         rule: Text,
+    },
+    /// Write the events that the query of a file selects, in a language and read under the schema of a file.
+    Query {
+        language: LanguageName,
+        schema: Text,
+        query: Text,
     },
 }

@@ -2,16 +2,17 @@
 
 ghost use Rattle.std.specs.Prelude.{◌≡◌, ℕ, List, Option};
 ghost use Rattle.answer_parts.specs.Input.{Input, World, WasUnread};
-ghost use Rattle.answer_parts.specs.Parts.{Part, NoneOfEvents};
 ghost use Rattle.answer_parts.specs.Stands.{Ends};
 ghost use Rattle.answer_parts.specs.State.{NoWriteFailed, SomeWriteFailed, NoReadFailed};
 ghost use Rattle.answer_parts.specs.declared.stop.Stop.TheVariants.{Unread};
 ghost use Rattle.sigma_app.specs.Answers.{Answers, needs_of};
-ghost use Rattle.sigma_app.specs.Served.{Serves, Answer, IsAnswered, IsCutOff, Tells, IsRead, MayBeUnread, ReadsNoEvents, Written, Headline, StandsAfter, StandsUnread, inputs_of, streams_of};
+ghost use Rattle.sigma_app.specs.Served.{Builds, Serves, IsAnswered, IsCutOff, Tells, IsRead, MayBeUnread, ReadsNoEvents, Written, Headline, StandsAfter, StandsUnread, Unasked, inputs_of, streams_of};
+ghost use Rattle.sigma_app.specs.UnderSchema.{is_ended};
 ghost use Rattle.sigma_app.specs.Words.{IsUnaccepted};
 
 use crate::commands::check::Check;
 use crate::commands::convert::answer_convert;
+use crate::commands::query::answer_query;
 use crate::commands::run::answer_run;
 use crate::files::answer_files;
 use crate::law::{each_answer, one_answer, queries_mean_rules};
@@ -19,11 +20,12 @@ use crate::request::Request;
 use crate::status::Status;
 use crate::words::read_words;
 use answer_parts::{Lent, Outside, Stop, tell_diagnostic};
+use languages::Builder;
 use sig_base::{Limits, Shelf, Sink, Source, Text};
 use std::alloc::Global;
 
 /// Does what the words say: answers on `out` and `err`, and tells how the run ended.
-pub fn serve<F: Shelf, S: Source, O: Sink, E: Sink>(
+pub fn serve<F: Shelf, S: Source, O: Sink, E: Sink, B: Builder>(
     alloc: Global,
     words: &[Text],
     limits: &Limits,
@@ -31,10 +33,11 @@ pub fn serve<F: Shelf, S: Source, O: Sink, E: Sink>(
     events: &mut S,
     out: &mut O,
     err: &mut E,
+    builder: &mut B,
 ) -> Status
     // A run that comes to its end has written the answer to its words in each world that the inputs tell.
     ensures answer { IsAnswered result → (world : World) → Tells words.now (inputs_of F.files F.failed S.left S.faults shelf.old events.old) world
-        → Written limits.now words.now world result (streams_of O.taken O.faults E.taken E.faults out.old err.old) (streams_of O.taken O.faults E.taken E.faults out.new err.new) }
+        → Written limits.now (record { before = B.refused builder.old; after = B.refused builder.new }) words.now world result (streams_of O.taken O.faults E.taken E.faults out.old err.old) (streams_of O.taken O.faults E.taken E.faults out.new err.new) }
     ensures headline { IsAnswered result → (world : World) → Tells words.now (inputs_of F.files F.failed S.left S.faults shelf.old events.old) world
         → Headline limits.now words.now world (streams_of O.taken O.faults E.taken E.faults out.old err.old) (streams_of O.taken O.faults E.taken E.faults out.new err.new) }
 
@@ -50,7 +53,7 @@ pub fn serve<F: Shelf, S: Source, O: Sink, E: Sink>(
         × WasUnread input (inputs_of F.files F.failed S.left S.faults shelf.old events.old) (inputs_of F.files F.failed S.left S.faults shelf.new events.new)
         × NoWriteFailed (streams_of O.taken O.faults E.taken E.faults out.old err.old) (streams_of O.taken O.faults E.taken E.faults out.new err.new)
         × ((world : World) → Tells words.now (inputs_of F.files F.failed S.left S.faults shelf.old events.old) world
-        → StandsUnread limits.now words.now world Unread input (S.left events.new) (streams_of O.taken O.faults E.taken E.faults out.old err.old) (streams_of O.taken O.faults E.taken E.faults out.new err.new)) }
+        → StandsUnread limits.now (record { before = B.refused builder.old; after = B.refused builder.new }) words.now world Unread input (S.left events.new) (streams_of O.taken O.faults E.taken E.faults out.old err.old) (streams_of O.taken O.faults E.taken E.faults out.new err.new)) }
     ensures write_fault { result ≡ Status.WriteFault
         → SomeWriteFailed (streams_of O.taken O.faults E.taken E.faults out.old err.old) (streams_of O.taken O.faults E.taken E.faults out.new err.new) }
 
@@ -59,21 +62,21 @@ pub fn serve<F: Shelf, S: Source, O: Sink, E: Sink>(
     ensures after_fault { IsCutOff result → (unread : Option Input) × (result ≡ Status.Memory → unread ≡ None)
         × MayBeUnread words.now result unread (inputs_of F.files F.failed S.left S.faults shelf.old events.old) (inputs_of F.files F.failed S.left S.faults shelf.new events.new)
         × ((world : World) → Tells words.now (inputs_of F.files F.failed S.left S.faults shelf.old events.old) world
-        → StandsAfter limits.now words.now world unread (S.left events.new) (streams_of O.taken O.faults E.taken E.faults out.old err.old) (streams_of O.taken O.faults E.taken E.faults out.new err.new)) }
+        → StandsAfter limits.now (record { before = B.refused builder.old; after = B.refused builder.new }) words.now world unread (S.left events.new) (streams_of O.taken O.faults E.taken E.faults out.old err.old) (streams_of O.taken O.faults E.taken E.faults out.new err.new)) }
 
     // Events that the words' request doesn't read stay as they are, however the run ends.
     ensures apart { ReadsNoEvents words.now → (S.left events.new ≡ S.left events.old) × (S.faults events.new ≡ S.faults events.old) }
 
-    // And so do all events, however the run ends, where the answer asks for none: where the schema or the rule is refused, say.
+    // And so do all events, however the run ends, where the answer asks for none: where the schema, the rule or the query is refused, say.
     ensures unasked { (world : World) → Tells words.now (inputs_of F.files F.failed S.left S.faults shelf.old events.old) world
-        → (status : Status) (parts : List Part) → Answer limits.now words.now world status parts → NoneOfEvents parts
-        → (S.left events.new ≡ S.left events.old) × (S.faults events.new ≡ S.faults events.old) }
+        → Unasked limits.now (record { before = B.refused builder.old; after = B.refused builder.new }) words.now world
+        (inputs_of F.files F.failed S.left S.faults shelf.old events.old) (inputs_of F.files F.failed S.left S.faults shelf.new events.new) }
 {
-    serve_lent(alloc, words, limits, shelf, events, out, err)
+    serve_lent(alloc, words, limits, shelf, events, out, err, builder)
 }
 
 /// The same, with all that is said of a run in one clause.
-fn serve_lent<F: Shelf, S: Source, O: Sink, E: Sink>(
+fn serve_lent<F: Shelf, S: Source, O: Sink, E: Sink, B: Builder>(
     alloc: Global,
     words: &[Text],
     limits: &Limits,
@@ -81,8 +84,9 @@ fn serve_lent<F: Shelf, S: Source, O: Sink, E: Sink>(
     events: &mut S,
     out: &mut O,
     err: &mut E,
+    builder: &mut B,
 ) -> Status
-    ensures { Serves limits.now words.now result
+    ensures { Serves limits.now (record { before = B.refused builder.old; after = B.refused builder.new }) words.now result
         (inputs_of F.files F.failed S.left S.faults shelf.old events.old) (inputs_of F.files F.failed S.left S.faults shelf.new events.new)
         (streams_of O.taken O.faults E.taken E.faults out.old err.old) (streams_of O.taken O.faults E.taken E.faults out.new err.new) }
 {
@@ -92,16 +96,17 @@ fn serve_lent<F: Shelf, S: Source, O: Sink, E: Sink>(
         out,
         err,
     };
-    answer_words(alloc, words, limits, &mut outside)
+    answer_words(alloc, words, limits, &mut outside, builder)
 }
 
-fn answer_words<W: Outside>(
+fn answer_words<W: Outside, B: Builder>(
     alloc: Global,
     words: &[Text],
     limits: &Limits,
     outside: &mut W,
+    builder: &mut B,
 ) -> Status
-    ensures serves { Serves limits.now words.now result (W.state outside.old).inputs (W.state outside.new).inputs (W.state outside.old).streams (W.state outside.new).streams }
+    ensures serves { Serves limits.now (record { before = B.refused builder.old; after = B.refused builder.new }) words.now result (W.state outside.old).inputs (W.state outside.new).inputs (W.state outside.old).streams (W.state outside.new).streams }
     ensures kept { (W.state outside.new).references ≡ (W.state outside.old).references }
 {
     each_answer();
@@ -112,7 +117,7 @@ fn answer_words<W: Outside>(
         Ok(None) => return refuse_words(outside),
         Err(_) => return Status::Memory,
     };
-    match answer_request(alloc, &request, limits, outside) {
+    match answer_request(alloc, &request, limits, outside, builder) {
         Ok(false) => Status::Done,
         Ok(true) => Status::Found,
         Err(Stop::Unread) => Status::ReadFault,
@@ -123,8 +128,8 @@ fn answer_words<W: Outside>(
 
 /// Tells that the words aren't accepted.
 fn refuse_words<W: Outside>(outside: &mut W) -> Status
-    ensures serves { (limits : Limits) (words : List (List ℕ)) → IsUnaccepted words
-        → Serves limits words result (W.state outside.old).inputs (W.state outside.new).inputs (W.state outside.old).streams (W.state outside.new).streams }
+    ensures serves { (limits : Limits) (builds : Builds) (words : List (List ℕ)) → IsUnaccepted words
+        → Serves limits builds words result (W.state outside.old).inputs (W.state outside.new).inputs (W.state outside.old).streams (W.state outside.new).streams }
     ensures kept { (W.state outside.new).references ≡ (W.state outside.old).references }
 {
     match tell_diagnostic(b"sigma: bad usage\n", outside) {
@@ -135,13 +140,14 @@ fn refuse_words<W: Outside>(outside: &mut W) -> Status
 }
 
 /// Answers a request.
-fn answer_request<W: Outside>(
+fn answer_request<W: Outside, B: Builder>(
     alloc: Global,
     request: &Request,
     limits: &Limits,
     outside: &mut W,
+    builder: &mut B,
 ) -> Result<bool, Stop>
-    ensures { Ends (needs_of request.now) (Answers limits.now request.now) result (W.state outside.old) (W.state outside.new) }
+    ensures { Ends (needs_of request.now) (Answers limits.now (B.refused builder.old) (B.refused builder.new) (is_ended result) request.now) result (W.state outside.old) (W.state outside.new) }
 {
     match request {
         Request::Check { rules } => answer_files(
@@ -155,7 +161,20 @@ fn answer_request<W: Outside>(
             backend,
             schema,
             rules,
-        } => answer_convert(alloc, *backend, limits, schema, rules.as_slice(), outside),
-        Request::Run { schema, rule } => answer_run(alloc, limits, schema, rule, outside),
+        } => answer_convert(
+            alloc,
+            *backend,
+            limits,
+            schema,
+            rules.as_slice(),
+            outside,
+            builder,
+        ),
+        Request::Run { schema, rule } => answer_run(alloc, limits, schema, rule, outside, builder),
+        Request::Query {
+            language,
+            schema,
+            query,
+        } => answer_query(alloc, *language, limits, schema, query, outside, builder),
     }
 }

@@ -2,6 +2,7 @@
 
 mod cuts;
 mod faults;
+mod querying;
 mod rules;
 mod running;
 mod schemas;
@@ -10,6 +11,7 @@ mod words;
 
 use crate::serve::serve;
 use crate::status::Status;
+use languages::CrateBuilder;
 use sig_base::{Bytes, Limits, MemoryShelf, MemorySink, MemorySource, Text};
 use std::alloc::Global;
 use std::process::Abort;
@@ -22,8 +24,8 @@ pub(super) const FOUR: &str = "title: \"cut\n---\na:\n\tb: 1\n---\na: 1\na: 2\n-
 pub(super) const FOUR_LINES: &str =
     "b.yml:1:1: 4 Syntax\nb.yml:4:1: 8 Tab\nb.yml:7:1: 5 DuplicateKey\nb.yml:9:4: 3 Unsupported\n";
 
-/// The files and the events, which call of the shelf, of the events, of the output and of the error output fails (0: none), and
-/// how many bytes one read and one write take.
+/// The files and the events, which call of the shelf, of the events, of the output, of the error output and of the builder fails
+/// (0: none), and how many bytes one read and one write take.
 #[derive(Clone, Copy)]
 pub(super) struct World<'a> {
     pub(super) files: &'a [(&'a str, &'a [u8])],
@@ -32,6 +34,7 @@ pub(super) struct World<'a> {
     pub(super) unread: u64,
     pub(super) out: u64,
     pub(super) err: u64,
+    pub(super) unbuilt: u64,
     pub(super) read: usize,
     pub(super) piece: usize,
 }
@@ -91,6 +94,7 @@ pub(super) fn run_over(
     );
     let mut out = sink_of(alloc, world.piece, world.out)?;
     let mut err = sink_of(alloc, world.piece, world.err)?;
+    let mut builder = CrateBuilder::new(alloc, ordinals(alloc, world.unbuilt)?);
     let status = serve(
         alloc,
         words.as_slice(),
@@ -99,6 +103,7 @@ pub(super) fn run_over(
         &mut events,
         &mut out,
         &mut err,
+        &mut builder,
     );
     Ok(Ran {
         status,
@@ -116,6 +121,7 @@ pub(super) fn still<'a>(files: &'a [(&'a str, &'a [u8])]) -> World<'a> {
         unread: 0,
         out: 0,
         err: 0,
+        unbuilt: 0,
         read: 4096,
         piece: 4096,
     }

@@ -8,6 +8,7 @@ ghost use Rattle.sigma_app.specs.Words.{IsAccepted, IsUnaccepted, files_of, only
 ghost use Rattle.sigma_app.specs.Words as accepted_words;
 ghost use Rattle.sigma_app.specs.declared.request.Request.TheVariants as requests;
 
+use crate::language_name::LanguageName;
 use crate::request::Request;
 use clap::ArgMatches;
 use command_words::{CommandName, items_are_read, read};
@@ -30,6 +31,9 @@ fn command_named(word: &Text) -> Option<CommandName>
     }
     if word.is("run") {
         return Some(CommandName::Run);
+    }
+    if word.is("query") {
+        return Some(CommandName::Query);
     }
     None
 }
@@ -105,6 +109,26 @@ fn backend_if_any(name: Option<&str>) -> Option<BackendName>
     }
 }
 
+/// The language of this name.
+fn language_named(name: &str) -> Option<LanguageName>
+    ensures { result ≡ accepted_words.language_named name.now }
+{
+    if name.as_bytes() == b"lucene".as_slice() {
+        return Some(LanguageName::Lucene);
+    }
+    None
+}
+
+/// The language of this name, if there is one.
+fn language_if_any(name: Option<&str>) -> Option<LanguageName>
+    ensures { result ≡ option_and_then accepted_words.language_named (option_map (λ s. s.now) name.entry) }
+{
+    match name {
+        Some(name) => language_named(name),
+        None => None,
+    }
+}
+
 /// What `check` asks for.
 fn check_request(alloc: Global, found: &ArgMatches) -> Result<Option<Request>, AllocError>
     ensures { (items : List Item) → HasItems found.now items → IfOk result (λ r. r ≡ Some (requests.Check (files_of items))) }
@@ -170,6 +194,35 @@ fn run_request(alloc: Global, found: &ArgMatches) -> Result<Option<Request>, All
     }
 }
 
+/// What `query` asks for.
+fn query_request(alloc: Global, found: &ArgMatches) -> Result<Option<Request>, AllocError>
+    ensures { (items : List Item) → HasItems found.now items → IfOk result (λ r. r ≡ request_with CommandName.Query items) }
+{
+    let Some(language) = language_if_any(found.get_str("backend")) else {
+        return Ok(None);
+    };
+    let named = match copy_if_any(alloc, found.get_str("schema")) {
+        Ok(named) => named,
+        Err(error) => return Err(error),
+    };
+    let Some(schema) = named else {
+        return Ok(None);
+    };
+    let files = match copies_if_any(alloc, found.get_raw("FILE")) {
+        Ok(files) => files,
+        Err(error) => return Err(error),
+    };
+    match copy_only(alloc, files.as_slice()) {
+        Ok(Some(query)) => Ok(Some(Request::Query {
+            language,
+            schema,
+            query,
+        })),
+        Ok(None) => Ok(None),
+        Err(error) => Err(error),
+    }
+}
+
 /// What a command asks for, by what clap found in the words behind its name.
 fn request_with(
     alloc: Global,
@@ -182,6 +235,7 @@ fn request_with(
         CommandName::Check => check_request(alloc, found),
         CommandName::Convert => convert_request(alloc, found),
         CommandName::Run => run_request(alloc, found),
+        CommandName::Query => query_request(alloc, found),
     }
 }
 

@@ -44,7 +44,7 @@ test_view (tests.IsNull k b) = plain.IsNull k b
 test_view (tests.Compare x op y) = plain.Compare (side_view x) (op_view op) (side_view y)
 test_view (tests.Like k b p e) = plain.Like k b p e
 test_view (tests.Glob k b p) = plain.Glob k b p
-test_view (tests.Regexp k b s) = plain.Regexp k b s.text
+test_view (tests.Regexp k b s) = plain.Regexp k b s.value.text
 test_view (tests.OneOf x b ys) = plain.OneOf (side_view x) b (map operand_view ys.items)
 test_view (tests.Between x b low high) = plain.Between (side_view x) b low high
 

@@ -47,7 +47,7 @@ pub enum SqlTest {
     Regexp {
         field: usize,
         negated: bool,
-        search: Search,
+        search: Box<Search>,
     },
     OneOf {
         left: Side,

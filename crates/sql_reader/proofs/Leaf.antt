@@ -36,8 +36,8 @@ is_searched (tests.Compare x op y) k b p e = absurd cc
 is_searched (tests.Like f n v o) k b p e = absurd cc
 is_searched (tests.Glob f n v) k b p e = absurd cc
 is_searched (tests.Regexp f n s) k b p e =
-    let same : s.text ≡ p = cc in
-    subst (λ (t : List ℕ). is_pattern t ≡ true) same (∥∥₁_elim s.built (Coded-set coded_bool _ _) (λ i. built_is_pattern s.text s.regex i))
+    let same : s.value.text ≡ p = cc in
+    subst (λ (t : List ℕ). is_pattern t ≡ true) same (∥∥₁_elim s.value.built (Coded-set coded_bool _ _) (λ i. built_is_pattern s.value.text s.value.regex i))
 is_searched (tests.OneOf x n ys) k b p e = absurd cc
 is_searched (tests.Between x n low high) k b p e = absurd cc
 

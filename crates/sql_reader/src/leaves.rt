@@ -48,7 +48,7 @@ fn build<B: Builder>(
             Ok(search) => Ok(SqlTest::Regexp {
                 field,
                 negated,
-                search,
+                search: Box::new(alloc, search)?,
             }),
             Err(stop) => Err(stop),
         },

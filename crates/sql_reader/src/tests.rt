@@ -4,7 +4,7 @@ use crate::read_select;
 use event_schema::{Field, FieldKind, FieldList, Schema};
 use languages::CrateBuilder;
 use sig_base::{Fault, Limits, Text, Texts};
-use sql_query::Select;
+use sql_query::{Expr, Select, SqlTest};
 use std::alloc::Global;
 use std::test::Fail;
 
@@ -32,9 +32,47 @@ fn schema(alloc: Global) -> Result<Schema, Fail> {
     })
 }
 
+/// A word and the parts of a chain, in parentheses.
+#[cycle(showing)]
+fn show_chain(shown: &mut String, word: &str, parts: &[Expr]) -> Result<(), Fail> {
+    shown.push_str(word)?;
+    for part in parts {
+        shown.push(' ')?;
+        show_expr(shown, part)?;
+    }
+    shown.push(')')?;
+    Ok(())
+}
+
+/// `(or ..)`, `(and ..)`, `-` for NOT, a constant's sign, and `t` for any other test.
+#[cycle(showing)]
+fn show_expr(shown: &mut String, expr: &Expr) -> Result<(), Fail> {
+    match expr {
+        Expr::Or(parts) => show_chain(shown, "(or", parts.as_slice()),
+        Expr::And(parts) => show_chain(shown, "(and", parts.as_slice()),
+        Expr::Not(part) => {
+            shown.push('-')?;
+            show_expr(shown, part)
+        }
+        Expr::Test(test) => {
+            shown.push_str(match test {
+                SqlTest::Constant(false) => "0",
+                SqlTest::Constant(true) => "1",
+                _ => "t",
+            })?;
+            Ok(())
+        }
+    }
+}
+
+/// The query that is read, or its first refusal.
 fn told(alloc: Global, answer: &Result<Select, Fault>) -> Result<String, Fail> {
     match answer {
-        Ok(_) => Ok(String::from_str(alloc, "read")?),
+        Ok(select) => {
+            let mut shown = String::new(alloc);
+            show_expr(&mut shown, &select.condition)?;
+            Ok(shown)
+        }
         Err(Fault::Memory) => Ok(String::from_str(alloc, "memory")?),
         Err(Fault::Refused(refusal)) => {
             let code = refusal.code.number();
@@ -77,12 +115,13 @@ fn of_condition(
 fn first_wrong(alloc: Global, table: &str, failing: u64) -> Result<String, Fail> {
     let limits = Limits::standard();
     for line in table.lines() {
-        if let Some((condition, want)) = line.split_once(" ~ ") {
-            let shown = of_condition(alloc, &limits, condition, failing)?;
-            if shown.as_str() != want {
-                let shown = shown.as_str();
-                return Ok(format!(in alloc; "{condition}: {shown}")?);
-            }
+        let Some((condition, want)) = line.split_once(" ~ ") else {
+            return Ok(String::from_str(alloc, line)?);
+        };
+        let shown = of_condition(alloc, &limits, condition, failing)?;
+        if shown.as_str() != want {
+            let shown = shown.as_str();
+            return Ok(format!(in alloc; "{condition}: {shown}")?);
         }
     }
     Ok(String::new(alloc))
@@ -91,20 +130,28 @@ fn first_wrong(alloc: Global, table: &str, failing: u64) -> Result<String, Fail>
 #[test]
 fn queries_are_read(rt: HostRuntime) -> Result<(), Fail> {
     let alloc = rt.alloc();
-    let table = r#"0 ~ read
-1; ~ read
-"Image" IS NULL ~ read
-"iMAGE" is not null ~ read
-"Image" != 'a' ~ read
-"Image" <> 'a' collate nocase ~ read
-"Image" == "Ip" COLLATE BINARY ~ read
-"Pid" <= -9223372036854775807 ~ read
-"Image" NOT LIKE 'a\_%\\' ESCAPE '\' ~ read
-"Pid" GLOB '[*][?][[]*?' ~ read
-"Ip" NOT REGEXP '^10[.]' ~ read
-"Image" COLLATE NOCASE NOT IN ('a', 'b''c') ~ read
-"Pid" BETWEEN 1 AND 2 AND "Image" IS NULL ~ read
-NOT NOT ("Pid" NOT BETWEEN 1 AND 2 OR NOT 0 AND 1) OR ((1)) ~ read
+    let table = r#"0 ~ 0
+1; ~ 1
+"Image" IS NULL ~ t
+"iMAGE" is not null ~ t
+"Image" != 'a' ~ t
+"Image" <> 'a' collate nocase ~ t
+"Image" == "Ip" COLLATE BINARY ~ t
+"Pid" <= -9223372036854775807 ~ t
+"Image" NOT LIKE 'a\_%\\' ESCAPE '\' ~ t
+"Pid" GLOB '[*][?][[]*?' ~ t
+"Ip" NOT REGEXP '^10[.]' ~ t
+"Image" COLLATE NOCASE NOT IN ('a', 'b''c') ~ t
+"Pid" BETWEEN 1 AND 2 AND "Image" IS NULL ~ (and t t)
+NOT NOT ("Pid" NOT BETWEEN 1 AND 2 OR NOT 0 AND 1) OR ((1)) ~ (or --(or t (and -0 1)) 1)
+1 OR 0 OR 1 ~ (or 1 0 1)
+(1 OR 0) OR 1 ~ (or (or 1 0) 1)
+1 OR (0 OR 1) ~ (or 1 (or 0 1))
+1 AND 0 OR 1 ~ (or (and 1 0) 1)
+1 AND (0 OR 1) ~ (and 1 (or 0 1))
+1 AND (0 AND 1) ~ (and 1 (and 0 1))
+NOT NOT (1) ~ --1
+((1)) ~ 1
 "#;
     assert_eq!(rt; first_wrong(alloc, table, 0)?.as_str(), "");
     Ok(())
@@ -124,6 +171,12 @@ fn texts_are_refused(rt: HostRuntime) -> Result<(), Fail> {
 ("Other" = 'a' ~ 120 at 1:44
 "Pid" BETWEEN 1 OR 2 ~ 120 at 1:46
 'a' = "Image" ~ 120 at 1:30
+"Image ~ 120 at 1:30
+"Image" = 'a # x ~ 120 at 1:40
+x = 'a ~ 121 at 1:30
+"Image" = 'é' AND x ~ 121 at 1:48
+"Pid" = -9223372036854775808 ~ 121 at 1:38
+"Pid" = - 1 ~ 121 at 1:38
 "#;
     assert_eq!(rt; first_wrong(alloc, table, 0)?.as_str(), "");
     Ok(())
@@ -136,6 +189,7 @@ fn names_kinds_and_patterns_are_refused(rt: HostRuntime) -> Result<(), Fail> {
 "Image" = "Other" ~ 122 at 1:40
 "Other" REGEXP '(' ~ 122 at 1:30
 "Other" = "Another" ~ 122 at 1:30
+"" = 'a' ~ 122 at 1:30
 "Pid" = 'a' ~ 123 at 1:30
 1 AND "Image" = 1 ~ 123 at 1:36
 "Image" < 'a' ~ 123 at 1:30
@@ -166,10 +220,10 @@ fn regular_expressions_are_refused(rt: HostRuntime) -> Result<(), Fail> {
     assert_eq!(rt; first_wrong(alloc, syntax, 0)?.as_str(), "");
     let first = r#""Image" REGEXP 'a' ~ 48 at 1:45
 "Image" REGEXP 'a' OR "Image" REGEXP '(' ~ 48 at 1:45
-"Image" IS NULL ~ read
+"Image" IS NULL ~ t
 "#;
     assert_eq!(rt; first_wrong(alloc, first, 1)?.as_str(), "");
-    let second = r#""Image" REGEXP 'a' ~ read
+    let second = r#""Image" REGEXP 'a' ~ t
 "Image" REGEXP 'a' AND "Image" REGEXP 'b' ~ 48 at 1:68
 "Image" REGEXP '(' AND "Image" REGEXP 'b' ~ 47 at 1:45
 "#;
@@ -203,25 +257,50 @@ fn nesting_is_bounded(rt: HostRuntime) -> Result<(), Fail> {
     );
     limits.sql_depth = 20;
     for (count, word, text, want) in [
-        (18, "NOT ", "\"Image\" IS NULL", "read"),
+        (18, "NOT ", "0", "------------------0"),
         (19, "NOT ", "\"Image\" IS NULL", "124 at 1:1"),
         (21, "NOT ", "x", "121 at 1:114"),
         (21, "NOT ", "'a'", "124 at 1:1"),
         (20, "NOT ", "'a'", "120 at 1:110"),
         (21, "(", "", "124 at 1:1"),
         (20, "(", "", "120 at 1:50"),
-        (19, "1 AND ", "1", "read"),
+        (19, "1 AND ", "1", "(and 1 1 1 1 1 1 1 1 1 1 1 1 1 1 1 1 1 1 1 1)"),
         (20, "1 AND ", "1", "124 at 1:1"),
+        (20, "1 AND ", "\"Other\" = 'a'", "124 at 1:1"),
     ] {
         assert_eq!(rt; nested(alloc, &limits, count, word, text)?.as_str(), want);
     }
     Ok(())
 }
 
+/// Whether so many open parentheses around `1`, each closed, are read as 1.
+fn is_read_in_parentheses(alloc: Global, count: usize) -> Result<bool, Fail> {
+    let limits = Limits::standard();
+    let mut closed = String::from_str(alloc, "1")?;
+    for _turn in 0..count {
+        closed.push(')')?;
+    }
+    let shown = nested(alloc, &limits, count, "(", closed.as_str())?;
+    Ok(shown.as_str() == "1")
+}
+
+#[test]
+fn what_the_limits_allow_is_read(rt: HostRuntime) -> Result<(), Fail> {
+    let alloc = rt.alloc();
+    let limits = Limits::standard();
+    assert!(rt; is_read_in_parentheses(alloc, 1000)?);
+    assert!(rt; !is_read_in_parentheses(alloc, 1001)?);
+    let nots = nested(alloc, &limits, 998, "NOT ", "\"Image\" IS NULL")?;
+    assert_eq!(rt; nots.len(), 999);
+    let refused = nested(alloc, &limits, 999, "NOT ", "\"Image\" IS NULL")?;
+    assert_eq!(rt; refused.as_str(), "124 at 1:1");
+    Ok(())
+}
+
 #[test]
 fn whole_texts_are_refused(rt: HostRuntime) -> Result<(), Fail> {
     let alloc = rt.alloc();
-    let all: [(&[u8], &str); 7] = [
+    let all: [(&[u8], &str); 13] = [
         (b"", "120 at 1:1"),
         (b"SELECT \xff", "1 at 1:8"),
         (b"SELECT *\nFROM \"events\"\nWHERE", "120 at 3:6"),
@@ -229,7 +308,13 @@ fn whole_texts_are_refused(rt: HostRuntime) -> Result<(), Fail> {
             b"SELECT * FROM \"other\" WHERE \"Image\" = 'a'",
             "122 at 1:15",
         ),
-        (b"select * from \"EVENTS\" where 1 ;\n", "read"),
+        (b"select * from \"EVENTS\" where 1 ;\n", "1"),
+        (b"SELECT\t*\rFROM\x0c\"events\"\nWHERE 1", "1"),
+        (b"SELECT * FROM \"events\"\nWHERE x", "121 at 2:7"),
+        (b"SELECT * FROM \"events\"\nWHERE \"x\" = 'a'", "122 at 2:7"),
+        (b"SELECT * FROM \"events\" WHERE \"Image\" = 'a\0b'", "121 at 1:40"),
+        (b"SELECT * FROM \"events\" WHERE \"Image\" = 'a\0b", "120 at 1:40"),
+        (b"SELECT * FROM \"events\" WHERE \"Im\0age\" = 'a'", "122 at 1:30"),
         (b"SELECT * FROM \"events\" WHERE 1;;", "120 at 1:32"),
         (b"SELECT Image FROM \"events\" WHERE 1", "121 at 1:8"),
     ];

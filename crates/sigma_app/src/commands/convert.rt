@@ -14,6 +14,7 @@ use crate::given_schema::{SchemaCommand, answer_schema};
 use crate::law::each_answer;
 use answer_parts::{Outside, Stop, put_line};
 use event_schema::Schema;
+use languages::Builder;
 use rule_queries::BackendName;
 use rule_queries::named::convert_node;
 use sig_base::{Fault, Limits, Text};
@@ -60,17 +61,18 @@ struct ConvertFiles<'l, 'r> {
 }
 
 impl SchemaCommand for ConvertFiles<'_, '_> {
-    ghost by = { λ c. RulesBy (ConvertGives c.backend c.limits.now) c.limits.now c.rules.now };
+    ghost by = { λ c before after ended. RulesBy (ConvertGives c.backend c.limits.now) c.limits.now c.rules.now };
 
     ghost names = { λ c. c.rules.now };
 
     ghost events = { λ c. false };
 
-    fn answer<W: Outside>(
+    fn answer<W: Outside, B: Builder>(
         &self,
         alloc: Global,
         given: Option<&Schema>,
         outside: &mut W,
+        _builder: &mut B,
     ) -> Result<bool, Stop> {
         let command = Convert {
             backend: self.backend,
@@ -86,13 +88,14 @@ impl SchemaCommand for ConvertFiles<'_, '_> {
 }
 
 /// Answers the rule files for the backend, under the schema of a file if one is named.
-pub(crate) fn answer_convert<W: Outside>(
+pub(crate) fn answer_convert<W: Outside, B: Builder>(
     alloc: Global,
     backend: BackendName,
     limits: &Limits,
     schema: &Option<Text>,
     rules: &[Text],
     outside: &mut W,
+    builder: &mut B,
 ) -> Result<bool, Stop>
     ensures { Ends (record { names = names_with schema.now rules.now; events = false }) (Converted (ConvertGives backend limits.now) limits.now schema.now rules.now) result (W.state outside.old) (W.state outside.new) }
 {
@@ -106,5 +109,6 @@ pub(crate) fn answer_convert<W: Outside>(
         },
         schema,
         outside,
+        builder,
     )
 }

@@ -16,6 +16,7 @@ use answer_parts::{LineCommand, Outside, Stop, answer_lines, read_file, tell_lin
 use detection_eval::Ready;
 use event_reading::read_event;
 use event_schema::Schema;
+use languages::Builder;
 use rule_model::Rule;
 use rule_runs::{rule_alone, rule_under};
 use selected_lines::put_picked;
@@ -30,17 +31,18 @@ struct RunFile<'l, 'r> {
 }
 
 impl SchemaCommand for RunFile<'_, '_> {
-    ghost by = { λ c. RanUnder c.limits.now c.rule.now };
+    ghost by = { λ c before after ended. RanUnder c.limits.now c.rule.now };
 
     ghost names = { λ c. c.rule.now ∷ [] };
 
     ghost events = { λ c. true };
 
-    fn answer<W: Outside>(
+    fn answer<W: Outside, B: Builder>(
         &self,
         alloc: Global,
         given: Option<&Schema>,
         outside: &mut W,
+        _builder: &mut B,
     ) -> Result<bool, Stop> {
         self.each_under();
         match read_file(alloc, self.rule, self.limits.file_bytes + 1, outside) {
@@ -179,14 +181,22 @@ fn answer_events<W: Outside>(
 }
 
 /// Answers the events that the rule of a file matches, read under the schema of a file if one is named.
-pub(crate) fn answer_run<W: Outside>(
+pub(crate) fn answer_run<W: Outside, B: Builder>(
     alloc: Global,
     limits: &Limits,
     schema: &Option<Text>,
     rule: &Text,
     outside: &mut W,
+    builder: &mut B,
 ) -> Result<bool, Stop>
     ensures { Ends (record { names = names_with schema.now (rule.now ∷ []); events = true }) (Ran limits.now schema.now rule.now) result (W.state outside.old) (W.state outside.new) }
 {
-    answer_schema(alloc, limits, &RunFile { limits, rule }, schema, outside)
+    answer_schema(
+        alloc,
+        limits,
+        &RunFile { limits, rule },
+        schema,
+        outside,
+        builder,
+    )
 }

@@ -8,6 +8,6 @@ use Rattle.sql_eval.proofs.testing.test_value.Goals as goal
 
 pub returns-in-Regexp-clause-value : goal.returns-in-Regexp-clause-value
 returns-in-Regexp-clause-value c = rw c.in-Regexp.is (λ rest e.
-    let v : (truth_view c.search_value.result ≡ on_text (finds c.in-Regexp.search.text) (seen_option_view c.column-in-Regexp.result)) × (left_of c.search_value.new.finders ≡ rest)
-    = c.search_value.ensures.value c.in-Regexp.search.text rest e in
-    (c.negated_if-in-Regexp.ensures ∙ ap (negated_if c.in-Regexp.negated) (v.0 ∙ ap (λ (o : Option Value). on_text (finds c.in-Regexp.search.text) o) c.column-in-Regexp.ensures), v.1))
+    let v : (truth_view c.search_value.result ≡ on_text (finds c.in-Regexp.search.value.text) (seen_option_view c.column-in-Regexp.result)) × (left_of c.search_value.new.finders ≡ rest)
+    = c.search_value.ensures.value c.in-Regexp.search.value.text rest e in
+    (c.negated_if-in-Regexp.ensures ∙ ap (negated_if c.in-Regexp.negated) (v.0 ∙ ap (λ (o : Option Value). on_text (finds c.in-Regexp.search.value.text) o) c.column-in-Regexp.ensures), v.1))

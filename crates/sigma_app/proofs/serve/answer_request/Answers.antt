@@ -1,0 +1,21 @@
+use Rattle.sigma_app.proofs.Lifted.{no_places, query_answers}
+use Rattle.sigma_app.specs.UnderSchema.{is_ended}
+use Rattle.sigma_app.proofs.serve.answer_request.Goals as goal
+
+pub returns-in-Check : goal.returns-in-Check
+returns-in-Check g c =
+    let e = rw c.as_slice.ensures at c.answer_files.ensures in
+    rw c.in-Check.is (no_places _ _ c.answer_files.result (g.W.Outside.state c.args.outside.now) (g.W.Outside.state c.answer_files.new.outside) e)
+
+pub returns-in-Convert : goal.returns-in-Convert
+returns-in-Convert g c =
+    let e = rw c.as_slice-in-Convert.ensures at c.answer_convert.ensures in
+    rw c.in-Convert.is (no_places _ _ c.answer_convert.result (g.W.Outside.state c.args.outside.now) (g.W.Outside.state c.answer_convert.new.outside) e)
+
+pub returns-in-Run : goal.returns-in-Run
+returns-in-Run g c = rw c.in-Run.is (no_places _ _ c.answer_run.result (g.W.Outside.state c.args.outside.now) (g.W.Outside.state c.answer_run.new.outside) c.answer_run.ensures)
+
+pub returns-in-Query : goal.returns-in-Query
+returns-in-Query g c =
+    rw c.in-Query.is (query_answers c.in-Query.language c.args.limits.now c.in-Query.schema c.in-Query.query (g.B.Builder.refused c.args.builder.now) (g.B.Builder.refused c.answer_query.new.builder)
+        (is_ended c.answer_query.result) _ c.answer_query.result (g.W.Outside.state c.args.outside.now) (g.W.Outside.state c.answer_query.new.outside) c.answer_query.ensures)
