@@ -70,17 +70,17 @@ pub fn walk_leaf<'p, B: Builder>(
     alloc: Global,
     columns: &Columns<'_>,
     builder: &mut B,
-    leaf: Leaf,
+    leaf: &Leaf,
     places: &'p [Place],
 ) -> Result<Walked<'p>, Fault>
-    ensures { WalkAnswers (B.refused builder.old) (B.refused builder.new) (test_checks columns.now (leaf_view leaf) (places_view places.now))
-        (expression.Test (expression.test_of columns.now (leaf_view leaf))) (drop (length (spell_test (leaf_view leaf))) (places_view places.now)) result }
+    ensures { WalkAnswers (B.refused builder.old) (B.refused builder.new) (test_checks columns.now (leaf_view leaf.now) (places_view places.now))
+        (expression.Test (expression.test_of columns.now (leaf_view leaf.now))) (drop (length (spell_test (leaf_view leaf.now))) (places_view places.now)) result }
 {
-    if let Some(refusal) = judge(columns, &leaf, places) {
+    if let Some(refusal) = judge(columns, leaf, places) {
         return Err(Fault::Refused(refusal));
     }
-    let place = pattern_place(&leaf, places);
-    let rest = behind_test(&leaf, places);
+    let place = pattern_place(leaf, places);
+    let rest = behind_test(leaf, places);
     let test = test_of(alloc, columns, leaf)?;
     match build(alloc, builder, test, place) {
         Ok(test) => Ok(tested(test, rest)),

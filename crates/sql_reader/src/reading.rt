@@ -78,7 +78,7 @@ fn select_of<B: Builder>(
         return Err(refused(Code::SQL_UNKNOWN_COLUMN, place_at(places, 3)));
     }
     let columns = Columns::of(alloc, schema.fields.as_slice())?;
-    match walk_ors(alloc, &columns, builder, query.condition, behind(places, 5)) {
+    match walk_ors(alloc, &columns, builder, &query.condition, behind(places, 5)) {
         Ok(walked) => Ok(Select {
             condition: walked.expr,
         }),

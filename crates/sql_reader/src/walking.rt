@@ -1,5 +1,5 @@
-//! From a query as it's written to its expression, or to the first of what is wrong with it. Texts are moved, and it recurses
-//! with open parentheses alone.
+//! From a query as it's written to its expression, or to the first of what is wrong with it. It recurses with open parentheses alone,
+//! and what it keeps for each is small: the query is lent, and what is made of a result stands in functions that don't recurse.
 
 ghost use Rattle.std.specs.Prelude.{ℕ, List, ◌≡◌, drop, length, map, IfOk, IfErr};
 ghost use Rattle.sql_lang.specs.Expression as expression;
@@ -38,6 +38,7 @@ pub struct Chain<'p> {
 }
 
 /// So many words NOT before an expression.
+#[inline(never)]
 fn negated(alloc: Global, count: usize, expr: Expr) -> Result<Expr, Fault>
     ensures ok { IfOk result (λ e. expr_view e ≡ nots_on count (expr_view expr)) }
     ensures err { IfErr result (λ e. e ≡ Fault.Memory) }
@@ -50,7 +51,33 @@ fn negated(alloc: Global, count: usize, expr: Expr) -> Result<Expr, Fault>
     Ok(all)
 }
 
+/// The expression behind so many words NOT.
+#[inline(never)]
+fn close_nots<'p>(alloc: Global, count: usize, inner: Walked<'p>) -> Result<Walked<'p>, Fault>
+    ensures ok { IfOk result (λ w. (expr_view w.expr ≡ nots_on count (expr_view inner.entry.expr)) × (w.rest.now ≡ inner.entry.rest.now)) }
+    ensures err { IfErr result (λ e. e ≡ Fault.Memory) }
+{
+    let expr = negated(alloc, count, inner.expr)?;
+    Ok(Walked {
+        expr,
+        rest: inner.rest,
+    })
+}
+
+/// The same expression, with the closing parenthesis passed.
+#[inline(never)]
+fn closed(inner: Walked<'_>) -> Walked<'_>
+    ensures expr { expr_view result.expr ≡ expr_view inner.entry.expr }
+    ensures rest { places_view result.rest.now ≡ drop 1 (places_view inner.entry.rest.now) }
+{
+    Walked {
+        expr: inner.expr,
+        rest: behind(inner.rest, 1),
+    }
+}
+
 /// The AND of these parts and the last one, which alone is itself.
+#[inline(never)]
 fn close_and<'p>(parts: Vec<Expr>, last: Walked<'p>) -> Result<Walked<'p>, Fault>
     ensures ok { IfOk result (λ w. (expr_view w.expr ≡ and_list (map expr_view parts.items) (expr_view last.entry.expr)) × (w.rest.now ≡ last.entry.rest.now)) }
     ensures err { IfErr result (λ e. e ≡ Fault.Memory) }
@@ -67,6 +94,7 @@ fn close_and<'p>(parts: Vec<Expr>, last: Walked<'p>) -> Result<Walked<'p>, Fault
 }
 
 /// The OR of these parts and the last one, which alone is itself.
+#[inline(never)]
 fn close_or<'p>(parts: Vec<Expr>, last: Walked<'p>) -> Result<Walked<'p>, Fault>
     ensures ok { IfOk result (λ w. (expr_view w.expr ≡ or_list (map expr_view parts.items) (expr_view last.entry.expr)) × (w.rest.now ≡ last.entry.rest.now)) }
     ensures err { IfErr result (λ e. e ≡ Fault.Memory) }
@@ -87,16 +115,16 @@ fn walk_core<'p, B: Builder>(
     alloc: Global,
     columns: &Columns<'_>,
     builder: &mut B,
-    core: Core,
+    core: &Core,
     places: &'p [Place],
 ) -> Result<Walked<'p>, Fault>
-    ensures { WalkAnswers (B.refused builder.old) (B.refused builder.new) (not_checks columns.now (core_view core) (places_view places.now))
-        (expression.not_expr columns.now (core_view core)) (drop (length (spell_nots (core_view core))) (places_view places.now)) result }
+    ensures { WalkAnswers (B.refused builder.old) (B.refused builder.new) (not_checks columns.now (core_view core.now) (places_view places.now))
+        (expression.not_expr columns.now (core_view core.now)) (drop (length (spell_nots (core_view core.now))) (places_view places.now)) result }
 {
     match core {
         Core::Test(leaf) => walk_leaf(alloc, columns, builder, leaf, places),
         Core::Enclosed(inner) => {
-            walk_enclosed(alloc, columns, builder, Box::into_inner(inner), places)
+            walk_enclosed(alloc, columns, builder, inner, places)
         }
     }
 }
@@ -106,17 +134,14 @@ fn walk_enclosed<'p, B: Builder>(
     alloc: Global,
     columns: &Columns<'_>,
     builder: &mut B,
-    inner: Ors,
+    inner: &Ors,
     places: &'p [Place],
 ) -> Result<Walked<'p>, Fault>
-    ensures { WalkAnswers (B.refused builder.old) (B.refused builder.new) (not_checks columns.now (enclosed (ors_view inner)) (places_view places.now))
-        (expression.not_expr columns.now (enclosed (ors_view inner))) (drop (length (spell_nots (enclosed (ors_view inner)))) (places_view places.now)) result }
+    ensures { WalkAnswers (B.refused builder.old) (B.refused builder.new) (not_checks columns.now (enclosed (ors_view inner.now)) (places_view places.now))
+        (expression.not_expr columns.now (enclosed (ors_view inner.now))) (drop (length (spell_nots (enclosed (ors_view inner.now)))) (places_view places.now)) result }
 {
     match walk_ors(alloc, columns, builder, inner, behind(places, 1)) {
-        Ok(walked) => Ok(Walked {
-            expr: walked.expr,
-            rest: behind(walked.rest, 1),
-        }),
+        Ok(walked) => Ok(closed(walked)),
         Err(stop) => Err(stop),
     }
 }
@@ -126,21 +151,15 @@ fn walk_nots<'p, B: Builder>(
     alloc: Global,
     columns: &Columns<'_>,
     builder: &mut B,
-    nots: Nots,
+    nots: &Nots,
     places: &'p [Place],
 ) -> Result<Walked<'p>, Fault>
-    ensures { WalkAnswers (B.refused builder.old) (B.refused builder.new) (not_checks columns.now (nots_view nots) (places_view places.now))
-        (expression.not_expr columns.now (nots_view nots)) (drop (length (spell_nots (nots_view nots))) (places_view places.now)) result }
+    ensures { WalkAnswers (B.refused builder.old) (B.refused builder.new) (not_checks columns.now (nots_view nots.now) (places_view places.now))
+        (expression.not_expr columns.now (nots_view nots.now)) (drop (length (spell_nots (nots_view nots.now))) (places_view places.now)) result }
 {
     let count = nots.count;
-    match walk_core(alloc, columns, builder, nots.core, behind(places, count)) {
-        Ok(inner) => {
-            let expr = negated(alloc, count, inner.expr)?;
-            Ok(Walked {
-                expr,
-                rest: inner.rest,
-            })
-        }
+    match walk_core(alloc, columns, builder, &nots.core, behind(places, count)) {
+        Ok(inner) => close_nots(alloc, count, inner),
         Err(stop) => Err(stop),
     }
 }
@@ -150,11 +169,11 @@ fn and_chain<'p, B: Builder>(
     alloc: Global,
     columns: &Columns<'_>,
     builder: &mut B,
-    before: Vec<Nots>,
+    before: &[Nots],
     last: &Nots,
     places: &'p [Place],
 ) -> Result<Chain<'p>, Fault>
-    ensures { AndAnswers columns.now (B.refused builder.old) (B.refused builder.new) (map nots_view before.items) (nots_view last.now) (places_view places.now) result }
+    ensures { AndAnswers columns.now (B.refused builder.old) (B.refused builder.new) (map nots_view before.now) (nots_view last.now) (places_view places.now) result }
 {
     let mut done = Vec::new(alloc);
     let mut rest = places;
@@ -175,12 +194,12 @@ fn and_last<'p, B: Builder>(
     alloc: Global,
     columns: &Columns<'_>,
     builder: &mut B,
-    last: Nots,
+    last: &Nots,
     chain: Chain<'p>,
 ) -> Result<Walked<'p>, Fault>
     ensures { (old : List (List ℕ)) (parts : List grammar.Nots) (start : List At) → AndBuilt columns.now old (B.refused builder.old) parts start chain.entry
-        → WalkAnswers old (B.refused builder.new) (and_checks columns.now (and_of parts (nots_view last)) start)
-        (expression.and_expr columns.now (and_of parts (nots_view last))) (drop (length (spell_and (and_of parts (nots_view last)))) start) result }
+        → WalkAnswers old (B.refused builder.new) (and_checks columns.now (and_of parts (nots_view last.now)) start)
+        (expression.and_expr columns.now (and_of parts (nots_view last.now))) (drop (length (spell_and (and_of parts (nots_view last.now)))) start) result }
 {
     match walk_nots(alloc, columns, builder, last, chain.rest) {
         Ok(walked) => close_and(chain.done, walked),
@@ -193,14 +212,14 @@ fn walk_ands<'p, B: Builder>(
     alloc: Global,
     columns: &Columns<'_>,
     builder: &mut B,
-    ands: Ands,
+    ands: &Ands,
     places: &'p [Place],
 ) -> Result<Walked<'p>, Fault>
-    ensures { WalkAnswers (B.refused builder.old) (B.refused builder.new) (and_checks columns.now (ands_view ands) (places_view places.now))
-        (expression.and_expr columns.now (ands_view ands)) (drop (length (spell_and (ands_view ands))) (places_view places.now)) result }
+    ensures { WalkAnswers (B.refused builder.old) (B.refused builder.new) (and_checks columns.now (ands_view ands.now) (places_view places.now))
+        (expression.and_expr columns.now (ands_view ands.now)) (drop (length (spell_and (ands_view ands.now))) (places_view places.now)) result }
 {
-    match and_chain(alloc, columns, builder, ands.before, &ands.last, places) {
-        Ok(chain) => and_last(alloc, columns, builder, ands.last, chain),
+    match and_chain(alloc, columns, builder, &ands.before, &ands.last, places) {
+        Ok(chain) => and_last(alloc, columns, builder, &ands.last, chain),
         Err(stop) => Err(stop),
     }
 }
@@ -210,11 +229,11 @@ fn or_chain<'p, B: Builder>(
     alloc: Global,
     columns: &Columns<'_>,
     builder: &mut B,
-    before: Vec<Ands>,
+    before: &[Ands],
     last: &Ands,
     places: &'p [Place],
 ) -> Result<Chain<'p>, Fault>
-    ensures { OrAnswers columns.now (B.refused builder.old) (B.refused builder.new) (map ands_view before.items) (ands_view last.now) (places_view places.now) result }
+    ensures { OrAnswers columns.now (B.refused builder.old) (B.refused builder.new) (map ands_view before.now) (ands_view last.now) (places_view places.now) result }
 {
     let mut done = Vec::new(alloc);
     let mut rest = places;
@@ -235,12 +254,12 @@ fn or_last<'p, B: Builder>(
     alloc: Global,
     columns: &Columns<'_>,
     builder: &mut B,
-    last: Ands,
+    last: &Ands,
     chain: Chain<'p>,
 ) -> Result<Walked<'p>, Fault>
     ensures { (old : List (List ℕ)) (parts : List grammar.Ands) (start : List At) → OrBuilt columns.now old (B.refused builder.old) parts start chain.entry
-        → WalkAnswers old (B.refused builder.new) (or_checks columns.now (or_of parts (ands_view last)) start)
-        (expression.or_expr columns.now (or_of parts (ands_view last))) (drop (length (spell_or (or_of parts (ands_view last)))) start) result }
+        → WalkAnswers old (B.refused builder.new) (or_checks columns.now (or_of parts (ands_view last.now)) start)
+        (expression.or_expr columns.now (or_of parts (ands_view last.now))) (drop (length (spell_or (or_of parts (ands_view last.now)))) start) result }
 {
     match walk_ands(alloc, columns, builder, last, chain.rest) {
         Ok(walked) => close_or(chain.done, walked),
@@ -254,14 +273,14 @@ pub fn walk_ors<'p, B: Builder>(
     alloc: Global,
     columns: &Columns<'_>,
     builder: &mut B,
-    ors: Ors,
+    ors: &Ors,
     places: &'p [Place],
 ) -> Result<Walked<'p>, Fault>
-    ensures { WalkAnswers (B.refused builder.old) (B.refused builder.new) (or_checks columns.now (ors_view ors) (places_view places.now))
-        (expression.or_expr columns.now (ors_view ors)) (drop (length (spell_or (ors_view ors))) (places_view places.now)) result }
+    ensures { WalkAnswers (B.refused builder.old) (B.refused builder.new) (or_checks columns.now (ors_view ors.now) (places_view places.now))
+        (expression.or_expr columns.now (ors_view ors.now)) (drop (length (spell_or (ors_view ors.now))) (places_view places.now)) result }
 {
-    match or_chain(alloc, columns, builder, ors.before, &ors.last, places) {
-        Ok(chain) => or_last(alloc, columns, builder, ors.last, chain),
+    match or_chain(alloc, columns, builder, &ors.before, &ors.last, places) {
+        Ok(chain) => or_last(alloc, columns, builder, &ors.last, chain),
         Err(stop) => Err(stop),
     }
 }

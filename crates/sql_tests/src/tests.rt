@@ -210,7 +210,7 @@ fn made(alloc: Global, fields: &[Field], text: &str) -> Result<String, Fail> {
     let Some(leaf) = leaf(alloc, text)? else {
         return Ok(String::from_str(alloc, "no test")?);
     };
-    let test = test_of(alloc, &columns, leaf)?;
+    let test = test_of(alloc, &columns, &leaf)?;
     Ok(format!(in alloc; "{test:?}")?)
 }
 
