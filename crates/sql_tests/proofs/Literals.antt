@@ -1,6 +1,6 @@
 -- Literals that are taken for operands, one behind the other.
-use Rattle.std.proofs.Common.{ℕ, ◌≡◌, List, [], ◌∷◌, ◌++◌, length, map, refl, sym, ap, ◌∙◌, append_assoc, append-nil}
-use Rattle.std.proofs.lemmas.List.{map-append, nil_from_length}
+use Rattle.std.proofs.Common.{ℕ, ◌≡◌, ◌+◌, ◌<◌, ◌≤◌, List, [], ◌∷◌, ◌++◌, length, drop, map, get_or, refl, sym, ap, ◌∙◌, append_assoc, append-nil}
+use Rattle.std.proofs.lemmas.List.{map-append, drop_more, drop_all}
 use Rattle.event_schema.specs.declared.schema.Field.{Field}
 use Rattle.sql_lang.specs.Expression as plain
 use Rattle.sql_lang.specs.Grammar as grammar
@@ -20,11 +20,14 @@ operands_go fields done new literals more x o whole is inv one pushed =
     ∙ (ap (λ (p : plain.Operand). map operand_view done ++ p ∷ rest) one
     ∙ (sym (ap (λ (ls : List Literal). map operand_view done ++ map (plain.literal_operand fields) (literals_view ls)) is) ∙ inv))))
 
-pub operands_end : (fields : List Field) (done : List Operand) (literals : List Literal) (whole : List plain.Operand) (n : ℕ)
-    → n ≡ 0 → n ≡ length literals → map operand_view done ++ map (plain.literal_operand fields) (literals_view literals) ≡ whole → map operand_view done ≡ whole
-operands_end fields done literals whole n none left inv =
+pub next_literal : (literals : List Literal) (i : ℕ) (x : Literal) → i < length literals → x ≡ get_or literals i x → drop i literals ≡ x ∷ drop (i + 1) literals
+next_literal literals i x h e = drop_more literals i x h ∙ ap (λ (y : Literal). y ∷ drop (i + 1) literals) (sym e)
+
+pub operands_end : (fields : List Field) (done : List Operand) (literals : List Literal) (i : ℕ) (whole : List plain.Operand)
+    → length literals ≤ i → map operand_view done ++ map (plain.literal_operand fields) (literals_view (drop i literals)) ≡ whole → map operand_view done ≡ whole
+operands_end fields done literals i whole past inv =
     sym (append-nil (map operand_view done))
-    ∙ (sym (ap (λ (ls : List Literal). map operand_view done ++ map (plain.literal_operand fields) (literals_view ls)) (nil_from_length literals (sym left ∙ none))) ∙ inv)
+    ∙ (sym (ap (λ (ls : List Literal). map operand_view done ++ map (plain.literal_operand fields) (literals_view ls)) (drop_all i literals past)) ∙ inv)
 
 in_a_list : (fields : List Field) (ls : List grammar.Literal) (last : grammar.Literal)
     → map (plain.literal_operand fields) ls ++ plain.literal_operand fields last ∷ [] ≡ plain.literal_operands fields ls last

@@ -1,5 +1,4 @@
-use Rattle.std.proofs.Common.{◌≡◌, length}
-use Rattle.std.specs.Vec.Iter.{into_iter_items, into_iter_len}
+use Rattle.std.proofs.Common.{◌≡◌, drop}
 use Rattle.sql_lang.specs.Expression.{not_expr, and_expr}
 use Rattle.sql_scan.specs.View.{places_view}
 use Rattle.sql_parse.specs.View.{nots_view, ands_view}
@@ -11,13 +10,11 @@ use Rattle.sql_reader.proofs.walking.+walk.Given as goal
 abbrev pub invariant-and_chain-loop-part : goal.invariant-and_chain-loop-part
 invariant-and_chain-loop-part g l = record {
   same : g.B.Builder.refused l.builder ≡ g.B.Builder.refused l.fn.builder;
-  going : Going nots_view (not_checks l.columns) nots_size (not_expr l.columns) (into_iter_items l.initial.part-iterator) (places_view l.fn.places) (into_iter_items l.part-iterator) (places_view l.rest) l.done.items;
-  left : into_iter_len l.part-iterator ≡ length (into_iter_items l.part-iterator);
+  going : Going nots_view (not_checks l.columns) nots_size (not_expr l.columns) l.before (places_view l.fn.places) (drop l.part-index l.before) (places_view l.rest) l.done.items;
 }
 
 abbrev pub invariant-or_chain-loop-part : goal.invariant-or_chain-loop-part
 invariant-or_chain-loop-part g l = record {
   same : g.B.Builder.refused l.builder ≡ g.B.Builder.refused l.fn.builder;
-  going : Going ands_view (and_checks l.columns) ands_size (and_expr l.columns) (into_iter_items l.initial.part-iterator) (places_view l.fn.places) (into_iter_items l.part-iterator) (places_view l.rest) l.done.items;
-  left : into_iter_len l.part-iterator ≡ length (into_iter_items l.part-iterator);
+  going : Going ands_view (and_checks l.columns) ands_size (and_expr l.columns) l.before (places_view l.fn.places) (drop l.part-index l.before) (places_view l.rest) l.done.items;
 }
