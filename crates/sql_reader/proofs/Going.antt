@@ -1,7 +1,7 @@
 -- The walk over a query: what is looked at in a piece follows what was looked at before it.
 use Rattle.std.specs.Prelude.{Result, Ok, Err, IfOk, IfErr}
-use Rattle.std.proofs.Common.{ℕ, zero, suc, ◌≡◌, ◌+◌, refl, sym, ◌∙◌, ap, subst, List, [], ◌∷◌, ◌++◌, length, drop, map, append-nil, append_assoc, length-append, inl, inr, arith}
-use Rattle.std.proofs.lemmas.List.{drop-drop, map-append}
+use Rattle.std.proofs.Common.{ℕ, zero, suc, ◌≡◌, ◌+◌, ◌<◌, get_or, refl, sym, ◌∙◌, ap, subst, List, [], ◌∷◌, ◌++◌, length, drop, map, append-nil, append_assoc, length-append, inl, inr, arith}
+use Rattle.std.proofs.lemmas.List.{drop-drop, map-append, drop_more}
 use Rattle.sig_base.specs.declared.refusal.Place.{Place}
 use Rattle.sig_base.specs.declared.refusal.Fault.{Fault}
 use Rattle.sig_base.specs.declared.refusal.Fault.TheVariants.{Memory, Refused}
@@ -175,48 +175,46 @@ passed_as checks size all others behind past ps same alike h = record {
   ends = λ last. h.ends last ∙ alike last;
 }
 
-module _ (fields : List Field) (start : List At) (given gone : List syntax.Nots) (same : gone ≡ given) where
+module _ (fields : List Field) (start : List At) (given : List syntax.Nots) where
   abbrev pub GoingNots : List syntax.Nots → List At → List query.Expr → Type 0
-  GoingNots left ps done = Going nots_view (not_checks fields) nots_size (not_expr fields) gone start left ps done
+  GoingNots left ps done = Going nots_view (not_checks fields) nots_size (not_expr fields) given start left ps done
 
   pub nots_stop : (before mid after : List (List ℕ)) (stop : Fault) (left more : List syntax.Nots) (x : syntax.Nots) (ps : List At) (done : List query.Expr)
       → GoingNots left ps done → left ≡ x ∷ more → mid ≡ before → WalkStops mid after (not_checks fields (nots_view x) ps) stop
       → (last : Nots) → WalkStops before after (and_checks fields (and_of (map nots_view given) last) start) stop
   nots_stop before mid after stop left more x ps done g is kept h last =
       subst (λ (cs : List Check). WalkStops before after cs stop)
-      (and_checks_are fields (map nots_view gone) last start ∙ ap (λ (xs : List syntax.Nots). and_checks fields (and_of (map nots_view xs) last) start) same)
-      (stops_in nots_view (not_checks fields) nots_size (not_expr fields) gone start before mid after stop left more x ps done last g is kept h)
+      (and_checks_are fields (map nots_view given) last start)
+      (stops_in nots_view (not_checks fields) nots_size (not_expr fields) given start before mid after stop left more x ps done last g is kept h)
 
   pub nots_end : (before after : List (List ℕ)) (left : List syntax.Nots) (c : Chain) → GoingNots left (places_view c.rest.now) c.done.items → left ≡ [] → after ≡ before
       → AndBuilt fields before after (map nots_view given) start c
-  nots_end before after left c g is kept =
-      subst (λ (xs : List syntax.Nots). AndBuilt fields before after (map nots_view xs) start c) same (
+  nots_end before after left c g is kept = (
         kept,
-        ends_made nots_view (not_checks fields) nots_size (not_expr fields) gone start left (places_view c.rest.now) c.done.items g is,
-        passed_as (not_checks fields) nots_size _ _ _ _ (places_view c.rest.now) (λ last. and_checks_are fields (map nots_view gone) last start) (λ last. and_behind (map nots_view gone) last start)
-            (ends_passed nots_view (not_checks fields) nots_size (not_expr fields) gone start left (places_view c.rest.now) c.done.items g is),
+        ends_made nots_view (not_checks fields) nots_size (not_expr fields) given start left (places_view c.rest.now) c.done.items g is,
+        passed_as (not_checks fields) nots_size _ _ _ _ (places_view c.rest.now) (λ last. and_checks_are fields (map nots_view given) last start) (λ last. and_behind (map nots_view given) last start)
+            (ends_passed nots_view (not_checks fields) nots_size (not_expr fields) given start left (places_view c.rest.now) c.done.items g is),
       )
 
-module _ (fields : List Field) (start : List At) (given gone : List syntax_ands.Ands) (same : gone ≡ given) where
+module _ (fields : List Field) (start : List At) (given : List syntax_ands.Ands) where
   abbrev pub GoingAnds : List syntax_ands.Ands → List At → List query.Expr → Type 0
-  GoingAnds left ps done = Going ands_view (and_checks fields) ands_size (and_expr fields) gone start left ps done
+  GoingAnds left ps done = Going ands_view (and_checks fields) ands_size (and_expr fields) given start left ps done
 
   pub ands_stop : (before mid after : List (List ℕ)) (stop : Fault) (left more : List syntax_ands.Ands) (x : syntax_ands.Ands) (ps : List At) (done : List query.Expr)
       → GoingAnds left ps done → left ≡ x ∷ more → mid ≡ before → WalkStops mid after (and_checks fields (ands_view x) ps) stop
       → (last : Ands) → WalkStops before after (or_checks fields (or_of (map ands_view given) last) start) stop
   ands_stop before mid after stop left more x ps done g is kept h last =
       subst (λ (cs : List Check). WalkStops before after cs stop)
-      (or_checks_are fields (map ands_view gone) last start ∙ ap (λ (xs : List syntax_ands.Ands). or_checks fields (or_of (map ands_view xs) last) start) same)
-      (stops_in ands_view (and_checks fields) ands_size (and_expr fields) gone start before mid after stop left more x ps done last g is kept h)
+      (or_checks_are fields (map ands_view given) last start)
+      (stops_in ands_view (and_checks fields) ands_size (and_expr fields) given start before mid after stop left more x ps done last g is kept h)
 
   pub ands_end : (before after : List (List ℕ)) (left : List syntax_ands.Ands) (c : Chain) → GoingAnds left (places_view c.rest.now) c.done.items → left ≡ [] → after ≡ before
       → OrBuilt fields before after (map ands_view given) start c
-  ands_end before after left c g is kept =
-      subst (λ (xs : List syntax_ands.Ands). OrBuilt fields before after (map ands_view xs) start c) same (
+  ands_end before after left c g is kept = (
         kept,
-        ends_made ands_view (and_checks fields) ands_size (and_expr fields) gone start left (places_view c.rest.now) c.done.items g is,
-        passed_as (and_checks fields) ands_size _ _ _ _ (places_view c.rest.now) (λ last. or_checks_are fields (map ands_view gone) last start) (λ last. or_behind (map ands_view gone) last start)
-            (ends_passed ands_view (and_checks fields) ands_size (and_expr fields) gone start left (places_view c.rest.now) c.done.items g is),
+        ends_made ands_view (and_checks fields) ands_size (and_expr fields) given start left (places_view c.rest.now) c.done.items g is,
+        passed_as (and_checks fields) ands_size _ _ _ _ (places_view c.rest.now) (λ last. or_checks_are fields (map ands_view given) last start) (λ last. or_behind (map ands_view given) last start)
+            (ends_passed ands_view (and_checks fields) ands_size (and_expr fields) given start left (places_view c.rest.now) c.done.items g is),
       )
 
 -- ---- the last part of a chain
@@ -241,6 +239,9 @@ pub all_left : {X : Type 0} (xs : List X) (n : ℕ) → n ≡ 0 → n ≡ length
 all_left [] n none is = refl
 all_left (x ∷ xs) n none is = absurd (omega (arith, none, is))
 
+pub next_part : {X : Type 0} (xs : List X) (i : ℕ) (x : X) → i < length xs → x ≡ get_or xs i x → drop i xs ≡ x ∷ drop (i + 1) xs
+next_part {X} xs i x h e = drop_more xs i x h ∙ ap (λ (y : X). y ∷ drop (i + 1) xs) (sym e)
+
 -- ---- rows of NOT, parentheses
 
 module _ (fields : List Field) where
@@ -256,7 +257,7 @@ negated_length : (n : ℕ) (v : Nots) → length (spell_nots (negated n v)) ≡ 
 negated_length zero v = sym (let e : 0 + length (spell_nots v) ≡ length (spell_nots v) = omega arith in e)
 negated_length (suc n) v = let h = negated_length n v in omega arith
 
-pub nots_ok : (fields : List Field) (before after : List (List ℕ)) (n : ℕ) (v : Nots) (ps qs : List At) (e all : Expr) (rest : List At) → qs ≡ drop n ps
+nots_ok : (fields : List Field) (before after : List (List ℕ)) (n : ℕ) (v : Nots) (ps qs : List At) (e all : Expr) (rest : List At) → qs ≡ drop n ps
     → (after ≡ before) × AreBuilt (not_checks fields v qs) × (e ≡ not_expr fields v) × (rest ≡ drop (length (spell_nots v)) qs) → all ≡ nots_on n e
     → (after ≡ before) × AreBuilt (not_checks fields (negated n v) ps) × (all ≡ not_expr fields (negated n v)) × (rest ≡ drop (length (spell_nots (negated n v))) ps)
 nots_ok fields before after n v ps qs e all rest is h made = (
@@ -265,6 +266,14 @@ nots_ok fields before after n v ps qs e all rest is h made = (
   made ∙ (ap (nots_on n) h.2 ∙ sym (negated_expr fields n v)),
   h.3 ∙ (ap (drop (length (spell_nots v))) is ∙ (drop-drop (length (spell_nots v)) n ps ∙ ap (λ (k : ℕ). drop k ps) (sym (negated_length n v)))),
 )
+
+pub nots_close : (fields : List Field) (before after : List (List ℕ)) (n : ℕ) (v : Nots) (ps qs : List At) (u : query.Expr) (rest : List Place) (r : Result Walked Fault) → qs ≡ drop n ps
+    → (after ≡ before) × AreBuilt (not_checks fields v qs) × (expr_view u ≡ not_expr fields v) × (places_view rest ≡ drop (length (spell_nots v)) qs)
+    → IfOk r (λ w. (expr_view w.expr ≡ nots_on n (expr_view u)) × (w.rest.now ≡ rest)) → IfErr r (λ f. f ≡ Memory)
+    → WalkAnswers before after (not_checks fields (negated n v) ps) (not_expr fields (negated n v)) (drop (length (spell_nots (negated n v))) ps) r
+nots_close fields before after n v ps qs u rest (Ok w) is h ok err =
+    nots_ok fields before after n v ps qs (expr_view u) (expr_view w.expr) (places_view w.rest.now) is (h.0, h.1, h.2, ap places_view ok.1 ∙ h.3) ok.0
+nots_close fields before after n v ps qs u rest (Err f) is h ok err = subst (WalkStops before after (not_checks fields (negated n v) ps)) (sym err) h.0
 
 pub nots_err : (fields : List Field) (before after : List (List ℕ)) (n : ℕ) (v : Nots) (ps qs : List At) (stop : Fault) → qs ≡ drop n ps
     → WalkStops before after (not_checks fields v qs) stop → WalkStops before after (not_checks fields (negated n v) ps) stop
