@@ -2,10 +2,12 @@
 #![tactic(auto)]
 
 mod asking;
+mod files;
 mod language;
 mod laws;
 #[cfg(test)]
 mod tests;
 
+pub use files::line_feed_behind;
 pub use language::LuceneReader;
 pub use laws::same_queries;
