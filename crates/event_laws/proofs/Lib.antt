@@ -1,0 +1,3 @@
+mod Lexed
+mod Quoted
+mod Taken
