@@ -74,9 +74,9 @@ each_answer rule lone file ran queried limits built (Convert backend schema rule
     unplaced (Converted (ConvertGives backend limits) limits schema rules world)
     (each_schema (RulesBy (ConvertGives backend limits) limits rules) limits (each_converted (both_files rule lone file) backend limits rules) schema world)
 each_answer rule lone file ran queried limits built (Run schema file_run) world = unplaced (Ran limits schema file_run world) (each_schema (RanUnder limits file_run) limits (ran limits file_run) schema world)
-each_answer rule lone file ran queried limits built (Query language schema query) world =
-    let a = each_schema (AskedBy language limits query built built false) limits (queried language limits query built built [] (sym (append-nil built))) (Some schema) world in
-    (a.0, query_places language limits schema query built built false world a.0 a.1)
+each_answer rule lone file ran queried limits built (Query backend schema query) world =
+    let a = each_schema (AskedBy backend limits query built built false) limits (queried backend limits query built built [] (sym (append-nil built))) (Some schema) world in
+    (a.0, query_places backend limits schema query built built false world a.0 a.1)
 
 pub one_documents : OneRule → OneLone → OfBoth OneDocument
 one_documents rule lone limits = (
@@ -168,8 +168,8 @@ one_answer file ran queried limits places (Check rules) world a b first second =
 one_answer file ran queried limits places (Convert backend schema rules) world a b first second =
     one_schema (RulesBy (ConvertGives backend limits) limits rules) (λ given w x y. one_under file backend limits given rules w x y) limits schema world a b first second
 one_answer file ran queried limits places (Run schema rule) world a b first second = one_schema (RanUnder limits rule) (ran limits rule) limits schema world a b first second
-one_answer file ran queried limits places (Query language schema query) world a b first second =
-    one_schema (AskedAt language limits query places) (queried language limits query places) limits (Some schema) world a b first second
+one_answer file ran queried limits places (Query backend schema query) world a b first second =
+    one_schema (AskedAt backend limits query places) (queried backend limits query places) limits (Some schema) world a b first second
 
 -- ---- what queries mean
 

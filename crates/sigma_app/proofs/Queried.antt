@@ -17,7 +17,7 @@ use Rattle.answer_parts.specs.declared.stop.Stop.{Stop}
 use Rattle.answer_parts.specs.declared.stop.Stop.TheVariants.{Memory}
 use Rattle.event_schema.specs.declared.schema.Schema.{Schema}
 use Rattle.event_schema.specs.declared.value.Value.{Value}
-use Rattle.languages.specs.RefusedPlaces.{PatternAt, is_of_pattern, AreRefused}
+use Rattle.languages.specs.RefusedPlaces.{PatternAt, is_of_pattern}
 use Rattle.query_runs.specs.Answers.{AtPlaces}
 use Rattle.query_runs.specs.Asked.{IsAsked, IsNotAsked, too_large, unread, most_bytes, file_start}
 use Rattle.query_runs.specs.Laws as asking
@@ -29,7 +29,7 @@ use Rattle.sig_base.specs.declared.limits.Limits.{Limits}
 use Rattle.sig_base.specs.declared.refusal.Refusal.{Refusal}
 use Rattle.sigma_app.proofs.Fronts.{file_is}
 use Rattle.sigma_app.specs.Laws.{EachUnder, OneUnder}
-use Rattle.sigma_app.specs.Queried.{AskedUnder, asks, doesnt_ask, AreBuilt, AskedBy, AskedAt}
+use Rattle.sigma_app.specs.Queried.{IsOfBuilder, AskedUnder, asks, doesnt_ask, AreUnbuilt, AskedBy, AskedAt}
 use Rattle.sigma_app.specs.Reports.{refusal_share}
 use Rattle.sigma_app.specs.RuleFiles.{contents}
 use Rattle.sigma_app.specs.UnderSchema.{file_part, is_ended}
@@ -57,9 +57,9 @@ module _ {Query : Type 0} (is_query : Schema → List ℕ → Query → Type 0) 
     each_queried limits file before after gained follows None world = ([], refl)
     each_queried limits file before after gained follows (Some given) world =
         let some = places_are (patterns (contents world.files file)) gained in
-        by some.0 (record { gained = gained; follows = follows; are = some.1; built = λ ended. absurd (not_ended ended) }) (each limits given some.0 (contents world.files file))
+        by some.0 (record { gained = gained; follows = follows; are = some.1; told = λ ended. absurd (not_ended ended) }) (each limits given some.0 (contents world.files file))
       where
-        by : (places : List CodeAt) → AreBuilt is_query is_within picks patterns refuses limits file before after false given world places
+        by : (places : List CodeAt) → AreUnbuilt is_query is_within picks patterns refuses limits file before after false given world places
             → ((q : Query) × Asked limits given places (contents world.files file) q) ⊎ ((r : Refusal) × NotAsked limits given places (contents world.files file) r)
             → (parts : List Part) × By limits file before after false (Some given) world parts
         by places built (inl (q, asked)) =
@@ -143,37 +143,44 @@ module _ {Query : Type 0} (is_query : Schema → List ℕ → Query → Type 0) 
         | inr large ↦ (let few = asked.2.short in absurd (omega (arith, few, large.1)))
       ]
 
-      -- a cause for which none is asked, which is the only one
+      -- a cause for which none is asked, with the regular expression that the builder refused, if it's of one
       abbrev pub AsksNone : Refusal → List ℕ → Type 0
       AsksNone r bytes = AtPlaces (patterns bytes) gained (λ places. NotAsked limits given places bytes r)
+          × (is_of_pattern r.code ≡ true → IsOfBuilder (patterns bytes) gained r)
+
+      no_pattern : (r : Refusal) → r ≡ refusal 2 file_start → is_of_pattern r.code ≡ true → ⊥
+      no_pattern r is pattern = bad (subst (λ (x : Refusal). is_of_pattern x.code ≡ true) is pattern)
+        where
+          bad : false ≡ true → ⊥
+          bad h = cc
 
       all_not_asked : (r : Refusal) (all : List ℕ) → AsksNone r (front all) → AsksNone r all
       all_not_asked r all is = elim (same_or_large all) [
         | inl same ↦ subst (AsksNone r) same is
-        | inr large ↦ (let p = some (patterns all) gained in (p.0, p.1, too_large large.0 (by is.2 large.1)))
+        | inr large ↦ (let p = some (patterns all) gained in let two = by is.0.2 large.1 in ((p.0, p.1, too_large large.0 two), λ pattern. absurd (no_pattern r two pattern)))
       ]
         where
-          by : NotAsked limits given is.0 (front all) r → most_bytes limits < length (front all) → r ≡ refusal 2 file_start
+          by : NotAsked limits given is.0.0 (front all) r → most_bytes limits < length (front all) → r ≡ refusal 2 file_start
           by (too_large large is_so) more = is_so
           by (unread few refused) more = absurd (omega (arith, few, more))
 
       module _ (before after : List (List ℕ)) (follows : after ≡ before ++ gained) (bytes : List ℕ) (old new : State) (is_front : IsFront old.inputs.files file (most_bytes limits + 1) bytes) where
         -- the file isn't asked
-        pub query_refused : asking.OneCause is_query is_within refuses → (r : Refusal) (result : Result Bool Stop) → AsksNone r bytes → (is_of_pattern r.code ≡ true → gained ≡ [] → ⊥)
+        pub query_refused : asking.OneCause is_query is_within refuses → (r : Refusal) (result : Result Bool Stop) → AsksNone r bytes
             → Writes (λ share. share ≡ refusal_share file r) result old new → Ends needs (By limits file before after (is_ended result) (Some given)) result old new
-        query_refused cause r result is of wrote =
+        query_refused cause r result is wrote =
             ends_written needs (By limits file before after (is_ended result) (Some given)) (λ share. share ≡ refusal_share file r) (Some (File file)) result old new
             (λ world told share same.
             let found = file_is (most_bytes limits + 1) (AsksNone r) file (all_not_asked r) old.inputs.files world.files bytes (told.files file there) is_front is in (
-              found.0,
+              found.0.0,
               record {
                 gained = gained;
                 follows = follows;
-                are = found.1;
-                built = λ ended other other_is pattern. of (subst (λ (x : Refusal). is_of_pattern x.code ≡ true)
-                    (cause limits given found.0 (contents world.files file) other r other_is found.2) pattern);
+                are = found.0.1;
+                told = λ ended other other_is. subst (λ (x : Refusal). is_of_pattern x.code ≡ true → IsOfBuilder (patterns (contents world.files file)) gained x)
+                    (cause limits given found.0.0 (contents world.files file) r other found.0.2 other_is) found.1;
               },
-              doesnt_ask r found.2 (ap (λ (s : Share). file_part file s ∷ []) same),
+              doesnt_ask r found.0.2 (ap (λ (s : Share). file_part file s ∷ []) same),
             )) wrote
 
         -- the query is asked, and the lines of events are answered
@@ -190,7 +197,7 @@ module _ {Query : Type 0} (is_query : Schema → List ℕ → Query → Type 0) 
                 gained = gained;
                 follows = follows;
                 are = found.1;
-                built = λ ended other other_is pattern. absurd (never limits given found.0 (contents world.files file) q other found.2 other_is);
+                told = λ ended other other_is pattern. absurd (never limits given found.0 (contents world.files file) q other found.2 other_is);
               },
               asks q found.2 ps lines refl,
             )) e

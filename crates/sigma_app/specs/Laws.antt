@@ -22,7 +22,6 @@ use Rattle.sigma_app.specs.Languages.{AskedBy, AskedAt}
 use Rattle.sigma_app.specs.Ran.{RunGives, RanUnder, Ran}
 use Rattle.sigma_app.specs.RuleFiles.{ByTree, DocumentGives, FileGives, contents}
 use Rattle.sigma_app.specs.UnderSchema.{BySchema}
-use Rattle.sigma_app.specs.declared.language_name.LanguageName.{LanguageName}
 use Rattle.sigma_app.specs.declared.request.Request.{Request}
 use Rattle.text_places.specs.Places.{CodeAt}
 use Rattle.yaml_tree.specs.Tree.{Tree, Answer}
@@ -53,8 +52,8 @@ EachSelected = (schema : Schema) (rule : PlainRule) → EachLine (RunGives schem
 
 -- said of the query that is asked, whatever the builder refused, of an answer that is cut off
 abbrev pub EachQueried : Type 0
-EachQueried = (language : LanguageName) (limits : Limits) (file : List ℕ) (before after gained : List (List ℕ)) → after ≡ before ++ gained
-    → EachUnder (AskedBy language limits file before after false)
+EachQueried = (backend : BackendName) (limits : Limits) (file : List ℕ) (before after gained : List (List ℕ)) → after ≡ before ++ gained
+    → EachUnder (AskedBy backend limits file before after false)
 
 -- each request has an answer in each world, and one that is cut off before anything is built
 abbrev pub EachAnswer : Type 0
@@ -86,7 +85,7 @@ OneUnder by = (given : Option Schema) (world : World) (a b : List Part) → by g
 
 -- said of the query that is asked, for each list of places that are refused for their regular expressions
 abbrev pub OneQueried : Type 0
-OneQueried = (language : LanguageName) (limits : Limits) (file : List ℕ) (places : List CodeAt) → OneUnder (AskedAt language limits file places)
+OneQueried = (backend : BackendName) (limits : Limits) (file : List ℕ) (places : List CodeAt) → OneUnder (AskedAt backend limits file places)
 
 -- each request has one answer in each world, for each such list
 abbrev pub OneAnswer : Type 0

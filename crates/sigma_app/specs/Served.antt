@@ -64,19 +64,21 @@ IsRead words input = (request : Request) × IsAccepted words request × IsNeeded
 abbrev pub ReadsNoEvents : List (List ℕ) → Type 0
 ReadsNoEvents words = (request : Request) → IsAccepted words request → (needs_of request).events ≡ false
 
--- The texts that the builder refused before this run, and those that it had refused at its end.
-pub record Builds : Type 0 where
+-- The texts of which the builder had refused to build regular expressions when the run began, and when it ended or was cut off: the later
+-- ones begin with the earlier ones.
+pub record Unbuilt : Type 0 where
   pub before : List (List ℕ)
   pub after : List (List ℕ)
 
--- the places of the words' query that are refused for their regular expressions, each with its cause in this run, which came to its end or didn't
-abbrev pub PlacesOf : Limits → Builds → Bool → List (List ℕ) → World → List CodeAt → Type 0
-PlacesOf limits builds ended words world places = (request : Request) → IsAccepted words request → ArePlaces limits builds.before builds.after ended request world places
+-- these places of the words' query, if they ask one, are refused for their regular expressions in this run, which came to its end or didn't
+abbrev pub PlacesOf : Limits → Unbuilt → Bool → List (List ℕ) → World → List CodeAt → Type 0
+PlacesOf limits unbuilt ended words world places = (request : Request) → IsAccepted words request → ArePlaces limits unbuilt.before unbuilt.after ended request world places
 
--- what a run that came to its end has written: its answer
-abbrev pub Written : Limits → Builds → List (List ℕ) → World → Status → Streams → Streams → Type 0
-Written limits builds words world status old new =
-    (places : List CodeAt) × PlacesOf limits builds true words world places × (parts : List Part) × Answer limits places words world status parts × Gains (share_of parts) old new
+-- What a run that came to its end has written: its answer. And where that asks for no events, they stay as they are.
+abbrev pub Written : Limits → Unbuilt → List (List ℕ) → World → Status → Inputs → Inputs → Streams → Streams → Type 0
+Written limits unbuilt words world status before after old new =
+    (places : List CodeAt) × PlacesOf limits unbuilt true words world places × (parts : List Part) × Answer limits places words world status parts × Gains (share_of parts) old new
+    × (NoneOfEvents parts → EventsStay before after)
 
 -- The headline: what `convert` writes is, for each document that is a rule with a query, in order, the query and a line feed, and
 -- nothing else; the query's bytes are read as exactly one query of the backend's language, within the reader's limits, which selects an
@@ -90,27 +92,27 @@ Headline limits words world old new =
 
 -- What stands where the run was cut off: a front of the answer's output, and of its diagnostics some whole ones and the beginning of at
 -- most one more.
-abbrev pub StandsCut : Limits → Builds → List (List ℕ) → World → Streams → Streams → Type 0
-StandsCut limits builds words world old new =
-    (places : List CodeAt) × PlacesOf limits builds false words world places × (status : Status) × (parts : List Part) × Answer limits places words world status parts × Cut (share_of parts) old new
+abbrev pub StandsCut : Limits → Unbuilt → List (List ℕ) → World → Streams → Streams → Type 0
+StandsCut limits unbuilt words world old new =
+    (places : List CodeAt) × PlacesOf limits unbuilt false words world places × (status : Status) × (parts : List Part) × Answer limits places words world status parts × Cut (share_of parts) old new
 
 -- What stands where an input couldn't be read: the answer's parts before the input, all of their output and all of their diagnostics, and
 -- then the diagnostic that names the input, or the beginning of it where it couldn't be written. The whole answer goes on behind those
 -- parts. (Of a file that the words name twice they're the parts before one of its places.) `left` is what is left of the events.
-abbrev pub StandsUnread : Limits → Builds → List (List ℕ) → World → Stop → Input → Option (List ℕ) → Streams → Streams → Type 0
-StandsUnread limits builds words world stop input left old new =
-    (request : Request) × IsAccepted words request × (parts : List Part) × Answers limits builds.before builds.after false request world parts
-    × StopsAt (Answers limits builds.before builds.after false request) world stop input parts left old new
+abbrev pub StandsUnread : Limits → Unbuilt → List (List ℕ) → World → Stop → Input → Option (List ℕ) → Streams → Streams → Type 0
+StandsUnread limits unbuilt words world stop input left old new =
+    (request : Request) × IsAccepted words request × (parts : List Part) × Answers limits unbuilt.before unbuilt.after false request world parts
+    × StopsAt (Answers limits unbuilt.before unbuilt.after false request) world stop input parts left old new
 
 -- what stands after a fault in writing, with or without an input that couldn't be read before it, or want of memory
-abbrev pub StandsAfter : Limits → Builds → List (List ℕ) → World → Option Input → Option (List ℕ) → Streams → Streams → Type 0
-StandsAfter limits builds words world None left old new = StandsCut limits builds words world old new
-StandsAfter limits builds words world (Some input) left old new = StandsUnread limits builds words world Unwritten input left old new
+abbrev pub StandsAfter : Limits → Unbuilt → List (List ℕ) → World → Option Input → Option (List ℕ) → Streams → Streams → Type 0
+StandsAfter limits unbuilt words world None left old new = StandsCut limits unbuilt words world old new
+StandsAfter limits unbuilt words world (Some input) left old new = StandsUnread limits unbuilt words world Unwritten input left old new
 
--- Where the one answer asks for no events, these stay as they are.
-abbrev pub Unasked : Limits → Builds → List (List ℕ) → World → Inputs → Inputs → Type 0
-Unasked limits builds words world before after =
-    (places : List CodeAt) × PlacesOf limits builds false words world places
+-- Where the one answer asks for no events, these stay as they are, however the run ended.
+abbrev pub Unasked : Limits → Unbuilt → List (List ℕ) → World → Inputs → Inputs → Type 0
+Unasked limits unbuilt words world before after =
+    (places : List CodeAt) × PlacesOf limits unbuilt false words world places
     × ((status : Status) (parts : List Part) → Answer limits places words world status parts → NoneOfEvents parts → EventsStay before after)
 
 -- An input of the words' request that couldn't be read in between, if there is one. Where there is none, writing failed and reading
@@ -120,19 +122,19 @@ MayBeUnread words status None before after = status ≡ WriteFault → NoReadFai
 MayBeUnread words status (Some input) before after = IsRead words input × WasUnread input before after
 
 -- all that is said of a run: what the inputs told before it and tell after it, and the streams
-pub record Serves (limits : Limits) (builds : Builds) (words : List (List ℕ)) (status : Status) (before after : Inputs) (old new : Streams) : Type 0 where
-  pub answer : IsAnswered status → (world : World) → Tells words before world → Written limits builds words world status old new
+pub record Serves (limits : Limits) (unbuilt : Unbuilt) (words : List (List ℕ)) (status : Status) (before after : Inputs) (old new : Streams) : Type 0 where
+  pub answer : IsAnswered status → (world : World) → Tells words before world → Written limits unbuilt words world status before after old new
   pub headline : IsAnswered status → (world : World) → Tells words before world → Headline limits words world old new
   pub usage : IsAnswered status → IsUnaccepted words → status ≡ Usage
   pub unaccepted : status ≡ Usage → IsUnaccepted words
   pub still : IsAnswered status → NoReadFailed before after × NoWriteFailed old new
   pub read_fault : status ≡ ReadFault → (input : Input) × IsRead words input × WasUnread input before after × NoWriteFailed old new
-      × ((world : World) → Tells words before world → StandsUnread limits builds words world Unread input after.left old new)
+      × ((world : World) → Tells words before world → StandsUnread limits unbuilt words world Unread input after.left old new)
   pub write_fault : status ≡ WriteFault → SomeWriteFailed old new
   pub after_fault : IsCutOff status → (unread : Option Input) × (status ≡ Memory → unread ≡ None) × MayBeUnread words status unread before after
-      × ((world : World) → Tells words before world → StandsAfter limits builds words world unread after.left old new)
+      × ((world : World) → Tells words before world → StandsAfter limits unbuilt words world unread after.left old new)
   pub apart : ReadsNoEvents words → EventsStay before after
-  pub unasked : (world : World) → Tells words before world → Unasked limits builds words world before after
+  pub unasked : (world : World) → Tells words before world → Unasked limits unbuilt words world before after
 
 -- what a shelf and a source tell
 abbrev pub inputs_of : {F S : Type 0} → (F → Option (List (List ℕ × List ℕ))) → (F → List (List ℕ)) → (S → Option (List ℕ)) → (S → ℕ) → F → S → Inputs

@@ -20,10 +20,9 @@ abbrev pub is_ended : Result Bool Stop → Bool
 is_ended (Ok refused) = true
 is_ended (Err stop) = false
 
--- what is answered where the builder's list of refused texts was the first of these before and is the second after, and where it came to its
--- end or didn't
-abbrev pub ByBuilds : Type 1
-ByBuilds = List (List ℕ) → List (List ℕ) → Bool → BySchema
+-- what is answered where the builder had refused these texts before and has refused those after, and where it came to its end or didn't
+abbrev pub ByBuilder : Type 1
+ByBuilder = List (List ℕ) → List (List ℕ) → Bool → BySchema
 
 -- the part of an answer that belongs to a file
 abbrev pub file_part : List ℕ → Share → Part

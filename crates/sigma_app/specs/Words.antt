@@ -8,8 +8,6 @@ use Rattle.command_words.specs.declared.command_name.CommandName.{CommandName}
 use Rattle.command_words.specs.declared.command_name.CommandName.TheVariants as commands
 use Rattle.rule_queries.specs.declared.backend_name.BackendName.{BackendName}
 use Rattle.rule_queries.specs.declared.backend_name.BackendName.TheVariants.{Sqlite, Lucene}
-use Rattle.sigma_app.specs.declared.language_name.LanguageName.{LanguageName}
-use Rattle.sigma_app.specs.declared.language_name.LanguageName.TheVariants as languages
 use Rattle.sigma_app.specs.declared.request.Request.{Request}
 use Rattle.sigma_app.specs.declared.request.Request.TheVariants.{Check, Convert, Run, Query}
 
@@ -41,20 +39,6 @@ backend_among (row ∷ rows) word = if bytes_eq word row.0 then Some row.1 else 
 abbrev pub backend_named : List ℕ → Option BackendName
 backend_named word = backend_among backend_names word
 
--- the names of the languages whose queries are read, those of their backends
-abbrev pub language_names : List (List ℕ × LanguageName)
-language_names =
-    (codes "lucene", languages.Lucene)
-    ∷ []
-
-abbrev pub language_among : List (List ℕ × LanguageName) → List ℕ → Option LanguageName
-language_among [] word = None
-language_among (row ∷ rows) word = if bytes_eq word row.0 then Some row.1 else language_among rows word
-
--- the language of this name
-abbrev pub language_named : List ℕ → Option LanguageName
-language_named word = language_among language_names word
-
 -- the one name of these
 abbrev pub only : List (List ℕ) → Option (List ℕ)
 only [] = None
@@ -69,7 +53,7 @@ request_with commands.Convert items =
 request_with commands.Run items = option_map (Run (schema_in items)) (only (files_of items))
 request_with commands.Query items =
     option_and_then (λ name. option_and_then (λ under. option_map (Query name under) (only (files_of items))) (schema_in items))
-    (option_and_then language_named (value_of backend items))
+    (option_and_then backend_named (value_of backend items))
 
 -- The first word is a command's name, and those behind it give items that ask for the request. There are fewer than 2^20 words.
 pub record IsAccepted (words : List (List ℕ)) (request : Request) : Type 0 where

@@ -5,7 +5,7 @@ ghost use Rattle.answer_parts.specs.Stands.{Ends};
 ghost use Rattle.sig_base.specs.Files.{IsFront};
 ghost use Rattle.sigma_app.specs.Answers.{names_with};
 ghost use Rattle.sigma_app.specs.Laws.{EachUnder};
-ghost use Rattle.sigma_app.specs.UnderSchema.{ByBuilds, UnderSchema, is_ended};
+ghost use Rattle.sigma_app.specs.UnderSchema.{ByBuilder, UnderSchema, is_ended};
 
 use crate::documents::put_refusal;
 use answer_parts::{Outside, Stop, read_file};
@@ -17,7 +17,7 @@ use std::alloc::Global;
 
 /// A command that answers under a schema, or with none: it reads these files, and the events or not.
 pub(crate) trait SchemaCommand {
-    ghost by: { Self → ByBuilds };
+    ghost by: { Self → ByBuilder };
 
     ghost names: { Self → List (List ℕ) };
 

@@ -7,6 +7,7 @@ ghost use Rattle.sigma_app.specs.declared.request.Request.{Request};
 
 use languages::Language;
 use lucene_language::LuceneReader;
+use sql_language::SqlReader;
 
 /// The words are accepted as the request that is read word by word, and as no other.
 pub fn words_are_read()
@@ -27,7 +28,9 @@ pub fn each_answer()
     rule_model::lone_rules();
     rule_runs::one_run();
     detection_eval::matches_or_not();
+    query_runs::asked_once::<SqlReader>();
     query_runs::asked_once::<LuceneReader>();
+    SqlReader::law();
     LuceneReader::law();
     yaml_documents::laws::verdicts();
 }
@@ -41,6 +44,7 @@ pub fn one_answer()
     rule_queries::one_verdict();
     rule_model::lone_rules();
     rule_runs::one_run();
+    query_runs::asked_once::<SqlReader>();
     query_runs::asked_once::<LuceneReader>();
     yaml_documents::laws::verdicts();
     yaml_documents::laws::one_verdict();

@@ -1,6 +1,5 @@
 //! What the words ask for.
 
-use crate::language_name::LanguageName;
 use rule_queries::BackendName;
 use sig_base::{Text, Texts};
 
@@ -22,9 +21,9 @@ pub enum Request {
         schema: Option<Text>,
         rule: Text,
     },
-    /// Write the events that the query of a file selects, in a language and read under the schema of a file.
+    /// Write the events that the query of a file selects, in the language of a backend and read under the schema of a file.
     Query {
-        language: LanguageName,
+        backend: BackendName,
         schema: Text,
         query: Text,
     },

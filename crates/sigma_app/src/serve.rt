@@ -6,7 +6,7 @@ ghost use Rattle.answer_parts.specs.Stands.{Ends};
 ghost use Rattle.answer_parts.specs.State.{NoWriteFailed, SomeWriteFailed, NoReadFailed};
 ghost use Rattle.answer_parts.specs.declared.stop.Stop.TheVariants.{Unread};
 ghost use Rattle.sigma_app.specs.Answers.{Answers, needs_of};
-ghost use Rattle.sigma_app.specs.Served.{Builds, Serves, IsAnswered, IsCutOff, Tells, IsRead, MayBeUnread, ReadsNoEvents, Written, Headline, StandsAfter, StandsUnread, Unasked, inputs_of, streams_of};
+ghost use Rattle.sigma_app.specs.Served.{Unbuilt, Serves, IsAnswered, IsCutOff, Tells, IsRead, MayBeUnread, ReadsNoEvents, Written, Headline, StandsAfter, StandsUnread, Unasked, inputs_of, streams_of};
 ghost use Rattle.sigma_app.specs.UnderSchema.{is_ended};
 ghost use Rattle.sigma_app.specs.Words.{IsUnaccepted};
 
@@ -37,7 +37,9 @@ pub fn serve<F: Shelf, S: Source, O: Sink, E: Sink, B: Builder>(
 ) -> Status
     // A run that comes to its end has written the answer to its words in each world that the inputs tell.
     ensures answer { IsAnswered result → (world : World) → Tells words.now (inputs_of F.files F.failed S.left S.faults shelf.old events.old) world
-        → Written limits.now (record { before = B.refused builder.old; after = B.refused builder.new }) words.now world result (streams_of O.taken O.faults E.taken E.faults out.old err.old) (streams_of O.taken O.faults E.taken E.faults out.new err.new) }
+        → Written limits.now (record { before = B.refused builder.old; after = B.refused builder.new }) words.now world result
+        (inputs_of F.files F.failed S.left S.faults shelf.old events.old) (inputs_of F.files F.failed S.left S.faults shelf.new events.new)
+        (streams_of O.taken O.faults E.taken E.faults out.old err.old) (streams_of O.taken O.faults E.taken E.faults out.new err.new) }
     ensures headline { IsAnswered result → (world : World) → Tells words.now (inputs_of F.files F.failed S.left S.faults shelf.old events.old) world
         → Headline limits.now words.now world (streams_of O.taken O.faults E.taken E.faults out.old err.old) (streams_of O.taken O.faults E.taken E.faults out.new err.new) }
 
@@ -128,8 +130,8 @@ fn answer_words<W: Outside, B: Builder>(
 
 /// Tells that the words aren't accepted.
 fn refuse_words<W: Outside>(outside: &mut W) -> Status
-    ensures serves { (limits : Limits) (builds : Builds) (words : List (List ℕ)) → IsUnaccepted words
-        → Serves limits builds words result (W.state outside.old).inputs (W.state outside.new).inputs (W.state outside.old).streams (W.state outside.new).streams }
+    ensures serves { (limits : Limits) (unbuilt : Unbuilt) (words : List (List ℕ)) → IsUnaccepted words
+        → Serves limits unbuilt words result (W.state outside.old).inputs (W.state outside.new).inputs (W.state outside.old).streams (W.state outside.new).streams }
     ensures kept { (W.state outside.new).references ≡ (W.state outside.old).references }
 {
     match tell_diagnostic(b"sigma: bad usage\n", outside) {
@@ -172,9 +174,9 @@ fn answer_request<W: Outside, B: Builder>(
         ),
         Request::Run { schema, rule } => answer_run(alloc, limits, schema, rule, outside, builder),
         Request::Query {
-            language,
+            backend,
             schema,
             query,
-        } => answer_query(alloc, *language, limits, schema, query, outside, builder),
+        } => answer_query(alloc, *backend, limits, schema, query, outside, builder),
     }
 }

@@ -8,7 +8,6 @@ ghost use Rattle.sigma_app.specs.Words.{IsAccepted, IsUnaccepted, files_of, only
 ghost use Rattle.sigma_app.specs.Words as accepted_words;
 ghost use Rattle.sigma_app.specs.declared.request.Request.TheVariants as requests;
 
-use crate::language_name::LanguageName;
 use crate::request::Request;
 use clap::ArgMatches;
 use command_words::{CommandName, items_are_read, read};
@@ -109,26 +108,6 @@ fn backend_if_any(name: Option<&str>) -> Option<BackendName>
     }
 }
 
-/// The language of this name.
-fn language_named(name: &str) -> Option<LanguageName>
-    ensures { result ≡ accepted_words.language_named name.now }
-{
-    if name.as_bytes() == b"lucene".as_slice() {
-        return Some(LanguageName::Lucene);
-    }
-    None
-}
-
-/// The language of this name, if there is one.
-fn language_if_any(name: Option<&str>) -> Option<LanguageName>
-    ensures { result ≡ option_and_then accepted_words.language_named (option_map (λ s. s.now) name.entry) }
-{
-    match name {
-        Some(name) => language_named(name),
-        None => None,
-    }
-}
-
 /// What `check` asks for.
 fn check_request(alloc: Global, found: &ArgMatches) -> Result<Option<Request>, AllocError>
     ensures { (items : List Item) → HasItems found.now items → IfOk result (λ r. r ≡ Some (requests.Check (files_of items))) }
@@ -198,7 +177,7 @@ fn run_request(alloc: Global, found: &ArgMatches) -> Result<Option<Request>, All
 fn query_request(alloc: Global, found: &ArgMatches) -> Result<Option<Request>, AllocError>
     ensures { (items : List Item) → HasItems found.now items → IfOk result (λ r. r ≡ request_with CommandName.Query items) }
 {
-    let Some(language) = language_if_any(found.get_str("backend")) else {
+    let Some(backend) = backend_if_any(found.get_str("backend")) else {
         return Ok(None);
     };
     let named = match copy_if_any(alloc, found.get_str("schema")) {
@@ -214,7 +193,7 @@ fn query_request(alloc: Global, found: &ArgMatches) -> Result<Option<Request>, A
     };
     match copy_only(alloc, files.as_slice()) {
         Ok(Some(query)) => Ok(Some(Request::Query {
-            language,
+            backend,
             schema,
             query,
         })),

@@ -10,27 +10,28 @@ ghost use Rattle.sigma_app.specs.UnderSchema.{UnderSchema, is_ended};
 
 use crate::documents::put_refusal;
 use crate::given_schema::{SchemaCommand, answer_under};
-use crate::language_name::LanguageName;
 use crate::law::each_answer;
 use answer_parts::{Outside, Stop, read_file};
 use event_schema::Schema;
 use languages::{Builder, Language};
 use lucene_language::LuceneReader;
 use query_runs::{asked_once, read_query};
+use rule_queries::BackendName;
 use selected_lines::select_lines;
 use sig_base::{Fault, Limits, Text};
+use sql_language::SqlReader;
 use std::alloc::Global;
 
-/// Asks the query of a file, in a language.
+/// Asks the query of a file, in the language of a backend.
 #[derive(Drop)]
 struct QueryFile<'l, 'q> {
-    language: LanguageName,
+    backend: BackendName,
     limits: &'l Limits,
     query: &'q Text,
 }
 
 impl SchemaCommand for QueryFile<'_, '_> {
-    ghost by = { λ c before after ended. named.AskedBy c.language c.limits.now c.query.now before after ended };
+    ghost by = { λ c before after ended. named.AskedBy c.backend c.limits.now c.query.now before after ended };
 
     ghost names = { λ c. c.query.now ∷ [] };
 
@@ -50,7 +51,7 @@ impl SchemaCommand for QueryFile<'_, '_> {
         let most = self.limits.query_bytes + 1;
         match read_file(alloc, self.query, most + 1, outside) {
             Ok(bytes) => answer_named(
-                self.language,
+                self.backend,
                 alloc,
                 self.limits,
                 schema,
@@ -94,9 +95,9 @@ where
     }
 }
 
-/// The same in the language of this name.
+/// The same in the language of the backend of this name.
 fn answer_named<W: Outside, B: Builder>(
-    language: LanguageName,
+    backend: BackendName,
     alloc: Global,
     limits: &Limits,
     schema: &Schema,
@@ -107,11 +108,14 @@ fn answer_named<W: Outside, B: Builder>(
 ) -> Result<bool, Stop>
     ensures { IsFront (W.state outside.old).inputs.files file.now (most_bytes limits.now + 1) bytes.now
         → Ends (record { names = file.now ∷ []; events = true })
-        (named.AskedBy language limits.now file.now (B.refused builder.old) (B.refused builder.new) (is_ended result) (Some schema.now))
+        (named.AskedBy backend limits.now file.now (B.refused builder.old) (B.refused builder.new) (is_ended result) (Some schema.now))
         result (W.state outside.old) (W.state outside.new) }
 {
-    match language {
-        LanguageName::Lucene => {
+    match backend {
+        BackendName::Sqlite => {
+            answer_bytes::<SqlReader, W, B>(alloc, limits, schema, file, bytes, outside, builder)
+        }
+        BackendName::Lucene => {
             answer_bytes::<LuceneReader, W, B>(alloc, limits, schema, file, bytes, outside, builder)
         }
     }
@@ -120,7 +124,7 @@ fn answer_named<W: Outside, B: Builder>(
 /// Answers the events that the query of a file selects, read under the schema of a file.
 pub(crate) fn answer_query<W: Outside, B: Builder>(
     alloc: Global,
-    language: LanguageName,
+    backend: BackendName,
     limits: &Limits,
     schema: &Text,
     query: &Text,
@@ -128,11 +132,11 @@ pub(crate) fn answer_query<W: Outside, B: Builder>(
     builder: &mut B,
 ) -> Result<bool, Stop>
     ensures { Ends (record { names = schema.now ∷ query.now ∷ []; events = true })
-        (UnderSchema (named.AskedBy language limits.now query.now (B.refused builder.old) (B.refused builder.new) (is_ended result)) limits.now (Some schema.now))
+        (UnderSchema (named.AskedBy backend limits.now query.now (B.refused builder.old) (B.refused builder.new) (is_ended result)) limits.now (Some schema.now))
         result (W.state outside.old) (W.state outside.new) }
 {
     let command = QueryFile {
-        language,
+        backend,
         limits,
         query,
     };

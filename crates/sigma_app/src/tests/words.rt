@@ -11,7 +11,7 @@ use std::test::Fail;
 fn accepts_no_other_words(rt: HostRuntime) -> Result<(), Fail> {
     let limits = Limits::standard();
     let files: [(&str, &[u8]); 1] = [("b.yml", FOUR.as_bytes())];
-    let others: [&[&str]; 24] = [
+    let others: [&[&str]; 30] = [
         &[],
         &["check"],
         &["check", ""],
@@ -43,6 +43,18 @@ fn accepts_no_other_words(rt: HostRuntime) -> Result<(), Fail> {
         &["run", "b.yml", "b.yml"],
         &["run", "--schema", "b.yml"],
         &["run", "--backend=sqlite", "b.yml"],
+        &["query", "b.yml"],
+        &["query", "--backend=sqlite", "b.yml"],
+        &["query", "--schema=b.yml", "b.yml"],
+        &["query", "--backend=sqlite", "--schema=b.yml"],
+        &[
+            "query",
+            "--backend=sqlite",
+            "--schema=b.yml",
+            "b.yml",
+            "b.yml",
+        ],
+        &["query", "--backend=sql", "--schema=b.yml", "b.yml"],
     ];
     for words in others {
         check(
@@ -99,6 +111,28 @@ fn accepts_run(rt: HostRuntime) -> Result<(), Fail> {
             1,
             "",
             "b.yml:4:1: 84 NotOneRule\n",
+        );
+    }
+    Ok(())
+}
+
+#[test]
+fn accepts_query(rt: HostRuntime) -> Result<(), Fail> {
+    let limits = Limits::standard();
+    let files: [(&str, &[u8]); 2] = [("q", b"q"), ("s.json", b"{")];
+    let commands: [&[&str]; 4] = [
+        &["query", "--backend=sqlite", "--schema=s.json", "q"],
+        &["query", "--schema", "s.json", "--backend", "lucene", "q"],
+        &["query", "q", "--schema", "s.json", "--backend=sqlite"],
+        &["query", "--backend=lucene", "--schema=s.json", "--", "-q"],
+    ];
+    for words in commands {
+        check(
+            &rt,
+            &run_over(rt.alloc(), words, &limits, still(&files))?,
+            1,
+            "",
+            "s.json:1:1: 20 SchemaJson\n",
         );
     }
     Ok(())

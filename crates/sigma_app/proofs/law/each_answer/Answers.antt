@@ -1,5 +1,5 @@
 use Rattle.sigma_app.proofs.Laws as laws
-use Rattle.sigma_app.proofs.Named.{each_named}
+use Rattle.sigma_app.proofs.Named.{by_name, AreDecided, EachAsked, each_named}
 use Rattle.sigma_app.proofs.Ran.{each_ran}
 use Rattle.sigma_app.proofs.Selected.{every_selected}
 use Rattle.sigma_app.proofs.law.each_answer.Goals as goal
@@ -17,7 +17,8 @@ pub returns-clause-ran : goal.returns-clause-ran
 returns-clause-ran c = each_ran c.one_run.ensures.each (every_selected c.matches_or_not.ensures)
 
 pub returns-clause-queried : goal.returns-clause-queried
-returns-clause-queried c = each_named c.asked_once.ensures.places c.asked_once.ensures.each c.law.ensures.picks
+returns-clause-queried c =
+    each_named c.asked_once.ensures.places (by_name EachAsked c.asked_once.ensures.each c.asked_once-2.ensures.each) (by_name AreDecided c.law.ensures.picks c.law-2.ensures.picks)
 
 pub returns-clause-selected : goal.returns-clause-selected
 returns-clause-selected c = every_selected c.matches_or_not.ensures
@@ -25,4 +26,4 @@ returns-clause-selected c = every_selected c.matches_or_not.ensures
 pub returns-clause-request : goal.returns-clause-request
 returns-clause-request c =
     laws.each_answer c.one_verdict.ensures.each c.lone_rules.ensures.each c.verdicts.ensures.each (each_ran c.one_run.ensures.each (every_selected c.matches_or_not.ensures))
-    (each_named c.asked_once.ensures.places c.asked_once.ensures.each c.law.ensures.picks)
+    (each_named c.asked_once.ensures.places (by_name EachAsked c.asked_once.ensures.each c.asked_once-2.ensures.each) (by_name AreDecided c.law.ensures.picks c.law-2.ensures.picks))

@@ -1,5 +1,5 @@
 use Rattle.sigma_app.proofs.Laws as laws
-use Rattle.sigma_app.proofs.Named.{one_named}
+use Rattle.sigma_app.proofs.Named.{by_name, NeverBoth, OneQuery, OneCause, one_named}
 use Rattle.sigma_app.proofs.Ran.{one_ran}
 use Rattle.sigma_app.proofs.Selected.{every_one}
 use Rattle.sigma_app.proofs.law.one_answer.Goals as goal
@@ -11,5 +11,6 @@ returns c =
       document = laws.one_documents c.one_verdict.ensures.one c.lone_rules.ensures.one;
       file = files;
       request = laws.one_answer files (one_ran c.one_run.ensures.never_both c.one_run.ensures.one c.one_run.ensures.cause every_one)
-          (one_named c.asked_once.ensures.never_both c.asked_once.ensures.query c.asked_once.ensures.cause);
+          (one_named (by_name NeverBoth c.asked_once.ensures.never_both c.asked_once-2.ensures.never_both) (by_name OneQuery c.asked_once.ensures.query c.asked_once-2.ensures.query)
+          (by_name OneCause c.asked_once.ensures.cause c.asked_once-2.ensures.cause));
     }

@@ -17,5 +17,5 @@ returns-in-Run g c = rw c.in-Run.is (no_places _ _ c.answer_run.result (g.W.Outs
 
 pub returns-in-Query : goal.returns-in-Query
 returns-in-Query g c =
-    rw c.in-Query.is (query_answers c.in-Query.language c.args.limits.now c.in-Query.schema c.in-Query.query (g.B.Builder.refused c.args.builder.now) (g.B.Builder.refused c.answer_query.new.builder)
-        (is_ended c.answer_query.result) _ c.answer_query.result (g.W.Outside.state c.args.outside.now) (g.W.Outside.state c.answer_query.new.outside) c.answer_query.ensures)
+    rw c.in-Query.is (query_answers c.in-Query.backend c.args.limits.now c.in-Query.schema c.in-Query.query (g.B.Builder.refused c.args.builder.now) (g.B.Builder.refused c.answer_query.new.builder)
+    (is_ended c.answer_query.result) _ c.answer_query.result (g.W.Outside.state c.args.outside.now) (g.W.Outside.state c.answer_query.new.outside) c.answer_query.ensures)

@@ -13,7 +13,7 @@ returns-in-Err-Refused g c front =
     let a = rw c.in-Err-Refused.field-0-is at c.in-Err-Refused.ensures in
     query_refused g.L.Language.is_query g.L.Language.is_within g.L.Language.picks g.L.Language.patterns g.L.Language.refuses c.args.limits.now c.args.file.now c.args.schema.now a.gained c.asked_once.ensures.places
     (g.B.Builder.refused c.args.builder.now) (g.B.Builder.refused c.read_query.new.builder) a.follows c.args.bytes.now (g.W.Outside.state c.args.outside.now) (g.W.Outside.state c.put_refusal.new.outside) front
-    c.asked_once.ensures.cause c.in-Err-Refused.cause c.put_refusal.result a.answer.0 a.answer.1 c.put_refusal.ensures
+    c.asked_once.ensures.cause c.in-Err-Refused.cause c.put_refusal.result a.answer c.put_refusal.ensures
 
 pub returns-in-Err-Memory : goal.returns-in-Err-Memory
 returns-in-Err-Memory g c front =
