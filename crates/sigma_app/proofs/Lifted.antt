@@ -1,5 +1,5 @@
 -- From what a command answers to what its request is answered, for some places that are refused.
-use Rattle.std.proofs.Common.{◌≡◌, ℕ, Bool, true, false, List, [], ◌∷◌, ◌++◌, refl, ap, sym, ◌∙◌, subst, append-nil, Option, Some, None, Result, Ok, Err}
+use Rattle.std.proofs.Common.{◌≡◌, ℕ, Bool, true, false, List, [], refl, sym, ◌∙◌, subst, Some, None, Result, Ok, Err}
 use Rattle.answer_parts.proofs.Ending.{ends_as}
 use Rattle.answer_parts.specs.Input.{World, Needs}
 use Rattle.answer_parts.specs.Parts.{Part}
@@ -10,8 +10,8 @@ use Rattle.event_reading.specs.SchemaOf.{schema_of}
 use Rattle.event_schema.specs.declared.schema.Schema.{Schema}
 use Rattle.rule_queries.specs.declared.backend_name.BackendName.{BackendName}
 use Rattle.sig_base.specs.declared.limits.Limits.{Limits}
-use Rattle.sigma_app.specs.Answers.{AnswersAt, ArePlaces, Answers}
-use Rattle.sigma_app.specs.Languages.{AskedBy, AskedAt, AreUnbuilt}
+use Rattle.sigma_app.specs.Answers.{ArePlaces, Answers}
+use Rattle.sigma_app.specs.Languages.{AskedBy, AreUnbuilt}
 use Rattle.sigma_app.specs.RuleFiles.{contents}
 use Rattle.sigma_app.specs.UnderSchema.{UnderSchema, without, under, refused}
 use Rattle.sigma_app.specs.declared.request.Request.{Request}

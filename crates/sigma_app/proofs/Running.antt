@@ -6,7 +6,7 @@ use Rattle.answer_parts.specs.Cut.{Cut}
 use Rattle.answer_parts.specs.Input.{Input, World, IsTold, WasUnread, EventsStay}
 use Rattle.answer_parts.specs.Parts.{Share, Part, share_of, NoneOfEvents, Gains}
 use Rattle.answer_parts.specs.Stands.{Outcome, Cause, Stands, Ends, Writes}
-use Rattle.answer_parts.specs.State.{State, Inputs, NoReadFailed, NoWriteFailed, SomeWriteFailed}
+use Rattle.answer_parts.specs.State.{State, Inputs, NoWriteFailed, SomeWriteFailed}
 use Rattle.answer_parts.specs.declared.stop.Stop.{Stop}
 use Rattle.answer_parts.specs.declared.stop.Stop.TheVariants as stop
 use Rattle.rule_queries.specs.declared.backend_name.BackendName.{BackendName}

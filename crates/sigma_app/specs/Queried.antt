@@ -1,5 +1,5 @@
 -- The answer to `query`: the events that a query selects.
-use Rattle.std.specs.Prelude.{◌≡◌, ℕ, Bool, true, List, [], ◌∷◌, ◌++◌, Option, None, Some}
+use Rattle.std.specs.Prelude.{◌≡◌, ℕ, Bool, true, List, [], ◌∷◌, ◌++◌, None, Some}
 use Rattle.answer_parts.specs.EventLines.{EventLines}
 use Rattle.answer_parts.specs.Input.{World}
 use Rattle.answer_parts.specs.Parts.{Part, no_share}

@@ -1,4 +1,4 @@
-use Rattle.std.proofs.Common.{◌+◌, [], ◌∷◌, true, Bool, Result, Some, sym, subst}
+use Rattle.std.proofs.Common.{◌+◌, [], ◌∷◌, true, Some, sym, subst}
 use Rattle.answer_parts.specs.Stands.{Ends}
 use Rattle.query_runs.specs.Asked.{most_bytes}
 use Rattle.rule_queries.specs.declared.backend_name.BackendName.{BackendName}

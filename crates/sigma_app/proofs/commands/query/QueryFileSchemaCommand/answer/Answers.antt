@@ -14,7 +14,7 @@ returns-in_default g c =
     let command = c.args.self.now in
     let refused = g.B.Builder.refused c.args.builder.now in
     rw c.in_default.is (nothing_asked (is_query command.backend) (is_within command.backend) (picks command.backend) (patterns command.backend) (refuses command.backend)
-        command.limits.now command.query.now refused refused (g.W.Outside.state c.args.outside.now))
+    command.limits.now command.query.now refused refused (g.W.Outside.state c.args.outside.now))
 
 pub returns-in-Ok : goal.returns-in-Ok
 returns-in-Ok g c =
@@ -35,5 +35,5 @@ returns-in-Err g c =
     let command = c.args.self.now in
     let refused = g.B.Builder.refused c.args.builder.now in
     rw c.in-Some.is (query_unread (is_query command.backend) (is_within command.backend) (picks command.backend) (patterns command.backend) (refuses command.backend)
-        command.limits.now command.query.now c.in-Some.schema.now refused (c.each_under.ensures refused) c.in-Err.stop
-        (g.W.Outside.state c.args.outside.now) (g.W.Outside.state c.read_file.new.outside) c.in-Err.ensures.stops)
+    command.limits.now command.query.now c.in-Some.schema.now refused (c.each_under.ensures refused) c.in-Err.stop
+    (g.W.Outside.state c.args.outside.now) (g.W.Outside.state c.read_file.new.outside) c.in-Err.ensures.stops)
