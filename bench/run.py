@@ -1,13 +1,13 @@
 #!/usr/bin/env python3
-"""Times `run` beside other ways to the same events, in one run for all. Run by hand; it needs a built program.
+"""Times `run` and `query` beside other ways to the same events, in one run for all. Run by hand; it needs a built program.
 
     python3 bench/run.py PROGRAM [--events N] [--repeats N]
 
 PROGRAM is the built program, as crates/sigma_app/out/sigma_app. The script makes N events of Windows process creations as JSON lines,
 and a rule that some of them match, and prints for each way the least of some times, in seconds of the clock, the events in a second, and
-the peak of its memory: `sigma run`; Python's `json` with `sqlite3`, which loads the events into a table and runs the rule's own query
+the peak of its memory: `sigma run`; `sigma query` with the rule's query in SQL, and with that in Lucene; Python's `json` with `sqlite3`, which loads the events into a table and runs the rule's own query
 there; `jq`, where it is installed, with the like filter; `grep -i` for one word; `wc -l`. The ways take turns, so that a busy machine
-slows none of them alone. That `sigma run` selects the events that SQLite selects is looked at too. Then the memory of `sigma run`
+slows none of them alone. That `sigma run` and `sigma query` select the events that SQLite selects is looked at too. Then the memory of `sigma run`
 is measured at a tenth of the events.
 """
 import argparse
@@ -91,6 +91,11 @@ def spent(words, path, out):
         return time.monotonic() - start, peak
 
 
+def bytes_of(path):
+    with open(path, "rb") as file:
+        return file.read()
+
+
 def main():
     parser = argparse.ArgumentParser(description=__doc__, formatter_class=argparse.RawDescriptionHelpFormatter)
     parser.add_argument("program", help="the built program")
@@ -110,7 +115,16 @@ def main():
             for _ in range(told.events // 10):
                 front.write(file.readline())
         query = subprocess.run([program, "convert", "--backend", "sqlite", rule], capture_output=True, check=True).stdout.decode().strip()
-        ways = {"sigma run": [program, "run", rule], "Python's json and sqlite3": [sys.executable, "-c", IN_PYTHON.format(fields=FIELDS, query=query)]}
+        schema = os.path.join(folder, "schema.json")
+        with open(schema, "w", encoding="utf-8") as file:
+            json.dump({"fields": [{"name": field, "kind": "text"} for field in FIELDS]}, file)
+        ways = {"sigma run": [program, "run", rule]}
+        for backend in ["sqlite", "lucene"]:
+            asked = os.path.join(folder, backend)
+            with open(asked, "wb") as file:
+                subprocess.run([program, "convert", "--backend", backend, rule], stdout=file, check=True)
+            ways[f"sigma query, {backend}"] = [program, "query", "--backend", backend, "--schema", schema, asked]
+        ways |= {"Python's json and sqlite3": [sys.executable, "-c", IN_PYTHON.format(fields=FIELDS, query=query)]}
         if shutil.which("jq"):
             ways["jq"] = ["jq", "-c", FILTER]
         ways["grep -i"] = ["grep", "-i", "powershell"]
@@ -127,9 +141,8 @@ def main():
                   f" {seconds / times['sigma run']:.1f} times sigma run")
         _, peak = spent(ways["sigma run"], few, os.path.join(folder, "few_out"))
         print(f"  sigma run over a tenth of them: {peak} KiB")
-        with open(outs["sigma run"], "rb") as file, open(outs["Python's json and sqlite3"], "rb") as other:
-            lines = file.read()
-            same = lines == other.read()
+        lines = bytes_of(outs["sigma run"])
+        same = all(bytes_of(outs[way]) == lines for way in ways if "sigma" in way or "sqlite3" in way)
         print(f"  {lines.count(10)} lines selected, {'the same' if same else 'NOT the same'} as SQLite selects")
         sys.exit(0 if same else 1)
 
