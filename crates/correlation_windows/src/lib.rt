@@ -1,0 +1,12 @@
+//! Windows of matches for correlations of rules, and what has to be kept of the events for them.
+#![tactic(auto)]
+
+pub use bound::{Bound, CorrelationKind, Op};
+pub use law::{kept_goes, kept_suffices};
+pub use matches::Match;
+pub use report::Report;
+
+mod bound;
+mod law;
+mod matches;
+mod report;
