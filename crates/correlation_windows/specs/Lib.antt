@@ -1,7 +1,9 @@
 pub mod Groups
+pub mod Heaps
 pub mod History
 pub mod Kept
 pub mod Laws
 pub mod Over
+pub mod Queues
 pub mod Reports
 pub mod Windows

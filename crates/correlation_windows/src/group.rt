@@ -1,0 +1,60 @@
+//! Groups of matches: the texts of the fields that matches are grouped by.
+
+ghost use Rattle.std.specs.Prelude.{◌≡◌, true, encode_utf8_all};
+ghost use Rattle.std.specs.List.{flat_map};
+ghost use Rattle.std.specs.Hash as fed;
+ghost use Rattle.std.specs.Cmp.Lexicographic.{pointwise, lists_equiv, lists_per, nat_list_eq_equiv};
+ghost use Rattle.std.specs.Cmp.{partial_equiv_from_equiv};
+ghost use Rattle.std.specs.Str.{bytes_eq};
+ghost use Rattle.correlation_windows.specs.Groups.{same_group, group_writes, group_writes_same};
+
+use sig_base::Text;
+use std::hash::{Hash, Hasher};
+use std::marker::Model;
+
+/// The texts of a group, which contracts see as a list.
+#[derive(Drop, Debug)]
+pub struct Group {
+    texts: Vec<Text>,
+}
+
+impl Model for Group {
+    ghost use Rattle.std.specs.Prelude.{List, ℕ};
+
+    ghost Value = { List (List ℕ) };
+
+    ghost view = { λ g. g.texts.items };
+}
+
+impl Group {
+    /// The group of these texts.
+    pub fn of(texts: Vec<Text>) -> Group
+        ensures { result ≡ texts.items }
+    {
+        Group { texts }
+    }
+}
+
+impl PartialEq for Group {
+    ghost eq = { same_group };
+
+    ghost laws = { partial_equiv_from_equiv (lists_equiv nat_list_eq_equiv) };
+
+    fn eq(&self, other: &Group) -> bool {
+        self.texts == other.texts
+    }
+}
+
+impl Eq for Group {
+    ghost laws = { lists_equiv nat_list_eq_equiv };
+}
+
+impl Hash for Group {
+    ghost hash_input = { group_writes };
+
+    ghost respects_eq = { group_writes_same };
+
+    fn hash<H: Hasher>(&self, state: &mut H) {
+        self.texts.hash(state);
+    }
+}
