@@ -1,2 +1,8 @@
 mod Examples
+pub mod Dropping
+pub mod Popping
+pub mod Pushing
+pub mod Removing
+pub mod Sifting
+pub mod Sinking
 pub mod Windowing

@@ -2,11 +2,16 @@
 #![tactic(auto)]
 
 pub use bound::{Bound, CorrelationKind, Op};
+pub use group::Group;
 pub use law::{kept_goes, kept_suffices};
 pub use matches::Match;
 pub use report::Report;
+pub use store::Queues;
 
 mod bound;
+mod drops;
+mod group;
 mod law;
 mod matches;
 mod report;
+mod store;
