@@ -1,5 +1,7 @@
 mod Examples
+pub mod Committing
 pub mod Dropping
+pub mod Ordering
 pub mod Popping
 pub mod Pushing
 pub mod Removing

@@ -18,6 +18,9 @@ group_is a b same = (pointwise_decides bytes_decides a b).0 same
 pub group_symm : (a b : List (List ℕ)) → same_group a b ≡ same_group b a
 group_symm a b = (lists_equiv nat_list_eq_equiv).symm a b
 
+pub group_refl : (a : List (List ℕ)) → same_group a a ≡ true
+group_refl a = (lists_equiv nat_list_eq_equiv).refl a
+
 -- what a queue holds once it is set to w, at a group
 module _ (old new : Entries) (group : List (List ℕ)) (w : VecDeque Match Global)
     (set : (g : List (List ℕ)) → lookup (same_group g) new ≡ cond (same_group group g) (Some w) (lookup (same_group g) old)) where

@@ -5,5 +5,6 @@ pub mod Kept
 pub mod Laws
 pub mod Over
 pub mod Queues
+pub mod Ready
 pub mod Reports
 pub mod Windows

@@ -2,6 +2,7 @@
 #![tactic(auto)]
 
 pub use bound::{Bound, CorrelationKind, Op};
+pub use found::Found;
 pub use group::Group;
 pub use law::{kept_goes, kept_suffices};
 pub use matches::Match;
@@ -10,7 +11,9 @@ pub use store::Queues;
 
 mod bound;
 mod drops;
+mod found;
 mod group;
+mod growth;
 mod law;
 mod matches;
 mod report;
