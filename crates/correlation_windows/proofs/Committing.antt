@@ -2,16 +2,17 @@
 use Rattle.std.proofs.Common.{◌≡◌, ℕ, ◌+◌, ◌≤◌, List, [], ◌∷◌, ◌++◌, refl, ap, sym, subst, ◌∙◌, arith}
 use Rattle.std.proofs.lemmas.List.{append_assoc}
 use Rattle.std.specs.Prelude.{ℤ, ◌≤ℤ◌, length, map}
-use Rattle.std.specs.List.{AllByRecursion}
-use Rattle.std.specs.Map.{lookup}
+use Rattle.std.specs.List.{AllByRecursion, IsDistinct}
+use Rattle.std.specs.Map.{lookup, keys_of}
 use Rattle.std.specs.VecDeque.{deque_capacity}
 use Rattle.correlation_windows.specs.Groups.{same_group}
-use Rattle.correlation_windows.specs.Heaps.{AllUntil, IsInTime, IsOrderly}
+use Rattle.correlation_windows.specs.Heaps.{AllUntil, IsUntil, IsInTime, IsOrderly}
 use Rattle.correlation_windows.specs.Windows.{of_group}
 use Rattle.correlation_windows.specs.Queues.{Entries, held, HasPlaces}
 use Rattle.correlation_windows.specs.Ready.{AllReady, AllNext, AreInTime, grouped}
 use Rattle.correlation_windows.specs.declared.found.Found.{Found}
 use Rattle.correlation_windows.specs.declared.matches.Match.{Match}
+use Rattle.correlation_windows.proofs.Ordering.{until_each}
 use Rattle.correlation_windows.proofs.Windowing.{of_group-append}
 
 -- what the loop keeps: the queues and the matches that are left are those of the start, and these can go in
@@ -55,3 +56,8 @@ going old new first was is f before rest all e so orderly until holds room place
       ; room = omega (arith, len, long, room)
       ; ready = still_ready (length rest) old new (λ g. places (length rest) g ready.0.1.capacity) rest ready.1
       }
+
+-- what comes behind the matches of each group comes behind all queues
+pub next_of : (es : Entries) → IsDistinct same_group (keys_of es) → (fs : List Found) → AllByRecursion (λ f. (g : List (List ℕ)) → IsUntil f.found.moment (held es g)) fs → AllNext es fs
+next_of es unique [] all = tt
+next_of es unique (f ∷ fs) all = (until_each f.found.moment es unique all.0, next_of es unique fs all.1)

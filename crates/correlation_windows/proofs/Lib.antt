@@ -5,6 +5,7 @@ pub mod Ordering
 pub mod Popping
 pub mod Pushing
 pub mod Removing
+pub mod Rooms
 pub mod Sifting
 pub mod Sinking
 pub mod Windowing

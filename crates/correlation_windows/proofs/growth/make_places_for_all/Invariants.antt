@@ -1,0 +1,16 @@
+use Rattle.std.proofs.Common.{◌≡◌, ℕ, ◌≤◌, List, length, take}
+use Rattle.std.specs.List.{AllByRecursion}
+use Rattle.std.specs.Map.{lookup}
+use Rattle.indexmap.specs.IndexMap.{spare}
+use Rattle.correlation_windows.specs.Groups.{same_group}
+use Rattle.correlation_windows.specs.Heaps.{IsOrderly}
+use Rattle.correlation_windows.specs.Queues.{held}
+use Rattle.correlation_windows.proofs.Rooms.{AllPlaced}
+use Rattle.correlation_windows.proofs.growth.make_places_for_all.Given as goal
+
+abbrev pub invariant-loop-found : goal.invariant-loop-found
+invariant-loop-found l =
+    IsOrderly l.map.entries
+    × ((g : List (List ℕ)) → held l.map.entries g ≡ held l.initial.map.entries g)
+    × (length l.founds ≤ spare l.map)
+    × AllPlaced (length l.founds) l.map.entries (take l.found-index l.founds)
