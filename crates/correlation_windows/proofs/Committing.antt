@@ -6,10 +6,10 @@ use Rattle.std.specs.List.{AllByRecursion, IsDistinct}
 use Rattle.std.specs.Map.{lookup, keys_of}
 use Rattle.std.specs.VecDeque.{deque_capacity}
 use Rattle.correlation_windows.specs.Groups.{same_group}
-use Rattle.correlation_windows.specs.Heaps.{AllUntil, IsUntil, IsInTime, IsOrderly}
+use Rattle.correlation_windows.specs.Heaps.{AllUntil, IsInTime, IsOrderly}
 use Rattle.correlation_windows.specs.Windows.{of_group}
 use Rattle.correlation_windows.specs.Queues.{Entries, held, HasPlaces}
-use Rattle.correlation_windows.specs.Ready.{AllReady, AllNext, AreInTime, grouped}
+use Rattle.correlation_windows.specs.Ready.{AllReady, AllNext, AreInTime, UntilEach, grouped}
 use Rattle.correlation_windows.specs.declared.found.Found.{Found}
 use Rattle.correlation_windows.specs.declared.matches.Match.{Match}
 use Rattle.correlation_windows.proofs.Ordering.{until_each}
@@ -58,6 +58,6 @@ going old new first was is f before rest all e so orderly until holds room place
       }
 
 -- what comes behind the matches of each group comes behind all queues
-pub next_of : (es : Entries) → IsDistinct same_group (keys_of es) → (fs : List Found) → AllByRecursion (λ f. (g : List (List ℕ)) → IsUntil f.found.moment (held es g)) fs → AllNext es fs
+pub next_of : (es : Entries) → IsDistinct same_group (keys_of es) → (fs : List Found) → AllByRecursion (λ f. UntilEach f.found.moment es) fs → AllNext es fs
 next_of es unique [] all = tt
 next_of es unique (f ∷ fs) all = (until_each f.found.moment es unique all.0, next_of es unique fs all.1)

@@ -1,6 +1,8 @@
 mod Examples
 pub mod Committing
+pub mod Counting
 pub mod Dropping
+pub mod Following
 pub mod Ordering
 pub mod Popping
 pub mod Pushing

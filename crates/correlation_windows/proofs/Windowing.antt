@@ -7,7 +7,7 @@ use Rattle.std.proofs.lemmas.Int.{ints}
 use Rattle.std.proofs.lemmas.List.Elements.{filter-append}
 use Rattle.correlation_windows.specs.Groups.{same_group}
 use Rattle.correlation_windows.specs.History.{Taken, Grouped, group_by, counted_text, in_group, match_with, matches_from, event_matches, matches_of, last_moment}
-use Rattle.correlation_windows.specs.Kept.{kept, kept_at, Holds, queue_of}
+use Rattle.correlation_windows.specs.Kept.{kept, kept_at, Holds}
 use Rattle.correlation_windows.specs.Laws.{IsBehind, recent, Suffices, Goes}
 use Rattle.correlation_windows.specs.Over.{reports_over}
 use Rattle.correlation_windows.specs.Reports.{report_of, reports_after}
@@ -134,9 +134,9 @@ kept_agrees b (e ∷ es) t test later g behind =
     (ap (filter test) (of_group-recent g (last.0 -ℤ b.span) (matches_of b (e ∷ es))) ∙ filter-recent (last.0 -ℤ b.span) test (later last.0 le) (of_group g (matches_of b (e ∷ es))))
 
 pub suffices : Suffices
-suffices number b history next queues behind holds =
+suffices number b history next queue behind holds =
     let t = next.moment in
-    over_same number b t (queue_of queues) (matches_of b history) [] (event_matches b next) (event_matches_at b next)
+    over_same number b t queue (matches_of b history) [] (event_matches b next) (event_matches_at b next)
     (λ h. ap (filter (is_within b.span t)) (holds h) ∙ kept_agrees b history t (is_within b.span t) (λ last le. within_is_later b.span last t le) h behind)
     ∙ ap (λ l. reports_after number b l (event_matches b next)) (append-nil (matches_of b history))
 
@@ -144,9 +144,9 @@ pub goes : Goes
 goes b history next old new behind holds becomes = λ g.
     let a = next.moment -ℤ b.span in
     let ms = event_matches b next in
-    let one : queue_of new g ≡ recent a (queue_of old g ++ of_group g ms) = becomes g in
-    let two : recent a (queue_of old g ++ of_group g ms) ≡ recent a (of_group g (matches_of b history ++ ms)) =
-          same_window (λ m. int_lt a m.moment) (queue_of old) (matches_of b history) ms g
+    let one : new g ≡ recent a (old g ++ of_group g ms) = becomes g in
+    let two : recent a (old g ++ of_group g ms) ≡ recent a (of_group g (matches_of b history ++ ms)) =
+          same_window (λ m. int_lt a m.moment) old (matches_of b history) ms g
           (λ h. ap (recent a) (holds h) ∙ kept_agrees b history next.moment (λ m. int_lt a m.moment) (λ last le. recent_is_later b.span last next.moment le) h behind) in
     let three : of_group g (kept b (history ++ next ∷ [])) ≡ recent a (of_group g (matches_of b history ++ ms)) =
           ap (λ l. of_group g (kept_at b.span l (matches_of b (history ++ next ∷ [])))) (last_moment-push history next) ∙ (of_group-recent g a (matches_of b (history ++ next ∷ [])) ∙ ap (λ l. recent a (of_group g l)) (matches_of-push b history next)) in

@@ -15,20 +15,20 @@ kept_at span (Some last) ms = filter (λ m. int_lt (last -ℤ span) m.1.moment) 
 abbrev pub kept : Bound → List Taken → List Grouped
 kept b history = kept_at b.span (last_moment history) (matches_of b history)
 
--- the queue of a group, which is empty where there is none
+-- the queue of each group has exactly the group's matches among these, in their order
+abbrev pub Holds : (List (List ℕ) → List Match) → List Grouped → Type 0
+Holds queue ms = (group : List (List ℕ)) → queue group ≡ of_group group ms
+
+-- the queue of a group in a list of queues, which is empty where there is none
 abbrev pub queue_of : List (List (List ℕ) × List Match) → List (List ℕ) → List Match
 queue_of [] group = []
 queue_of (e ∷ es) group = if same_group group e.0 then e.1 else queue_of es group
-
--- the queue of each group has exactly the group's matches among these, in their order
-abbrev pub Holds : List (List (List ℕ) × List Match) → List Grouped → Type 0
-Holds queues ms = (group : List (List ℕ)) → queue_of queues group ≡ of_group group ms
 
 abbrev pub HoldsEach : List (List (List (List ℕ) × List Match)) → List Bound → List Taken → Type 0
 HoldsEach [] [] history = ⊤
 HoldsEach [] (b ∷ bs) history = ⊥
 HoldsEach (queues ∷ rest) [] history = ⊥
-HoldsEach (queues ∷ rest) (b ∷ bs) history = Holds queues (kept b history) × HoldsEach rest bs history
+HoldsEach (queues ∷ rest) (b ∷ bs) history = Holds (queue_of queues) (kept b history) × HoldsEach rest bs history
 
 -- what an engine knows of the events that it has taken: the last moment, and queues for each of its correlations
 pub record State : Type 0 where

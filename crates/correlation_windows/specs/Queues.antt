@@ -1,5 +1,5 @@
 -- Maps from groups to queues, as the code holds them.
-use Rattle.std.specs.Prelude.{◌≡◌, ℕ, ◌+◌, ◌≤◌, List, [], ◌∷◌, map, Option, Some, None, ⊤}
+use Rattle.std.specs.Prelude.{◌≡◌, ℕ, ◌+◌, ◌≤◌, List, [], ◌∷◌, Option, Some, None, length, map, ⊤}
 use Rattle.std.specs.Map.{lookup}
 use Rattle.std.specs.VecDeque.{deque_len, deque_capacity}
 use Rattle.std.specs.declared.collections.VecDeque.{VecDeque}
@@ -27,3 +27,15 @@ HasPlaces n (Some q) = deque_len q + n ≤ deque_capacity q
 pub record Stored : Type 0 where
   pub entries : Entries
   pub spare : ℕ
+
+-- how many matches each queue has
+abbrev pub lengths : Entries → List ℕ
+lengths es = map (λ e. length e.1.items) es
+
+abbrev pub total : List ℕ → ℕ
+total [] = 0
+total (n ∷ ns) = n + total ns
+
+-- how many matches all queues have
+abbrev pub count_held : Entries → ℕ
+count_held es = total (lengths es)

@@ -2,20 +2,19 @@
 
 ghost use Rattle.std.specs.Prelude.{◌≡◌, true, encode_utf8_all};
 ghost use Rattle.std.specs.List.{flat_map};
-ghost use Rattle.std.specs.Hash as fed;
 ghost use Rattle.std.specs.Cmp.Lexicographic.{pointwise, lists_equiv, lists_per, nat_list_eq_equiv};
 ghost use Rattle.std.specs.Cmp.{partial_equiv_from_equiv};
 ghost use Rattle.std.specs.Str.{bytes_eq};
 ghost use Rattle.correlation_windows.specs.Groups.{same_group, group_writes, group_writes_same};
 
-use sig_base::Text;
+use sig_base::{Text, Texts};
 use std::hash::{Hash, Hasher};
 use std::marker::Model;
 
 /// The texts of a group, which contracts see as a list.
 #[derive(Drop, Debug)]
 pub struct Group {
-    texts: Vec<Text>,
+    texts: Texts,
 }
 
 impl Model for Group {
@@ -23,15 +22,22 @@ impl Model for Group {
 
     ghost Value = { List (List ℕ) };
 
-    ghost view = { λ g. g.texts.items };
+    ghost view = { λ g. g.texts };
 }
 
 impl Group {
     /// The group of these texts.
-    pub fn of(texts: Vec<Text>) -> Group
-        ensures { result ≡ texts.items }
+    pub fn of(texts: Texts) -> Group
+        ensures { result ≡ texts }
     {
         Group { texts }
+    }
+
+    /// Lends the texts.
+    pub fn as_slice(&self) -> &[Text]
+        ensures { result.now ≡ self.now }
+    {
+        self.texts.as_slice()
     }
 }
 
@@ -41,7 +47,7 @@ impl PartialEq for Group {
     ghost laws = { partial_equiv_from_equiv (lists_equiv nat_list_eq_equiv) };
 
     fn eq(&self, other: &Group) -> bool {
-        self.texts == other.texts
+        self.as_slice() == other.as_slice()
     }
 }
 
@@ -55,6 +61,6 @@ impl Hash for Group {
     ghost respects_eq = { group_writes_same };
 
     fn hash<H: Hasher>(&self, state: &mut H) {
-        self.texts.hash(state);
+        self.as_slice().hash(state);
     }
 }

@@ -4,12 +4,13 @@
 pub use bound::{Bound, CorrelationKind, Op};
 pub use found::Found;
 pub use group::Group;
-pub use law::{kept_goes, kept_suffices};
+pub use law::{kept_goes, kept_suffices, matches_follow};
 pub use matches::Match;
 pub use report::Report;
 pub use store::Queues;
 
 mod bound;
+mod counts;
 mod drops;
 mod found;
 mod group;
@@ -18,3 +19,5 @@ mod law;
 mod matches;
 mod report;
 mod store;
+#[cfg(test)]
+mod tests;

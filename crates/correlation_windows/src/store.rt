@@ -1,11 +1,16 @@
 //! The queues of a correlation.
 
-ghost use Rattle.std.specs.Prelude.{◌≡◌, ◌++◌, [], List, ℕ, OnOk, IfErr, length};
-ghost use Rattle.correlation_windows.specs.Laws.{recent};
-ghost use Rattle.correlation_windows.specs.Queues.{held};
-ghost use Rattle.correlation_windows.specs.Ready.{AllFresh, HasRoom, ComeNext, grouped};
+ghost use Rattle.std.specs.Prelude.{◌≡◌, ◌++◌, ◌-ℤ◌, [], ◌∷◌, List, ℕ, ℤ, ◌≤ℤ◌, ◌-◌, ◌^◌, min, OnOk, IfErr, length};
+ghost use Rattle.std.specs.Option.{option_copied};
+ghost use Rattle.correlation_windows.specs.History.{Taken, event_matches, last_moment};
+ghost use Rattle.correlation_windows.specs.Kept.{Holds, kept};
+ghost use Rattle.correlation_windows.specs.Laws.{IsBehind, recent};
+ghost use Rattle.correlation_windows.specs.Queues.{held, items_of, count_held};
+ghost use Rattle.correlation_windows.specs.declared.bound.Bound.{Bound};
+ghost use Rattle.correlation_windows.specs.Ready.{AllAt, AllFresh, HasRoom, ComeNext, UntilEach, grouped};
 ghost use Rattle.correlation_windows.specs.Windows.{of_group};
 
+use crate::counts::count_held;
 use crate::drops::drop_old;
 use crate::found::Found;
 use crate::group::Group;
@@ -39,7 +44,8 @@ impl Model for Queues {
 impl Queues {
     /// Queues without a match, which take no memory.
     pub fn new(alloc: Global) -> Queues
-        ensures { (g : List (List ℕ)) → held result.entries g ≡ [] }
+        ensures empty { (g : List (List ℕ)) → held result.entries g ≡ [] }
+        ensures kept { (b : Bound) → Holds (held result.entries) (kept b []) }
     {
         Queues {
             map: IndexMap::new(alloc),
@@ -70,5 +76,32 @@ impl Queues {
         ensures { (g : List (List ℕ)) → held self.new.entries g ≡ recent after (held self.old.entries g) }
     {
         drop_old(&mut self.map, after);
+    }
+
+    /// Goes on by an event: its matches come in, and those that its timespan doesn't reach go. Takes no memory.
+    pub fn advance(&mut self, founds: Vec<Found>, after: i128)
+        requires room { HasRoom self.old founds.items }
+        requires next { ComeNext self.old.entries founds.items }
+        ensures held { (g : List (List ℕ)) → held self.new.entries g ≡ recent after (held self.old.entries g ++ of_group g (grouped founds.items)) }
+        ensures kept { (b : Bound) (history : List Taken) (next : Taken) → IsBehind (last_moment history) next.moment → grouped founds.items ≡ event_matches b next → after ≡ next.moment -ℤ b.span
+            → Holds (held self.old.entries) (kept b history) → Holds (held self.new.entries) (kept b (history ++ next ∷ [])) }
+        ensures until { (last t : ℤ) → AllAt t founds.items → UntilEach last self.old.entries → last ≤ℤ t → UntilEach t self.new.entries }
+    {
+        self.commit(founds);
+        self.drop_old(after);
+    }
+
+    /// The queue of a group, where it has one.
+    pub fn queue(&self, group: &Group) -> Option<&VecDeque<Match>>
+        ensures { items_of (option_copied result) ≡ held self.now.entries group.now }
+    {
+        self.map.get(group)
+    }
+
+    /// How many matches are held in all, or 2^64 - 1 where they're more. Takes no memory.
+    pub fn held(&self) -> u64
+        ensures { result ≡ min (count_held self.now.entries) (2 ^ 64 - 1) }
+    {
+        count_held(&self.map)
     }
 }
