@@ -65,7 +65,9 @@ fn tested(test: SqlTest, rest: &[Place]) -> Walked<'_>
     }
 }
 
-/// The test under a schema, or the first of what is wrong with its names, kinds and patterns.
+/// The test under a schema, or the first of what is wrong with its names, kinds and patterns. Building a regular expression takes much
+/// stack, which isn't to stand in the frames of those that recurse.
+#[inline(never)]
 pub fn walk_leaf<'p, B: Builder>(
     alloc: Global,
     columns: &Columns<'_>,
