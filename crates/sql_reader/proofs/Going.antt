@@ -190,11 +190,11 @@ module _ (fields : List Field) (start : List At) (given : List syntax.Nots) wher
   pub nots_end : (before after : List (List ℕ)) (left : List syntax.Nots) (c : Chain) → GoingNots left (places_view c.rest.now) c.done.items → left ≡ [] → after ≡ before
       → AndBuilt fields before after (map nots_view given) start c
   nots_end before after left c g is kept = (
-        kept,
-        ends_made nots_view (not_checks fields) nots_size (not_expr fields) given start left (places_view c.rest.now) c.done.items g is,
-        passed_as (not_checks fields) nots_size _ _ _ _ (places_view c.rest.now) (λ last. and_checks_are fields (map nots_view given) last start) (λ last. and_behind (map nots_view given) last start)
-            (ends_passed nots_view (not_checks fields) nots_size (not_expr fields) given start left (places_view c.rest.now) c.done.items g is),
-      )
+    kept,
+    ends_made nots_view (not_checks fields) nots_size (not_expr fields) given start left (places_view c.rest.now) c.done.items g is,
+    passed_as (not_checks fields) nots_size _ _ _ _ (places_view c.rest.now) (λ last. and_checks_are fields (map nots_view given) last start) (λ last. and_behind (map nots_view given) last start)
+        (ends_passed nots_view (not_checks fields) nots_size (not_expr fields) given start left (places_view c.rest.now) c.done.items g is),
+  )
 
 module _ (fields : List Field) (start : List At) (given : List syntax_ands.Ands) where
   abbrev pub GoingAnds : List syntax_ands.Ands → List At → List query.Expr → Type 0
@@ -211,11 +211,11 @@ module _ (fields : List Field) (start : List At) (given : List syntax_ands.Ands)
   pub ands_end : (before after : List (List ℕ)) (left : List syntax_ands.Ands) (c : Chain) → GoingAnds left (places_view c.rest.now) c.done.items → left ≡ [] → after ≡ before
       → OrBuilt fields before after (map ands_view given) start c
   ands_end before after left c g is kept = (
-        kept,
-        ends_made ands_view (and_checks fields) ands_size (and_expr fields) given start left (places_view c.rest.now) c.done.items g is,
-        passed_as (and_checks fields) ands_size _ _ _ _ (places_view c.rest.now) (λ last. or_checks_are fields (map ands_view given) last start) (λ last. or_behind (map ands_view given) last start)
-            (ends_passed ands_view (and_checks fields) ands_size (and_expr fields) given start left (places_view c.rest.now) c.done.items g is),
-      )
+    kept,
+    ends_made ands_view (and_checks fields) ands_size (and_expr fields) given start left (places_view c.rest.now) c.done.items g is,
+    passed_as (and_checks fields) ands_size _ _ _ _ (places_view c.rest.now) (λ last. or_checks_are fields (map ands_view given) last start) (λ last. or_behind (map ands_view given) last start)
+        (ends_passed ands_view (and_checks fields) ands_size (and_expr fields) given start left (places_view c.rest.now) c.done.items g is),
+  )
 
 -- ---- the last part of a chain
 

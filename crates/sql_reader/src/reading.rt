@@ -78,7 +78,13 @@ fn select_of<B: Builder>(
         return Err(refused(Code::SQL_UNKNOWN_COLUMN, place_at(places, 3)));
     }
     let columns = Columns::of(alloc, schema.fields.as_slice())?;
-    match walk_ors(alloc, &columns, builder, &query.condition, behind(places, 5)) {
+    match walk_ors(
+        alloc,
+        &columns,
+        builder,
+        &query.condition,
+        behind(places, 5),
+    ) {
         Ok(walked) => Ok(Select {
             condition: walked.expr,
         }),
@@ -146,7 +152,7 @@ fn as_text(bytes: &[u8]) -> &str
     std::str::from_utf8(bytes).unwrap()
 }
 
-/// The query that bytes are under a schema, as SQLite's expressions say it. Refuses 1 at the first byte that is no UTF-8, and else the
+/// The query that bytes are under a schema, or its first refusal: 1 at the first byte that is no UTF-8, and else the
 /// first of these: 121, a token that is none of the language's; 124, parentheses or words NOT nested deeper than `sql_depth`; 120,
 /// where the text stops being a query; 124, an expression too deep; by place 122, 123, 125, 47 and 48, a name, a kind or a pattern.
 pub fn read_select<B: Builder>(

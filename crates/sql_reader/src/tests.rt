@@ -264,7 +264,12 @@ fn nesting_is_bounded(rt: HostRuntime) -> Result<(), Fail> {
         (20, "NOT ", "'a'", "120 at 1:110"),
         (21, "(", "", "124 at 1:1"),
         (20, "(", "", "120 at 1:50"),
-        (19, "1 AND ", "1", "(and 1 1 1 1 1 1 1 1 1 1 1 1 1 1 1 1 1 1 1 1)"),
+        (
+            19,
+            "1 AND ",
+            "1",
+            "(and 1 1 1 1 1 1 1 1 1 1 1 1 1 1 1 1 1 1 1 1)",
+        ),
         (20, "1 AND ", "1", "124 at 1:1"),
         (20, "1 AND ", "\"Other\" = 'a'", "124 at 1:1"),
     ] {
@@ -297,6 +302,46 @@ fn what_the_limits_allow_is_read(rt: HostRuntime) -> Result<(), Fail> {
     Ok(())
 }
 
+/// Whether so many parentheses side by side are read under a limit.
+fn is_read_side_by_side(alloc: Global, limits: &Limits, count: usize) -> Result<bool, Fail> {
+    let shown = nested(alloc, limits, count, "(1) OR ", "(1)")?;
+    Ok(shown.as_str().starts_with("(or 1 1 "))
+}
+
+/// What is answered to a regular expression of so many groups around one letter.
+fn of_groups(alloc: Global, count: usize) -> Result<String, Fail> {
+    let mut all = String::from_str(alloc, "\"Image\" REGEXP '")?;
+    for _turn in 0..count {
+        all.push('(')?;
+    }
+    all.push('a')?;
+    for _turn in 0..count {
+        all.push(')')?;
+    }
+    all.push('\'')?;
+    of_condition(alloc, &Limits::standard(), all.as_str(), 0)
+}
+
+#[test]
+fn what_stands_side_by_side_is_not_nested(rt: HostRuntime) -> Result<(), Fail> {
+    let alloc = rt.alloc();
+    let mut limits = Limits::standard();
+    limits.sql_depth = 25;
+    assert!(rt; is_read_side_by_side(alloc, &limits, 20)?);
+    assert_eq!(rt; of_groups(alloc, 10)?.as_str(), "t");
+    assert_eq!(rt; of_groups(alloc, 251)?.as_str(), "47 at 1:45");
+    let mut long = String::from_str(alloc, "\"Image\" = '")?;
+    for _turn in 0..50_000 {
+        long.push('a')?;
+    }
+    long.push('\'')?;
+    assert_eq!(rt;
+        of_condition(alloc, &limits, long.as_str(), 0)?.as_str(),
+        "t"
+    );
+    Ok(())
+}
+
 #[test]
 fn whole_texts_are_refused(rt: HostRuntime) -> Result<(), Fail> {
     let alloc = rt.alloc();
@@ -312,9 +357,18 @@ fn whole_texts_are_refused(rt: HostRuntime) -> Result<(), Fail> {
         (b"SELECT\t*\rFROM\x0c\"events\"\nWHERE 1", "1"),
         (b"SELECT * FROM \"events\"\nWHERE x", "121 at 2:7"),
         (b"SELECT * FROM \"events\"\nWHERE \"x\" = 'a'", "122 at 2:7"),
-        (b"SELECT * FROM \"events\" WHERE \"Image\" = 'a\0b'", "121 at 1:40"),
-        (b"SELECT * FROM \"events\" WHERE \"Image\" = 'a\0b", "120 at 1:40"),
-        (b"SELECT * FROM \"events\" WHERE \"Im\0age\" = 'a'", "122 at 1:30"),
+        (
+            b"SELECT * FROM \"events\" WHERE \"Image\" = 'a\0b'",
+            "121 at 1:40",
+        ),
+        (
+            b"SELECT * FROM \"events\" WHERE \"Image\" = 'a\0b",
+            "120 at 1:40",
+        ),
+        (
+            b"SELECT * FROM \"events\" WHERE \"Im\0age\" = 'a'",
+            "122 at 1:30",
+        ),
         (b"SELECT * FROM \"events\" WHERE 1;;", "120 at 1:32"),
         (b"SELECT Image FROM \"events\" WHERE 1", "121 at 1:8"),
     ];

@@ -123,9 +123,7 @@ fn walk_core<'p, B: Builder>(
 {
     match core {
         Core::Test(leaf) => walk_leaf(alloc, columns, builder, leaf, places),
-        Core::Enclosed(inner) => {
-            walk_enclosed(alloc, columns, builder, inner, places)
-        }
+        Core::Enclosed(inner) => { walk_enclosed(alloc, columns, builder, inner, places) }
     }
 }
 

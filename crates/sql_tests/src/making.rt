@@ -84,11 +84,7 @@ fn operands(alloc: Global, literals: &[Literal]) -> Result<Vec<Operand>, Fault>
 }
 
 /// The literals of a list, of which the last one stands apart.
-fn listed_operands(
-    alloc: Global,
-    before: &[Literal],
-    last: &Literal,
-) -> Result<Vec<Operand>, Fault>
+fn listed_operands(alloc: Global, before: &[Literal], last: &Literal) -> Result<Vec<Operand>, Fault>
     ensures ok { IfOk result (λ values. (fields : List Field) → map operand_view values.items ≡ expression.literal_operands fields (literals_view before.now) (literal_view last.now)) }
     ensures err { IfErr result (λ e. e ≡ Fault.Memory) }
 {
