@@ -75,7 +75,7 @@ fn places(alloc: Global, text: &str) -> Result<Vec<Place>, Fail> {
     Ok(places)
 }
 
-/// The code of a test's refusal and its column, counted from the test; 0 where nothing is wrong, and 1 of what is no test.
+/// The code of a test's refusal and its column, counted from the test; 0 where nothing is wrong, and `no test` of what is none.
 fn judged(alloc: Global, fields: &[Field], text: &str) -> Result<String, Fail> {
     let columns = Columns::of(alloc, fields)?;
     let Some(leaf) = leaf(alloc, text)? else {
