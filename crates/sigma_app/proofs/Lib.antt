@@ -9,6 +9,7 @@ pub mod Queried
 pub mod Ran
 pub mod ReportLines
 pub mod Running
+pub mod SameLines
 pub mod Schemed
 pub mod Selected
 pub mod Wording

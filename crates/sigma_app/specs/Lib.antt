@@ -9,6 +9,7 @@ pub mod Queried
 pub mod Ran
 pub mod Reports
 pub mod RuleFiles
+pub mod SameLines
 pub mod Served
 pub mod UnderSchema
 pub mod Words

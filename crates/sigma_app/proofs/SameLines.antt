@@ -1,0 +1,403 @@
+-- `run` of a rule and `query` of what `convert` wrote for it answer the same.
+use Rattle.std.proofs.Common.{◌≡◌, ℕ, ◌+◌, ◌≤◌, ◌<◌, Bool, true, false, ◌||◌, List, [], ◌∷◌, ◌++◌, length, refl, ap, sym, ◌∙◌, subst, arith, append-nil, Option, Some, None, Result, Ok, Err, inl, inr}
+use Rattle.std.specs.Prelude.{◌⊎◌, ◌↔◌, nat_le, if◌then◌else◌, pos}
+use Rattle.std.specs.Io.KnownBytes.{Appends}
+use Rattle.std.proofs.lemmas.Bool.{leb-true}
+use Rattle.std.proofs.lemmas.List.{append_cancel_left, length-append}
+use Rattle.answer_parts.proofs.Lined.{step_within, lines_one}
+use Rattle.answer_parts.proofs.Shares.{join_nothing}
+use Rattle.answer_parts.specs.Each.{EachPart, EachShare}
+use Rattle.answer_parts.specs.EventLines.{AnswersWithin, StepPart, EventLines}
+use Rattle.answer_parts.specs.Input.{World}
+use Rattle.answer_parts.specs.Lines.{ended}
+use Rattle.answer_parts.specs.Parts.{Share, Part, no_share, join, joined, share_of, Gains}
+use Rattle.answer_parts.specs.State.{Streams}
+use Rattle.event_lines.specs.Lines.{lines_of}
+use Rattle.event_reading.specs.EventOf.{event_of}
+use Rattle.event_reading.specs.SchemaOf.{schema_of}
+use Rattle.event_schema.specs.Events.{IsEvent}
+use Rattle.event_schema.specs.Lists.{EachOf}
+use Rattle.event_schema.specs.Occurrence.{Occurrence}
+use Rattle.event_schema.specs.declared.schema.Schema.{Schema}
+use Rattle.event_schema.specs.declared.value.Value.{Value}
+use Rattle.languages.specs.RefusedPlaces.{PatternAt, is_of_pattern}
+use Rattle.query_files.specs.Ended.{with_line_feed, SameWithLineFeed, RefusedForPatterns}
+use Rattle.query_files.proofs.Text.{one_more}
+use Rattle.query_runs.specs.Asked.{IsAsked, IsNotAsked, too_large, unread, most_bytes}
+use Rattle.rule_matching.specs.Matching.{Matches}
+use Rattle.rule_model.specs.Plain.{PlainRule}
+use Rattle.rule_model.specs.Rules.{IsLoneRule}
+use Rattle.rule_queries.specs.NamedQueries.{Query as QueryOf, is_query, is_within, picks, text, missing, too_deep, query_of, Converts, IsConverted}
+use Rattle.rule_queries.specs.Queries.{query_under, checks_under}
+use Rattle.rule_queries.specs.declared.backend_name.BackendName.{BackendName}
+use Rattle.rule_queries.specs.declared.backend_name.BackendName.TheVariants as backends
+use Rattle.rule_runs.specs.Files.{single_tree}
+use Rattle.rule_runs.specs.Laws as running
+use Rattle.rule_runs.specs.Runs.{IsSingleRule, IsRun, IsNotRun}
+use Rattle.rule_schema.specs.Inferred.{unfit_refusal}
+use Rattle.selected_lines.proofs.Selected.{one_selected}
+use Rattle.selected_lines.specs.Selected.{Picking, EventGives, Selects}
+use Rattle.sig_base.specs.Judged.{first}
+use Rattle.sig_base.specs.declared.faults.LineStep.{LineStep}
+use Rattle.sig_base.specs.declared.limits.Limits.{Limits}
+use Rattle.sig_base.specs.declared.refusal.Detail.TheVariants.{Numbers}
+use Rattle.sig_base.specs.declared.refusal.Refusal.{Refusal}
+use Rattle.sigma_app.proofs.Wording.{one_request}
+use Rattle.sigma_app.specs.Answers.{AnswersAt, ArePlaces}
+use Rattle.sigma_app.specs.Convert.{ConvertMeans, means_rule, means_none}
+use Rattle.sigma_app.specs.Converted.{RulesBy}
+use Rattle.sigma_app.specs.Languages.{patterns, refuses, AskedAt, AreUnbuilt}
+use Rattle.sigma_app.specs.Laws.{OneLone, AnswersMean}
+use Rattle.sigma_app.specs.Queried.{AskedUnder, asks, doesnt_ask, IsOfBuilder}
+use Rattle.sigma_app.specs.Ran.{RunGives, RanUnder, runs, isnt_run}
+use Rattle.sigma_app.specs.Reports.{line_share, refusal_share}
+use Rattle.sigma_app.specs.RuleFiles.{ByTree, DocumentGives, FileGives, as_one, by_document, RuleFile, contents}
+use Rattle.sigma_app.specs.SameLines.{Call, AreOfRule, AnswersAlike, RefusesPattern, SameLines, SameWithoutRefusals, SameByLucene}
+use Rattle.sigma_app.specs.Served.{Answer, accepted, unaccepted, status_of}
+use Rattle.sigma_app.specs.UnderSchema.{BySchema, UnderSchema, without, under, refused, file_part}
+use Rattle.sigma_app.specs.Words.{IsAccepted}
+use Rattle.sigma_app.specs.declared.request.Request.{Request}
+use Rattle.sigma_app.specs.declared.request.Request.TheVariants.{Convert, Run, Query}
+use Rattle.sigma_app.specs.declared.status.Status.{Status}
+use Rattle.sigma_app.specs.declared.status.Status.TheVariants.{Done, Found}
+use Rattle.text_places.specs.Places.{CodeAt}
+use Rattle.yaml_documents.specs.Verdicts as yaml
+use Rattle.yaml_tree.specs.Tree.{Tree, Answer as Document, tree, refusal}
+
+-- ---- the lines of events
+
+abbrev pub EventsKept : Type 0
+EventsKept = (schema : Schema) (line : List ℕ) (event : Occurrence) → event_of schema line ≡ Ok event → IsEvent schema.fields event.values
+
+module _ (kept : EventsKept) (schema : Schema) (Picks Others : Picking) (same : (row : List (List Value)) → IsEvent schema.fields row → (Picks row ↔ Others row)) where
+  selects_same : AnswersWithin (Selects schema Picks) (Selects schema Others)
+  selects_same number line share = by (event_of schema line) refl
+    where
+      by : (r : Result Occurrence ℕ) → event_of schema line ≡ r → EventGives Picks number line r share → EventGives Others number line r share
+      by (Ok event) is (inl (picked, so)) = inl ((same event.values (kept schema line event is)).0 picked, so)
+      by (Ok event) is (inr (not, so)) = inr ((λ other. not ((same event.values (kept schema line event is)).1 other)), so)
+      by (Err code) is so = so
+
+  steps_same : (steps : List LineStep) (w v : World) (parts : List Part) → EachPart (StepPart (Selects schema Picks)) steps w parts → EachPart (StepPart (Selects schema Others)) steps v parts
+  steps_same [] w v [] each = tt
+  steps_same [] w v (p ∷ parts) each = absurd each
+  steps_same (s ∷ steps) w v [] each = absurd each
+  steps_same (s ∷ steps) w v (p ∷ parts) each =
+      (record { input = each.0.input; share = step_within (Selects schema Picks) (Selects schema Others) selects_same s p.share each.0.share }, steps_same steps w v parts each.1)
+
+  -- where both select the same events of the schema, the same lines are written
+  lines_same : (limits : Limits) (w v : World) (a b : List Part) → v.events ≡ w.events → EventLines (Selects schema Picks) limits w a → EventLines (Selects schema Others) limits v b → a ≡ b
+  lines_same limits w v a b same_events (ps, each, is) second =
+      lines_one (Selects schema Others) limits (one_selected schema Others) v a b
+      (ps, steps_same (lines_of limits v.events) w v ps (subst (λ (e : List ℕ). EachPart (StepPart (Selects schema Picks)) (lines_of limits e) w ps) (sym same_events) each), is) second
+
+-- ---- calls
+
+answered_as : (limits : Limits) (places : List CodeAt) (words : List (List ℕ)) (world : World) (status : Status) (parts : List Part) (request : Request) → IsAccepted words request
+    → Answer limits places words world status parts → AnswersAt limits places request world parts × (status ≡ status_of (share_of parts).refused)
+answered_as limits places words world status parts request is (accepted other is_too at ends) =
+    (subst (λ (q : Request). AnswersAt limits places q world parts) (one_request words other request is_too is) at, ends)
+answered_as limits places words world status parts request is (unaccepted none ends only) = absurd (none request is)
+
+none_some : {A : Type 0} (x : A) → Some x ≡ None → ⊥
+none_some x same = cc
+
+some_is : {A : Type 0} (x y : A) → Some x ≡ Some y → x ≡ y
+some_is x y same = cc
+
+true_false : true ≡ false → ⊥
+true_false same = cc
+
+abbrev schema_ok : Schema → Result Schema ℕ
+schema_ok given = Ok given
+
+abbrev schema_err : ℕ → Result Schema ℕ
+schema_err code = Err code
+
+same_schema : (a b : Schema) → schema_ok a ≡ schema_ok b → a ≡ b
+same_schema a b same = cc
+
+no_schema : (a : Schema) (code : ℕ) → schema_ok a ≡ schema_err code → ⊥
+no_schema a code same = cc
+
+-- where the file that is named is a schema, the answer is that under this schema
+under_given : (by : BySchema) (limits : Limits) (name : List ℕ) (world : World) (parts : List Part) (given : Schema) → schema_of limits (contents world.files name) ≡ Ok given
+    → UnderSchema by limits (Some name) world parts → (others : List Part) × by (Some given) world others × (parts ≡ file_part name no_share ∷ others)
+under_given by limits name world parts given so (without is other) = absurd (none_some name is)
+under_given by limits name world parts given so (under file is other so_too others answer same) =
+    let here : file ≡ name = some_is file name (sym is) in
+    let one : other ≡ given = same_schema other given (sym (subst (λ (n : List ℕ). schema_of limits (contents world.files n) ≡ Ok other) here so_too) ∙ so) in
+    (others, subst (λ (g : Schema). by (Some g) world others) one answer, same ∙ ap (λ (n : List ℕ). file_part n no_share ∷ others) here)
+under_given by limits name world parts given so (refused file is code so_too same) =
+    absurd (no_schema given code (sym so ∙ subst (λ (n : List ℕ). schema_of limits (contents world.files n) ≡ Err code) (some_is file name (sym is)) so_too))
+
+status_none : (b : Bool) → Done ≡ status_of b → b ≡ false
+status_none true is = absurd (apart is)
+  where
+    apart : Done ≡ Found → ⊥
+    apart same = cc
+status_none false is = refl
+
+-- ---- refusals in a table
+
+all_none : (checks : List (Option Refusal)) → first checks ≡ None → EachOf (λ check. check ≡ None) checks
+all_none [] is = tt
+all_none (None ∷ checks) is = (refl, all_none checks is)
+all_none (Some r ∷ checks) is = absurd (none_some r is)
+
+within_most : (n most : ℕ) (r : Refusal) → (if nat_le n most then None else Some r) ≡ None → n ≤ most
+within_most n most r is = by (nat_le n most) refl is
+  where
+    by : (b : Bool) → nat_le n most ≡ b → (if b then None else Some r) ≡ None → n ≤ most
+    by true small none = leb-true n most small
+    by false large none = absurd (none_some r none)
+
+-- a rule with a query fits its schema, and the query has no more bytes than one may have
+module _ (backend : BackendName) (limits : Limits) (given : Schema) (top : Tree) (rule : PlainRule) (is : IsConverted backend limits (Some given) top rule) where
+  no_refusal : EachOf (λ check. check ≡ None) (checks_under (missing backend) (text backend) (too_deep backend) limits given rule)
+  no_refusal = all_none (checks_under (missing backend) (text backend) (too_deep backend) limits given rule) is.written
+
+  fits_none : unfit_refusal (Some given) rule ≡ None
+  fits_none = let fits = no_refusal.0 in rw fits refl
+
+  query_short : length (query_of backend (Some given) rule) ≤ limits.query_bytes
+  unfolding query_under
+  query_short =
+      let size : ℕ = length (query_of backend (Some given) rule) in
+      within_most size limits.query_bytes (record { code = 114; place = rule.head.place; detail = Numbers (pos size) (pos limits.query_bytes) }) no_refusal.1.1.1.1.0
+
+-- ---- the one document of the rule's file
+
+abbrev tree_ok : Tree → Result Tree Refusal
+tree_ok t = Ok t
+
+abbrev tree_err : Refusal → Result Tree Refusal
+tree_err r = Err r
+
+no_tree : (r : Refusal) (t : Tree) → tree_err r ≡ tree_ok t → ⊥
+no_tree r t same = cc
+
+same_tree : (u t : Tree) → tree_ok u ≡ tree_ok t → u ≡ t
+same_tree u t same = cc
+
+only_tree : (ds : List Document) (t : Tree) → single_tree ds ≡ Ok t → ds ≡ tree t ∷ []
+only_tree [] t is = absurd (no_tree _ t is)
+only_tree (tree u ∷ []) t is = ap (λ (x : Tree). tree x ∷ []) (same_tree u t is)
+only_tree (refusal p ∷ []) t is = absurd (no_tree _ t is)
+only_tree (tree u ∷ d ∷ ds) t is = absurd (no_tree _ t is)
+only_tree (refusal p ∷ d ∷ ds) t is = absurd (no_tree _ t is)
+
+one_share : {X : Type 0} (gives : X → Share → Type 0) (x : X) (shares : List Share) → EachShare gives (x ∷ []) shares → (s : Share) × gives x s × (shares ≡ s ∷ [])
+one_share gives x [] each = absurd each
+one_share gives x (s ∷ []) each = (s, each.0, refl)
+one_share gives x (s ∷ t ∷ more) each = absurd each.1
+
+one_part : {X : Type 0} (gives : X → World → Part → Type 0) (x : X) (world : World) (parts : List Part) → EachPart gives (x ∷ []) world parts → (p : Part) × gives x world p × (parts ≡ p ∷ [])
+one_part gives x world [] each = absurd each
+one_part gives x world (p ∷ []) each = (p, each.0, refl)
+one_part gives x world (p ∷ q ∷ more) each = absurd each.1
+
+module _ (never : yaml.NeverBoth) (list : yaml.OneList) where
+  file_share : (by : ByTree) (limits : Limits) (name bytes : List ℕ) (r : PlainRule) (single : IsSingleRule limits bytes r) (share : Share) → FileGives by limits name bytes share
+      → by name single.only.top share
+  file_share by limits name bytes r single share (as_one p cause is) = absurd (never limits.file_bytes limits.documents limits.yaml_depth bytes single.documents p single.taken cause)
+  file_share by limits name bytes r single share (by_document ds taken (shares, each, is)) =
+      let top : Tree = single.only.top in
+      let same : ds ≡ tree top ∷ [] = list limits.file_bytes limits.documents limits.yaml_depth bytes ds single.documents taken single.taken ∙ only_tree single.documents top single.only.single in
+      let one = one_share (DocumentGives by name) (tree top) shares (subst (λ (l : List Document). EachShare (DocumentGives by name) l shares) same each) in
+      subst (by name top) (sym (is ∙ (ap joined one.2 ∙ join_nothing one.0))) one.1
+
+-- ---- what `convert` wrote
+
+abbrev Text : BackendName → Schema → PlainRule → List ℕ
+Text backend given rule = query_of backend (Some given) rule
+
+-- the tree is this rule, with this query, which means the rule, and this share has the query and a line feed
+record HasQuery (backend : BackendName) (limits : Limits) (given : Schema) (top : Tree) (rule : PlainRule) (share : Share) : Type 0 where
+  converted : IsConverted backend limits (Some given) top rule
+  means : Converts backend limits (Some given) rule (Text backend given rule)
+  is : share ≡ line_share (Text backend given rule)
+
+tree_wrote : OneLone → (backend : BackendName) (limits : Limits) (given : Schema) (name : List ℕ) (top : Tree) (rule : PlainRule) → IsLoneRule limits top rule → (share : Share)
+    → share.refused ≡ false → ConvertMeans backend limits (Some given) name top share → HasQuery backend limits given top rule share
+tree_wrote lone backend limits given name top rule is share unrefused (means_rule other converted means so) =
+    subst (λ (r : PlainRule). HasQuery backend limits given top r share) (lone limits top other rule converted.lone is) (record { converted = converted; means = means; is = so })
+tree_wrote lone backend limits given name top rule is share unrefused (means_none r why so) = absurd (true_false (sym (ap (λ (s : Share). s.refused) so) ∙ unrefused))
+
+-- what a sink gained that tells it
+gained_text : (old new : Option (List ℕ)) (start bytes output : List ℕ) → old ≡ Some start → new ≡ Some (start ++ bytes) → Appends old new output → bytes ≡ output
+gained_text old new start bytes output stood wrote gains =
+    append_cancel_left start bytes output (subst (λ (o : Option (List ℕ)). Appends (Some start) o output) wrote (subst (λ (o : Option (List ℕ)). Appends o new output) stood gains))
+
+record HasWritten (limits : Limits) (backend : BackendName) (schema_bytes : List ℕ) (top : Tree) (rule : PlainRule) (bytes : List ℕ) : Type 0 where
+  given : Schema
+  schema : schema_of limits schema_bytes ≡ Ok given
+  converted : IsConverted backend limits (Some given) top rule
+  means : Converts backend limits (Some given) rule (Text backend given rule)
+  is : bytes ≡ with_line_feed (Text backend given rule)
+
+module _ (lone : OneLone) (mean : AnswersMean) (never : yaml.NeverBoth) (list : yaml.OneList) where
+  convert_wrote : (limits : Limits) (backend : BackendName) (convert run query : Call limits) (calls : AreOfRule limits backend convert run query)
+      → HasWritten limits backend (contents convert.world.files calls.schema) calls.single.1.only.top calls.single.0 (contents query.world.files calls.file)
+  convert_wrote limits backend convert run query calls =
+      let w = convert.serves.answer convert.answered convert.world convert.told in
+      let a = answered_as limits w.0 convert.words convert.world convert.status w.2 (Convert backend (Some calls.schema) (calls.rule ∷ [])) calls.converts w.3 in
+      of w.2 (mean backend limits (Some calls.schema) (calls.rule ∷ []) convert.world w.2 a.0) (status_none (share_of w.2).refused (sym calls.done ∙ a.1)) w.4.0
+    where
+      of : (parts : List Part) → UnderSchema (RulesBy (ConvertMeans backend limits) limits (calls.rule ∷ [])) limits (Some calls.schema) convert.world parts → (share_of parts).refused ≡ false
+          → Appends convert.old.out convert.new.out (share_of parts).output
+          → HasWritten limits backend (contents convert.world.files calls.schema) calls.single.1.only.top calls.single.0 (contents query.world.files calls.file)
+      of parts (without is each) unrefused gains = absurd (none_some calls.schema is)
+      of parts (refused file is code so same) unrefused gains = absurd (true_false (sym (ap (λ (ps : List Part). (share_of ps).refused) same) ∙ unrefused))
+      of parts (under file is given so others each same) unrefused gains =
+          let here : file ≡ calls.schema = some_is file calls.schema (sym is) in
+          let one = one_part (RuleFile (ConvertMeans backend limits (Some given)) limits) calls.rule convert.world others each in
+          let answer = file_share never list (ConvertMeans backend limits (Some given)) limits calls.rule (contents convert.world.files calls.rule) calls.single.0 calls.single.1 one.0.share one.1.share in
+          let whole : share_of parts ≡ one.0.share = ap share_of (same ∙ ap (λ (ps : List Part). file_part file no_share ∷ ps) one.2) ∙ join_nothing one.0.share in
+          let has = tree_wrote lone backend limits given calls.rule calls.single.1.only.top calls.single.0 calls.single.1.only.lone one.0.share
+          (sym (ap (λ (s : Share). s.refused) whole) ∙ unrefused) answer in
+          record {
+            given = given;
+            schema = subst (λ (n : List ℕ). schema_of limits (contents convert.world.files n) ≡ Ok given) here so;
+            converted = has.converted;
+            means = has.means;
+            is = gained_text convert.old.out convert.new.out calls.start (contents query.world.files calls.file) (share_of parts).output calls.stood calls.wrote gains
+                ∙ ap (λ (s : Share). s.output) (whole ∙ has.is);
+          }
+
+-- ---- what `run` answered
+
+-- the lines of the events, answered by these events
+record Selected (limits : Limits) (given : Schema) (Picks : Picking) (call : Call limits) : Type 0 where
+  lines : List Part
+  each : EventLines (Selects given Picks) limits call.world lines
+  gains : Gains (share_of lines) call.old call.new
+  status : call.status ≡ status_of (share_of lines).refused
+
+module _ (limits : Limits) (call : Call limits) (schema file : List ℕ) (given : Schema) (so : schema_of limits (contents call.world.files schema) ≡ Ok given) where
+  run_answered : running.NeverBoth → running.OneRun → IsAccepted call.words (Run (Some schema) file) → (rule : PlainRule) → IsRun limits (Some given) (contents call.world.files file) rule
+      → Selected limits given (λ row. Matches given.fields row rule) call
+  run_answered never one words rule is_run =
+      let w = call.serves.answer call.answered call.world call.told in
+      let a = answered_as limits w.0 call.words call.world call.status w.2 (Run (Some schema) file) words w.3 in
+      let u = under_given (RanUnder limits file) limits schema call.world w.2 given so a.0 in
+      of w.2 u.0 u.1 u.2 w.4 a.1
+    where
+      of : (parts others : List Part) → RanUnder limits file (Some given) call.world others → parts ≡ file_part schema no_share ∷ others → Gains (share_of parts) call.old call.new
+          → call.status ≡ status_of (share_of parts).refused → Selected limits given (λ row. Matches given.fields row rule) call
+      of parts others (runs other is lines each same) whole gains ends =
+          let here : other ≡ rule = one limits (Some given) (contents call.world.files file) other rule is is_run in
+          let all : parts ≡ file_part schema no_share ∷ file_part file no_share ∷ lines = whole ∙ ap (λ (ps : List Part). file_part schema no_share ∷ ps) same in
+          record {
+            lines = lines;
+            each = subst (λ (r : PlainRule). EventLines (RunGives given r) limits call.world lines) here each;
+            gains = subst (λ (ps : List Part). Gains (share_of ps) call.old call.new) all gains;
+            status = ends ∙ ap (λ (ps : List Part). status_of (share_of ps).refused) all;
+          }
+      of parts others (isnt_run r is same) whole gains ends = absurd (never limits (Some given) (contents call.world.files file) rule r is_run is)
+
+  -- ---- what `query` answered
+
+  module _ (backend : BackendName) (words : IsAccepted call.words (Query backend schema file)) (q : QueryOf backend) (reads : is_query backend given (contents call.world.files file) q)
+      (within : is_within backend limits given (contents call.world.files file) q) (short : length (contents call.world.files file) ≤ most_bytes limits) where
+    query_answered : RefusedForPatterns (is_within backend) (refuses backend)
+        → ((schema : Schema) (bytes : List ℕ) (p q : QueryOf backend) → is_query backend schema bytes p → is_query backend schema bytes q → p ≡ q)
+        → Selected limits given (picks backend q) call ⊎ RefusesPattern backend file call
+    query_answered only one =
+        let w = call.serves.answer call.answered call.world call.told in
+        let a = answered_as limits w.0 call.words call.world call.status w.2 (Query backend schema file) words w.3 in
+        let u = under_given (AskedAt backend limits file w.0) limits schema call.world w.2 given so a.0 in
+        of w.0 (w.1 (Query backend schema file) words given so) w.2 u.0 u.1 u.2 w.4 a.1
+      where
+        of : (places : List CodeAt) → AreUnbuilt backend limits file call.unbuilt.before call.unbuilt.after true given call.world places → (parts others : List Part)
+            → AskedAt backend limits file places (Some given) call.world others → parts ≡ file_part schema no_share ∷ others → Gains (share_of parts) call.old call.new
+            → call.status ≡ status_of (share_of parts).refused → Selected limits given (picks backend q) call ⊎ RefusesPattern backend file call
+        of places built parts others (asks other asked lines each same) whole gains ends =
+            let here : other ≡ q = one given (contents call.world.files file) other q asked.reads reads in
+            let all : parts ≡ file_part schema no_share ∷ file_part file no_share ∷ lines = whole ∙ ap (λ (ps : List Part). file_part schema no_share ∷ ps) same in
+            inl (record {
+              lines = lines;
+              each = subst (λ (x : QueryOf backend). EventLines (Selects given (picks backend x)) limits call.world lines) here each;
+              gains = subst (λ (ps : List Part). Gains (share_of ps) call.old call.new) all gains;
+              status = ends ∙ ap (λ (ps : List Part). status_of (share_of ps).refused) all;
+            })
+        of places built parts others (doesnt_ask r (too_large large is) same) whole gains ends = absurd (omega (arith, large, short))
+        of places built parts others (doesnt_ask r (unread few is) same) whole gains ends =
+            let all : parts ≡ file_part schema no_share ∷ file_part file (refusal_share file r) ∷ [] = whole ∙ ap (λ (ps : List Part). file_part schema no_share ∷ ps) same in
+            inr (record {
+              refusal = r;
+              gained = built.gained;
+              follows = built.follows;
+              of = built.told refl r (unread few is) (only limits given (contents call.world.files file) q places r within is);
+              wrote = subst (λ (ps : List Part). Gains (share_of ps) call.old call.new) all gains;
+              status = ends ∙ ap (λ (ps : List Part). status_of (share_of ps).refused) all;
+            })
+
+-- ---- both
+
+abbrev pub OneQuery : BackendName → Type 0
+OneQuery backend = (schema : Schema) (bytes : List ℕ) (p q : QueryOf backend) → is_query backend schema bytes p → is_query backend schema bytes q → p ≡ q
+
+abbrev pub Feeds : BackendName → Type 0
+Feeds backend = SameWithLineFeed (is_query backend) (is_within backend)
+
+abbrev pub OnlyPatterns : BackendName → Type 0
+OnlyPatterns backend = RefusedForPatterns (is_within backend) (refuses backend)
+
+module _ (kept : EventsKept) (lone : OneLone) (mean : AnswersMean) (never : yaml.NeverBoth) (list : yaml.OneList) (never_run : running.NeverBoth) (one_run : running.OneRun)
+    (feeds : (backend : BackendName) → Feeds backend) (only : (backend : BackendName) → OnlyPatterns backend) (one : (backend : BackendName) → OneQuery backend) where
+  pub same_lines : SameLines
+  same_lines limits backend convert run query calls =
+      let has = convert_wrote lone mean never list limits backend convert run query calls in
+      let text : List ℕ = Text backend has.given calls.single.0 in
+      let whole : contents query.world.files calls.file ≡ with_line_feed text = has.is in
+      let short : length text ≤ limits.query_bytes = query_short backend limits has.given calls.single.1.only.top calls.single.0 has.converted in
+      let behind = feeds backend limits has.given text has.means.query has.means.reads has.means.within short in
+      let ran = run_answered limits run calls.schema calls.rule has.given (subst (λ (b : List ℕ). schema_of limits b ≡ Ok has.given) (sym calls.run_schema) has.schema) never_run one_run calls.runs
+      calls.single.0 (record {
+        single = subst (λ (b : List ℕ). IsSingleRule limits b calls.single.0) (sym calls.run_rule) calls.single.1;
+        fits = fits_none backend limits has.given calls.single.1.only.top calls.single.0 has.converted;
+      }) in
+      let asked = query_answered limits query calls.schema calls.file has.given (subst (λ (b : List ℕ). schema_of limits b ≡ Ok has.given) (sym calls.query_schema) has.schema) backend calls.asks has.means.query
+      (subst (λ (b : List ℕ). is_query backend has.given b has.means.query) (sym whole) behind.0) (subst (λ (b : List ℕ). is_within backend limits has.given b has.means.query) (sym whole) behind.1)
+      (subst (λ (b : List ℕ). length b ≤ most_bytes limits) (sym whole) (one_more text limits.query_bytes short)) (only backend) (one backend) in
+      elim asked [
+        | inl found ↦ inl (alike has.given (λ row. Matches has.given.fields row calls.single.0) (picks backend has.means.query)
+            (λ row is. ((has.means.selects row is).1, (has.means.selects row is).0)) ran found)
+        | inr pattern ↦ inr pattern
+      ]
+    where
+      alike : (given : Schema) (Picks Others : Picking) → ((row : List (List Value)) → IsEvent given.fields row → (Picks row ↔ Others row)) → Selected limits given Picks run → Selected limits given Others query
+          → AnswersAlike run query
+      alike given Picks Others same ran found =
+          let lines : ran.lines ≡ found.lines = lines_same kept given Picks Others same limits run.world query.world ran.lines found.lines calls.query_events ran.each found.each in
+          record {
+            share = share_of ran.lines;
+            run_wrote = ran.gains;
+            query_wrote = subst (λ (ps : List Part). Gains (share_of ps) query.old query.new) (sym lines) found.gains;
+            status = found.status ∙ (ap (λ (ps : List Part). status_of (share_of ps).refused) (sym lines) ∙ sym ran.status);
+          }
+
+-- ---- without refusals
+
+nothing_gained : {A : Type 0} (xs ys : List A) → xs ++ ys ≡ xs → ys ≡ []
+nothing_gained xs ys same = append_cancel_left xs ys [] (same ∙ sym (append-nil xs))
+
+none_of_builder : (all : List PatternAt) (r : Refusal) → IsOfBuilder all [] r → ⊥
+none_of_builder [] r is = is
+none_of_builder (p ∷ all) r (inl is) = is.1
+none_of_builder (p ∷ all) r (inr is) = none_of_builder all r is
+
+pub same_without_refusals : SameLines → SameWithoutRefusals
+same_without_refusals same limits backend convert run query calls none = elim (same limits backend convert run query calls) [
+  | inl alike ↦ alike
+  | inr p ↦ absurd (none_of_builder (patterns backend (contents query.world.files calls.file)) p.refusal
+      (subst (λ (g : List (List ℕ)). IsOfBuilder (patterns backend (contents query.world.files calls.file)) g p.refusal)
+      (nothing_gained query.unbuilt.before p.gained (sym p.follows ∙ none)) p.of))
+]
+
+pub same_by_lucene : SameLines → SameByLucene
+same_by_lucene same limits convert run query calls = elim (same limits backends.Lucene convert run query calls) [
+  | inl alike ↦ alike
+  | inr p ↦ absurd p.of
+]
