@@ -48,14 +48,14 @@ going old new first was is f before rest all e so orderly until holds room place
     let len : length (f ∷ rest) ≡ length rest + 1 = longer f rest in
     let long : length (f ∷ rest) ≤ was = at.room in
     let ready : AllReady (length rest + 1) old (f ∷ rest) = subst (λ (n : ℕ). AllReady n old (f ∷ rest)) len at.ready in
-    record
-      { same = λ g. ap (λ h. h ++ of_group g (grouped rest)) (holds g) ∙ (append_assoc (held old g) (of_group g ((f.group, f.found) ∷ [])) (of_group g (grouped rest)) ∙ (ap (λ r. held old g ++ r) (sym (of_group-append g ((f.group, f.found) ∷ []) (grouped rest))) ∙ at.same g))
-      ; orderly = orderly
-      ; next = still_next old new f.found until rest at.in_time.0 at.next.1
-      ; in_time = at.in_time.1
-      ; room = omega (arith, len, long, room)
-      ; ready = still_ready (length rest) old new (λ g. places (length rest) g ready.0.1.capacity) rest ready.1
-      }
+    record {
+      same = λ g. ap (λ h. h ++ of_group g (grouped rest)) (holds g) ∙ (append_assoc (held old g) (of_group g ((f.group, f.found) ∷ [])) (of_group g (grouped rest)) ∙ (ap (λ r. held old g ++ r) (sym (of_group-append g ((f.group, f.found) ∷ []) (grouped rest))) ∙ at.same g));
+      orderly = orderly;
+      next = still_next old new f.found until rest at.in_time.0 at.next.1;
+      in_time = at.in_time.1;
+      room = omega (arith, len, long, room);
+      ready = still_ready (length rest) old new (λ g. places (length rest) g ready.0.1.capacity) rest ready.1;
+    }
 
 -- what comes behind the matches of each group comes behind all queues
 pub next_of : (es : Entries) → IsDistinct same_group (keys_of es) → (fs : List Found) → AllByRecursion (λ f. UntilEach f.found.moment es) fs → AllNext es fs

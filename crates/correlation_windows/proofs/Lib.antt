@@ -3,6 +3,7 @@ pub mod Committing
 pub mod Counting
 pub mod Dropping
 pub mod Following
+pub mod Held
 pub mod Ordering
 pub mod Popping
 pub mod Pushing

@@ -51,12 +51,12 @@ fronts_set test (e ∷ es) q w is same = by (test e.0) is (λ r. fronts_set test
 -- a queue that takes another's place, with the same first moment
 pub orderly_set : (test : List (List ℕ) → Bool) (es fs : Entries) (q w : Queue) → fs ≡ set_value test es w → IsDistinct same_group (keys_of fs) → lookup test es ≡ Some q
     → first_moment w.items ≡ first_moment q.items → IsInTime w.items → 0 < length w.items → IsOrderly es → IsOrderly fs
-orderly_set test es fs q w is unique found same in_time some o = record
-    { unique = unique
-    ; heap = subst IsHeap (sym (ap fronts is ∙ fronts_set test es q w found same)) o.heap
-    ; in_time = subst AllInTime (sym is) (set_has (λ v. IsInTime v.items) test es w in_time o.in_time)
-    ; filled = subst AllFilled (sym is) (set_has (λ v. 0 < length v.items) test es w some o.filled)
-    }
+orderly_set test es fs q w is unique found same in_time some o = record {
+  unique = unique;
+  heap = subst IsHeap (sym (ap fronts is ∙ fronts_set test es q w found same)) o.heap;
+  in_time = subst AllInTime (sym is) (set_has (λ v. IsInTime v.items) test es w in_time o.in_time);
+  filled = subst AllFilled (sym is) (set_has (λ v. 0 < length v.items) test es w some o.filled);
+}
 
 pub orderly_room : (test : List (List ℕ) → Bool) (es fs : Entries) (q w : Queue) → fs ≡ set_value test es w → IsDistinct same_group (keys_of fs) → lookup test es ≡ Some q → w.items ≡ q.items → IsOrderly es → IsOrderly fs
 orderly_room test es fs q w is unique found same o =
@@ -92,7 +92,7 @@ orderly_gain test es fs q w m is unique found gains until o =
 pub until_gain : (test : List (List ℕ) → Bool) (es fs : Entries) (q w : Queue) (m : Match) (t : ℤ) → fs ≡ set_value test es w → lookup test es ≡ Some q → w.items ≡ q.items ++ m ∷ [] → m.moment ≤ℤ t → AllUntil t es → AllUntil t fs
 until_gain test es fs q w m t is found gains le until =
     subst (AllUntil t) (sym is) (set_has (λ v. IsUntil t v.items) test es w
-      (subst (IsUntil t) (sym gains) (all_push (λ x. x.moment ≤ℤ t) q.items m (found_has (λ v. IsUntil t v.items) test es q until found) le)) until)
+    (subst (IsUntil t) (sym gains) (all_push (λ x. x.moment ≤ℤ t) q.items m (found_has (λ v. IsUntil t v.items) test es q until found) le)) until)
 
 -- a heap that gained a last element, which is at least as great as all
 heap_push : (xs : List ℤ) (x : ℤ) → IsHeap xs → ((k : ℕ) → k < length xs → at xs k ≤ℤ x) → IsHeap (xs ++ x ∷ [])
@@ -107,8 +107,10 @@ heap_push xs x heap most p k below lt = by (k_is k (length xs) (omega (arith, lt
         up : (k < n) ⊎ (k ≡ n) → (suc k < suc n) ⊎ (suc k ≡ suc n)
         up (inl l) = inl (omega (arith, l))
         up (inr e) = inr (ap suc e)
+
     old : (i : ℕ) → i < length xs → at (xs ++ x ∷ []) i ≡ at xs i
     old i l = get_or_append_left xs (x ∷ []) (pos 0) i l
+
     by : (k < length xs) ⊎ (k ≡ length xs) → at (xs ++ x ∷ []) p ≤ℤ at (xs ++ x ∷ []) k
     by (inl l) = subst (λ (a : ℤ). a ≤ℤ at (xs ++ x ∷ []) k) (sym (old p (omega (arith, below, l)))) (subst (λ (b : ℤ). at xs p ≤ℤ b) (sym (old k l)) (heap p k below l))
     by (inr e) =
@@ -130,17 +132,17 @@ fronts_until t (e ∷ es) filled until (suc k) lt = fronts_until t es filled.1 u
 
 -- a group that came with the newest match
 pub orderly_new : (es fs : Entries) (g : List (List ℕ)) (w : Queue) (m : Match) → fs ≡ es ++ (g, w) ∷ [] → IsDistinct same_group (keys_of fs) → w.items ≡ m ∷ [] → AllUntil m.moment es → IsOrderly es → IsOrderly fs
-orderly_new es fs g w m is unique one until o = record
-    { unique = unique
-    ; heap = subst IsHeap (sym (ap fronts is ∙ (fronts-push es (g, w) ∙ ap (λ ms. fronts es ++ first_moment ms ∷ []) one))) (heap_push (fronts es) m.moment o.heap (fronts_until m.moment es o.filled until))
-    ; in_time = subst AllInTime (sym is) (all_push (λ e. IsInTime e.1.items) es (g, w) o.in_time (subst IsInTime (sym one) (tt, tt)))
-    ; filled = subst AllFilled (sym is) (all_push (λ e. 0 < length e.1.items) es (g, w) o.filled (subst (λ (ms : List Match). 0 < length ms) (sym one) (omega arith)))
-    }
+orderly_new es fs g w m is unique one until o = record {
+  unique = unique;
+  heap = subst IsHeap (sym (ap fronts is ∙ (fronts-push es (g, w) ∙ ap (λ ms. fronts es ++ first_moment ms ∷ []) one))) (heap_push (fronts es) m.moment o.heap (fronts_until m.moment es o.filled until));
+  in_time = subst AllInTime (sym is) (all_push (λ e. IsInTime e.1.items) es (g, w) o.in_time (subst IsInTime (sym one) (tt, tt)));
+  filled = subst AllFilled (sym is) (all_push (λ e. 0 < length e.1.items) es (g, w) o.filled (subst (λ (ms : List Match). 0 < length ms) (sym one) (omega arith)));
+}
 
 pub until_new : (es fs : Entries) (g : List (List ℕ)) (w : Queue) (m : Match) (t : ℤ) → fs ≡ es ++ (g, w) ∷ [] → w.items ≡ m ∷ [] → m.moment ≤ℤ t → AllUntil t es → AllUntil t fs
 until_new es fs g w m t is one le until = subst (AllUntil t) (sym is) (all_push (λ e. IsUntil t e.1.items) es (g, w) until (subst (IsUntil t) (sym one) (le, tt)))
 
-absent : (g : List (List ℕ)) (es : Entries) → AllByRecursion (λ k. same_group g k ≡ false) (keys_of es) → lookup (same_group g) es ≡ None
+pub absent : (g : List (List ℕ)) (es : Entries) → AllByRecursion (λ k. same_group g k ≡ false) (keys_of es) → lookup (same_group g) es ≡ None
 absent g [] all = refl
 absent g (e ∷ es) all = rw all.0 (absent g es all.1)
 

@@ -37,6 +37,7 @@ module _ (old new : Entries) (group : List (List ℕ)) (w : VecDeque Match Globa
       fewer : (o : Option (VecDeque Match Global)) → HasPlaces (n + 1) o → HasPlaces n o
       fewer None h = tt
       fewer (Some q) h = omega (arith, h)
+
       by : (t : Bool) → same_group group g ≡ t → HasPlaces n (cond (same_group group g) (Some w) (lookup (same_group g) old))
       by true p = rw p (fits p)
       by false p = rw p (fewer (lookup (same_group g) old) before)

@@ -103,10 +103,10 @@ over_same : (number : ℕ) (b : Bound) (t : ℤ) (queue : List (List ℕ) → Li
 over_same number b t queue before done [] at agree = refl
 over_same number b t queue before done (m ∷ ms) at agree =
     let here : filter (is_within b.span m.1.moment) (queue m.0 ++ of_group m.0 (done ++ m ∷ [])) ≡ filter (is_within b.span m.1.moment) (of_group m.0 ((before ++ done) ++ m ∷ [])) =
-          subst (λ (a : ℤ). filter (is_within b.span a) (queue m.0 ++ of_group m.0 (done ++ m ∷ [])) ≡ filter (is_within b.span a) (of_group m.0 ((before ++ done) ++ m ∷ []))) (sym at.0)
-          (same_window (is_within b.span t) queue before (done ++ m ∷ []) m.0 agree ∙ ap (λ l. filter (is_within b.span t) (of_group m.0 l)) (sym (append_assoc before done (m ∷ [])))) in
+    subst (λ (a : ℤ). filter (is_within b.span a) (queue m.0 ++ of_group m.0 (done ++ m ∷ [])) ≡ filter (is_within b.span a) (of_group m.0 ((before ++ done) ++ m ∷ []))) (sym at.0)
+    (same_window (is_within b.span t) queue before (done ++ m ∷ []) m.0 agree ∙ ap (λ l. filter (is_within b.span t) (of_group m.0 l)) (sym (append_assoc before done (m ∷ [])))) in
     let rest : reports_over number b queue (done ++ m ∷ []) ms ≡ reports_after number b ((before ++ done) ++ m ∷ []) ms =
-          over_same number b t queue before (done ++ m ∷ []) ms at.1 agree ∙ ap (λ l. reports_after number b l ms) (sym (append_assoc before done (m ∷ []))) in
+    over_same number b t queue before (done ++ m ∷ []) ms at.1 agree ∙ ap (λ l. reports_after number b l ms) (sym (append_assoc before done (m ∷ []))) in
     ap (λ w. report_of number b w m ++ reports_over number b queue (done ++ m ∷ []) ms) here ∙ ap (λ r. report_of number b (filter (is_within b.span m.1.moment) (of_group m.0 ((before ++ done) ++ m ∷ []))) m ++ r) rest
 
 -- a history with an event has a last moment
@@ -146,8 +146,8 @@ goes b history next old new behind holds becomes = λ g.
     let ms = event_matches b next in
     let one : new g ≡ recent a (old g ++ of_group g ms) = becomes g in
     let two : recent a (old g ++ of_group g ms) ≡ recent a (of_group g (matches_of b history ++ ms)) =
-          same_window (λ m. int_lt a m.moment) old (matches_of b history) ms g
-          (λ h. ap (recent a) (holds h) ∙ kept_agrees b history next.moment (λ m. int_lt a m.moment) (λ last le. recent_is_later b.span last next.moment le) h behind) in
+    same_window (λ m. int_lt a m.moment) old (matches_of b history) ms g
+    (λ h. ap (recent a) (holds h) ∙ kept_agrees b history next.moment (λ m. int_lt a m.moment) (λ last le. recent_is_later b.span last next.moment le) h behind) in
     let three : of_group g (kept b (history ++ next ∷ [])) ≡ recent a (of_group g (matches_of b history ++ ms)) =
-          ap (λ l. of_group g (kept_at b.span l (matches_of b (history ++ next ∷ [])))) (last_moment-push history next) ∙ (of_group-recent g a (matches_of b (history ++ next ∷ [])) ∙ ap (λ l. recent a (of_group g l)) (matches_of-push b history next)) in
+    ap (λ l. of_group g (kept_at b.span l (matches_of b (history ++ next ∷ [])))) (last_moment-push history next) ∙ (of_group-recent g a (matches_of b (history ++ next ∷ [])) ∙ ap (λ l. recent a (of_group g l)) (matches_of-push b history next)) in
     one ∙ (two ∙ sym three)

@@ -6,17 +6,14 @@ ghost use Rattle.correlation_windows.specs.Ready.{Follows};
 /// The reports of an event can be told from what is kept.
 pub fn kept_suffices()
     ensures { Suffices }
-{
-}
+{}
 
 /// What is kept can be told from what was kept and the next event's matches.
 pub fn kept_goes()
     ensures { Goes }
-{
-}
+{}
 
 /// Matches of one event can go into queues without a later match.
 pub fn matches_follow()
     ensures { Follows }
-{
-}
+{}

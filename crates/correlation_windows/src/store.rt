@@ -2,7 +2,7 @@
 
 ghost use Rattle.std.specs.Prelude.{◌≡◌, ◌++◌, ◌-ℤ◌, [], ◌∷◌, List, ℕ, ℤ, ◌≤ℤ◌, ◌-◌, ◌^◌, min, OnOk, IfErr, length};
 ghost use Rattle.std.specs.Option.{option_copied};
-ghost use Rattle.correlation_windows.specs.History.{Taken, event_matches, last_moment};
+ghost use Rattle.correlation_windows.specs.History.{Taken, Grouped, event_matches, last_moment};
 ghost use Rattle.correlation_windows.specs.Kept.{Holds, kept};
 ghost use Rattle.correlation_windows.specs.Laws.{IsBehind, recent};
 ghost use Rattle.correlation_windows.specs.Queues.{held, items_of, count_held};
@@ -100,7 +100,8 @@ impl Queues {
 
     /// How many matches are held in all, or 2^64 - 1 where they're more. Takes no memory.
     pub fn held(&self) -> u64
-        ensures { result ≡ min (count_held self.now.entries) (2 ^ 64 - 1) }
+        ensures all { result ≡ min (count_held self.now.entries) (2 ^ 64 - 1) }
+        ensures kept { (ms : List Grouped) → Holds (held self.now.entries) ms → result ≡ min (length ms) (2 ^ 64 - 1) }
     {
         count_held(&self.map)
     }

@@ -96,9 +96,20 @@ fn what_a_timespan_reaches_is_kept(rt: HostRuntime) -> Result<(), Fail> {
 
 #[test]
 fn older_matches_of_every_group_go(rt: HostRuntime) -> Result<(), Fail> {
-    let events = [(1, 0, "a"), (2, 1, "b"), (3, 2, "A"), (4, 2, "b"), (5, MINUTE + 1, "c")];
+    let events = [
+        (1, 0, "a"),
+        (2, 1, "b"),
+        (3, 2, "A"),
+        (4, 2, "b"),
+        (5, MINUTE + 1, "c"),
+    ];
     let queues = take_all(rt.alloc(), &events)?;
-    for (user, want) in [("a", "of 3"), ("b", "4 of 3"), ("A", "3 of 3"), ("c", "5 of 3")] {
+    for (user, want) in [
+        ("a", "of 3"),
+        ("b", "4 of 3"),
+        ("A", "3 of 3"),
+        ("c", "5 of 3"),
+    ] {
         assert_eq!(rt; shown(rt.alloc(), &queues, user)?.as_str(), want);
     }
     Ok(())

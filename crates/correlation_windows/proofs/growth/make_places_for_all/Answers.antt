@@ -9,11 +9,12 @@ loop-found-preserved c =
     let made = c.in_ok-make_places.ensures in
     let within : c.loop-found.found-index < length c.args.founds.now = search (rules, arith, c.loop-found-test.true) in
     let left : length c.args.founds.now ≤ spare c.loop-found.map = so.2 in
-    let room : spare c.make_places.new.map ≡ spare c.loop-found.map = made.room in
-    ( made.orderly
-    , (λ g. made.held g ∙ so.1 g)
-    , omega (arith, left, room)
-    , placed_more (length c.args.founds.now) c.loop-found.map.entries c.make_places.new.map.entries made.others c.args.founds.now c.loop-found.found-index c.found-item.result within c.found-item.is made.places so.3)
+    let room : spare c.make_places.new.map ≡ spare c.loop-found.map = made.room in (
+      made.orderly,
+      (λ g. made.held g ∙ so.1 g),
+      omega (arith, left, room),
+      placed_more (length c.args.founds.now) c.loop-found.map.entries c.make_places.new.map.entries made.others c.args.founds.now c.loop-found.found-index c.found-item.result within c.found-item.is made.places so.3,
+    )
 
 pub returns-clause-ready : goal.returns-clause-ready
 returns-clause-ready c =

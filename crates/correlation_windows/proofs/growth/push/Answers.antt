@@ -34,7 +34,7 @@ returns-in-Some-clause-places c = λ n g fresh before.
     places_push c.args.map.now.entries (c.get_mut.follows.lender c.push_back-pushed.new.self).entries c.args.group c.push_back-pushed.new.self
     (((c.get_mut.follows.holds c.push_back-pushed.new.self).3 (search (rules, at))).0) n g
     (λ same. let room : deque_len c.in-Some.queue.now + (n + 1) ≤ deque_capacity c.in-Some.queue.now = so_many (n + 1) _ c.in-Some.queue.now at (subst (λ h. HasPlaces (n + 1) (lookup (same_group h) c.args.map.now.entries)) (sym (group_is c.args.group g same)) before) in
-        omega (arith, len, cap, room)) before
+    omega (arith, len, cap, room)) before
 
 pub returns-in-None-clause-held : goal.returns-in-None-clause-held
 returns-in-None-clause-held c =
@@ -43,7 +43,7 @@ returns-in-None-clause-held c =
     let room = subst (λ m. 0 < spare m) (sym same) c.requires.room in
     held_push c.args.map.now.entries c.insert-inserted.new.self.entries c.args.group c.push_back-pushed-in-None.new.self
     (subst (λ m. (g : List (List ℕ)) → lookup (same_group g) c.insert-inserted.new.self.entries ≡ cond (same_group c.args.group g) (Some c.push_back-pushed-in-None.new.self) (lookup (same_group g) m.entries)) same
-     ((use_ok c.insert-inserted.result (c.insert-inserted.ensures.succeeds room) c.insert-inserted.ensures.updates).0)) c.args.found
+    ((use_ok c.insert-inserted.result (c.insert-inserted.ensures.succeeds room) c.insert-inserted.ensures.updates).0)) c.args.found
     (pushed_items c.push_back-pushed-in-None.result c.args.fresh.items c.push_back-pushed-in-None.new.self.items c.args.found (c.push_back-pushed-in-None.ensures.succeeds (empty_fits c.args.fresh c.requires.empty c.requires.capacity)) c.push_back-pushed-in-None.ensures.items ∙ (ap (λ l. l ++ c.args.found ∷ []) c.requires.empty ∙ ap (λ o. items_of o ++ c.args.found ∷ []) (sym at)))
 
 pub returns-in-Some-clause-orderly : goal.returns-in-Some-clause-orderly
@@ -70,11 +70,11 @@ returns-in-None-clause-orderly c =
     let room = subst (λ m. 0 < spare m) (sym same) c.requires.room in
     orderly_new c.args.map.now.entries c.insert-inserted.new.self.entries c.args.group c.push_back-pushed-in-None.new.self c.args.found
     (use_ok c.insert-inserted.result (c.insert-inserted.ensures.succeeds room) c.insert-inserted.ensures.entries
-     ∙ subst (λ m. insert_entry same_group m.entries c.args.group c.push_back-pushed-in-None.new.self ≡ c.args.map.now.entries ++ (c.args.group, c.push_back-pushed-in-None.new.self) ∷ []) (sym same)
-       (insert_entry-new same_group c.args.map.now c.args.group c.push_back-pushed-in-None.new.self at))
+    ∙ subst (λ m. insert_entry same_group m.entries c.args.group c.push_back-pushed-in-None.new.self ≡ c.args.map.now.entries ++ (c.args.group, c.push_back-pushed-in-None.new.self) ∷ []) (sym same)
+    (insert_entry-new same_group c.args.map.now c.args.group c.push_back-pushed-in-None.new.self at))
     c.insert-inserted.ensures.unique
     (pushed_items c.push_back-pushed-in-None.result c.args.fresh.items c.push_back-pushed-in-None.new.self.items c.args.found (c.push_back-pushed-in-None.ensures.succeeds (empty_fits c.args.fresh c.requires.empty c.requires.capacity)) c.push_back-pushed-in-None.ensures.items
-     ∙ ap (λ l. l ++ c.args.found ∷ []) c.requires.empty)
+    ∙ ap (λ l. l ++ c.args.found ∷ []) c.requires.empty)
     c.requires.next c.requires.orderly
 
 pub returns-in-None-clause-until : goal.returns-in-None-clause-until
@@ -84,8 +84,8 @@ returns-in-None-clause-until c = λ t le until.
     let room = subst (λ m. 0 < spare m) (sym same) c.requires.room in
     until_new c.args.map.now.entries c.insert-inserted.new.self.entries c.args.group c.push_back-pushed-in-None.new.self c.args.found t
     (use_ok c.insert-inserted.result (c.insert-inserted.ensures.succeeds room) c.insert-inserted.ensures.entries
-     ∙ subst (λ m. insert_entry same_group m.entries c.args.group c.push_back-pushed-in-None.new.self ≡ c.args.map.now.entries ++ (c.args.group, c.push_back-pushed-in-None.new.self) ∷ []) (sym same)
-       (insert_entry-new same_group c.args.map.now c.args.group c.push_back-pushed-in-None.new.self at))
+    ∙ subst (λ m. insert_entry same_group m.entries c.args.group c.push_back-pushed-in-None.new.self ≡ c.args.map.now.entries ++ (c.args.group, c.push_back-pushed-in-None.new.self) ∷ []) (sym same)
+    (insert_entry-new same_group c.args.map.now c.args.group c.push_back-pushed-in-None.new.self at))
     (pushed_items c.push_back-pushed-in-None.result c.args.fresh.items c.push_back-pushed-in-None.new.self.items c.args.found (c.push_back-pushed-in-None.ensures.succeeds (empty_fits c.args.fresh c.requires.empty c.requires.capacity)) c.push_back-pushed-in-None.ensures.items
-     ∙ ap (λ l. l ++ c.args.found ∷ []) c.requires.empty)
+    ∙ ap (λ l. l ++ c.args.found ∷ []) c.requires.empty)
     le until

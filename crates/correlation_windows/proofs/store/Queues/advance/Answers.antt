@@ -21,8 +21,8 @@ pub returns-clause-kept : goal.returns-clause-kept
 returns-clause-kept c = λ b history next behind matches after holds.
     goes b history next (held c.args.self.now.entries) (held c.drop_old.new.self.entries) behind holds
     (λ g. subst (λ (a : ℤ). held c.drop_old.new.self.entries g ≡ recent a (held c.args.self.now.entries g ++ of_group g (event_matches b next))) after
-      (subst (λ (ms : List Grouped). held c.drop_old.new.self.entries g ≡ recent c.args.after (held c.args.self.now.entries g ++ of_group g ms)) matches
-        (both c.args.after c.args.self.now.entries c.commit.new.self.entries c.drop_old.new.self.entries c.args.founds.items c.ranges.after c.commit.ensures c.drop_old.ensures g)))
+    (subst (λ (ms : List Grouped). held c.drop_old.new.self.entries g ≡ recent c.args.after (held c.args.self.now.entries g ++ of_group g ms)) matches
+    (both c.args.after c.args.self.now.entries c.commit.new.self.entries c.drop_old.new.self.entries c.args.founds.items c.ranges.after c.commit.ensures c.drop_old.ensures g)))
 
 pub returns-clause-until : goal.returns-clause-until
 returns-clause-until c = λ last t at until le.
