@@ -1,12 +1,12 @@
 -- The loop that puts matches into their queues.
-use Rattle.std.proofs.Common.{◌≡◌, ℕ, ◌+◌, ◌≤◌, List, [], ◌∷◌, ◌++◌, refl, ap, sym, subst, ◌∙◌, arith}
+use Rattle.std.proofs.Common.{◌≡◌, ℕ, ◌+◌, ◌≤◌, List, [], ◌∷◌, ◌++◌, ap, sym, subst, ◌∙◌, arith}
 use Rattle.std.proofs.lemmas.List.{append_assoc}
 use Rattle.std.specs.Prelude.{ℤ, ◌≤ℤ◌, length, map}
 use Rattle.std.specs.List.{AllByRecursion, IsDistinct}
 use Rattle.std.specs.Map.{lookup, keys_of}
 use Rattle.std.specs.VecDeque.{deque_capacity}
 use Rattle.correlation_windows.specs.Groups.{same_group}
-use Rattle.correlation_windows.specs.Heaps.{AllUntil, IsInTime, IsOrderly}
+use Rattle.correlation_windows.specs.Heaps.{AllUntil, IsOrderly}
 use Rattle.correlation_windows.specs.Windows.{of_group}
 use Rattle.correlation_windows.specs.Queues.{Entries, held, HasPlaces}
 use Rattle.correlation_windows.specs.Ready.{AllReady, AllNext, AreInTime, UntilEach, grouped}

@@ -1,5 +1,5 @@
 -- Sums of what is left of a list.
-use Rattle.std.proofs.Common.{◌≡◌, ℕ, zero, suc, ◌+◌, ◌<◌, ◌≤◌, List, [], ◌∷◌, refl, ap, sym, subst, ◌∙◌, arith}
+use Rattle.std.proofs.Common.{◌≡◌, ℕ, zero, suc, ◌+◌, ◌<◌, ◌≤◌, List, [], ◌∷◌, refl, subst, arith}
 use Rattle.std.specs.Prelude.{length, drop, get_or}
 use Rattle.std.proofs.lemmas.List.{length-map}
 use Rattle.correlation_windows.specs.Queues.{Entries, lengths, total}

@@ -1,12 +1,12 @@
 -- Reports reckoned by hand from the words of the specification: the field 0 is a user, the field 1 is what is counted.
 use Rattle.std.proofs.Common.{ℕ, ◌≡◌, refl, true, false, List, [], ◌∷◌, ◌++◌, codes, Bool}
-use Rattle.std.specs.Prelude.{ℤ, Some, None, Option, pos, negsuc, ◌-ℤ◌}
+use Rattle.std.specs.Prelude.{ℤ, Some, None, pos, negsuc}
 use Rattle.event_schema.specs.declared.value.Value.{Value}
 use Rattle.event_schema.specs.declared.value.Value.TheVariants as values
-use Rattle.correlation_windows.specs.History.{Taken, matches_of}
+use Rattle.correlation_windows.specs.History.{Taken}
 use Rattle.correlation_windows.specs.Kept.{kept}
 use Rattle.correlation_windows.specs.Reports.{reports}
-use Rattle.correlation_windows.specs.Windows.{compares, distinct, meets_in_order, of_group}
+use Rattle.correlation_windows.specs.Windows.{compares}
 use Rattle.correlation_windows.specs.declared.matches.Match.{Match}
 use Rattle.correlation_windows.specs.declared.bound.Bound.{Bound}
 use Rattle.correlation_windows.specs.declared.bound.CorrelationKind.{CorrelationKind}

@@ -1,13 +1,13 @@
 -- Matches of one event, and the latest moment of what queues hold.
-use Rattle.std.proofs.Common.{◌≡◌, ℕ, Bool, true, false, List, [], ◌∷◌, ◌++◌, refl, ap, sym, subst, ◌∙◌, arith}
+use Rattle.std.proofs.Common.{◌≡◌, ℕ, Bool, true, false, List, [], ◌∷◌, ◌++◌, sym, subst, ◌∙◌, arith}
 use Rattle.std.specs.Prelude.{ℤ, ◌≤ℤ◌, int_lt, if◌then◌else◌, map}
-use Rattle.std.specs.List.{AllByRecursion, filter}
+use Rattle.std.specs.List.{AllByRecursion}
 use Rattle.std.proofs.lemmas.Int.{ints}
 use Rattle.correlation_windows.specs.Groups.{same_group}
-use Rattle.correlation_windows.specs.Heaps.{IsUntil, IsInTime}
+use Rattle.correlation_windows.specs.Heaps.{IsUntil}
 use Rattle.correlation_windows.specs.Laws.{recent}
 use Rattle.correlation_windows.specs.Queues.{Entries, held}
-use Rattle.correlation_windows.specs.Ready.{AllAt, AreInTime, ComeNext, Follows, UntilEach, grouped}
+use Rattle.correlation_windows.specs.Ready.{AllAt, AreInTime, Follows, UntilEach, grouped}
 use Rattle.correlation_windows.specs.Windows.{of_group}
 use Rattle.correlation_windows.specs.declared.found.Found.{Found}
 use Rattle.correlation_windows.specs.declared.matches.Match.{Match}

@@ -1,10 +1,8 @@
 -- How many matches queues hold, where they hold exactly these.
 use Rattle.std.proofs.Common.{◌≡◌, ℕ, ◌+◌, Bool, true, false, cond, List, [], ◌∷◌, refl, ap, sym, subst, ◌∙◌, arith, true≢false}
-use Rattle.std.specs.Prelude.{length, not, if◌then◌else◌, Option, Some, None}
-use Rattle.std.specs.List.{filter, IsDistinct}
+use Rattle.std.specs.Prelude.{length, if◌then◌else◌, Some}
+use Rattle.std.specs.List.{IsDistinct}
 use Rattle.std.specs.Map.{lookup, keys_of}
-use Rattle.std.specs.declared.collections.VecDeque.{VecDeque}
-use Rattle.std.specs.declared.alloc.Global.{Global}
 use Rattle.correlation_windows.specs.Groups.{same_group}
 use Rattle.correlation_windows.specs.History.{Grouped}
 use Rattle.correlation_windows.specs.Kept.{Holds}

@@ -1,19 +1,17 @@
 -- Queues stay in order as one of them gains a match or room.
-use Rattle.std.proofs.Common.{◌≡◌, ℕ, zero, suc, ◌+◌, ◌-◌, ◌*◌, ◌<◌, ◌≤◌, Bool, true, false, cond, List, [], ◌∷◌, ◌++◌, refl, ap, sym, subst, ◌∙◌, arith, true≢false, ◌⊎◌, inl, inr}
-use Rattle.std.specs.Prelude.{ℤ, pos, ◌≤ℤ◌, length, get_or, map, Option, Some, None, is_some}
+use Rattle.std.proofs.Common.{◌≡◌, ℕ, zero, suc, ◌+◌, ◌<◌, Bool, true, false, cond, List, [], ◌∷◌, ◌++◌, refl, ap, sym, subst, ◌∙◌, arith, true≢false, ◌⊎◌, inl, inr}
+use Rattle.std.specs.Prelude.{ℤ, pos, ◌≤ℤ◌, length, Option, Some, None, is_some}
 use Rattle.std.specs.List.{AllByRecursion, IsDistinct}
 use Rattle.std.specs.Map.{lookup, keys_of, set_value}
-use Rattle.std.proofs.lemmas.Int.{ints}
-use Rattle.std.proofs.lemmas.List.{get_or_append_left, length-append, length-map}
+use Rattle.std.proofs.lemmas.List.{get_or_append_left, length-append}
 use Rattle.std.proofs.Math.Seq.{get_or-append_seam}
 use Rattle.std.specs.declared.collections.VecDeque.{VecDeque}
 use Rattle.std.specs.declared.alloc.Global.{Global}
 use Rattle.correlation_windows.specs.Groups.{same_group}
-use Rattle.correlation_windows.specs.Heaps.{at, fronts, first_moment, IsBelow, IsHeap, IsUntil, IsInTime, AllUntil, AllInTime, AllFilled, IsOrderly}
+use Rattle.correlation_windows.specs.Heaps.{at, fronts, first_moment, IsHeap, IsUntil, IsInTime, AllUntil, AllInTime, AllFilled, IsOrderly}
 use Rattle.correlation_windows.specs.Queues.{Entries, held, items_of}
 use Rattle.correlation_windows.specs.declared.matches.Match.{Match}
 use Rattle.correlation_windows.proofs.Pushing.{group_is, group_refl}
-use Rattle.correlation_windows.proofs.Sifting.{le_trans}
 
 abbrev Queue : Type 0
 Queue = VecDeque Match Global

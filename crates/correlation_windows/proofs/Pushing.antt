@@ -1,8 +1,7 @@
 -- A queue that gains a match.
 use Rattle.std.proofs.Common.{◌≡◌, ℕ, ◌+◌, ◌<◌, ◌≤◌, Bool, true, false, cond, List, [], ◌∷◌, ◌++◌, refl, ap, sym, subst, ◌∙◌, arith, append-nil, true≢false}
-use Rattle.std.specs.Prelude.{Option, Some, None, if◌then◌else◌, is_ok, Result, Ok, Err, IsOk, OnOk, ⊤, length}
+use Rattle.std.specs.Prelude.{Option, Some, None, if◌then◌else◌, is_ok, Result, Ok, Err, IsOk, OnOk, length}
 use Rattle.std.specs.Map.{lookup}
-use Rattle.std.specs.Cmp.{IsEquivalence}
 use Rattle.std.specs.Cmp.Lexicographic.{pointwise_decides, bytes_decides, lists_equiv, nat_list_eq_equiv}
 use Rattle.std.specs.VecDeque.{deque_len, deque_capacity}
 use Rattle.std.specs.declared.collections.VecDeque.{VecDeque}

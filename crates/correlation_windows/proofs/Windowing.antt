@@ -1,13 +1,13 @@
 -- Windows over what is kept of a history.
 use Rattle.std.proofs.Common.{◌≡◌, ℕ, Bool, true, false, List, [], ◌∷◌, ◌++◌, refl, ap, sym, subst, ◌∙◌, arith, append-nil, true≢false}
 use Rattle.std.proofs.lemmas.List.{append_assoc}
-use Rattle.std.specs.Prelude.{ℤ, ◌-ℤ◌, ◌≤ℤ◌, int_lt, not, ◌&&◌, Option, Some, None, if◌then◌else◌, ◌+◌, slice_index_or}
-use Rattle.std.specs.List.{filter, flat_map, zip, AllByRecursion}
+use Rattle.std.specs.Prelude.{ℤ, ◌-ℤ◌, ◌≤ℤ◌, int_lt, ◌&&◌, Option, Some, None, if◌then◌else◌, ◌+◌, slice_index_or}
+use Rattle.std.specs.List.{filter, zip, AllByRecursion}
 use Rattle.std.proofs.lemmas.Int.{ints}
 use Rattle.std.proofs.lemmas.List.Elements.{filter-append}
 use Rattle.correlation_windows.specs.Groups.{same_group}
 use Rattle.correlation_windows.specs.History.{Taken, Grouped, group_by, counted_text, in_group, match_with, matches_from, event_matches, matches_of, last_moment}
-use Rattle.correlation_windows.specs.Kept.{kept, kept_at, Holds}
+use Rattle.correlation_windows.specs.Kept.{kept, kept_at}
 use Rattle.correlation_windows.specs.Laws.{IsBehind, recent, Suffices, Goes}
 use Rattle.correlation_windows.specs.Over.{reports_over}
 use Rattle.correlation_windows.specs.Reports.{report_of, reports_after}

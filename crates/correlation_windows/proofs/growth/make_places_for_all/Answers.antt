@@ -1,4 +1,4 @@
-use Rattle.std.proofs.Common.{rules, ◌≡◌, ◌<◌, ◌≤◌, ℕ, List, length, ◌∙◌, sym, arith}
+use Rattle.std.proofs.Common.{rules, ◌≡◌, ◌<◌, ◌≤◌, length, ◌∙◌, arith}
 use Rattle.indexmap.specs.IndexMap.{spare}
 use Rattle.correlation_windows.proofs.Rooms.{placed_more, placed_all, ready_of}
 use Rattle.correlation_windows.proofs.growth.make_places_for_all.Goals as goal

@@ -1,8 +1,5 @@
 use Rattle.std.proofs.Common.{◌≡◌, ℕ, ◌≤◌, List, length, take}
-use Rattle.std.specs.List.{AllByRecursion}
-use Rattle.std.specs.Map.{lookup}
 use Rattle.indexmap.specs.IndexMap.{spare}
-use Rattle.correlation_windows.specs.Groups.{same_group}
 use Rattle.correlation_windows.specs.Heaps.{IsOrderly}
 use Rattle.correlation_windows.specs.Queues.{held}
 use Rattle.correlation_windows.proofs.Rooms.{AllPlaced}

@@ -1,17 +1,12 @@
-use Rattle.std.proofs.Common.{rules, ◌≡◌, ℕ, ◌+◌, ◌<◌, ◌≤◌, List, [], ◌∷◌, ◌++◌, Some, true, ap, sym, ◌∙◌, arith, subst}
+use Rattle.std.proofs.Common.{rules, ◌≡◌, ℕ, ◌+◌, ◌<◌, ◌≤◌, List, [], ◌∷◌, ◌++◌, Some, ap, sym, ◌∙◌, arith, subst}
 use Rattle.std.specs.Prelude.{cond, IsOk, None}
 use Rattle.std.specs.Map.{lookup}
 use Rattle.std.specs.VecDeque.{deque_len, deque_capacity}
 use Rattle.indexmap.specs.IndexMap.{spare}
 use Rattle.correlation_windows.specs.Groups.{same_group}
-use Rattle.correlation_windows.specs.Queues.{held, items_of, HasPlaces}
-use Rattle.std.specs.Prelude.{ℤ, ◌≤ℤ◌, length}
-use Rattle.std.specs.Map.{keys_of}
+use Rattle.correlation_windows.specs.Queues.{items_of, HasPlaces}
 use Rattle.indexmap.specs.IndexMap.{insert_entry}
 use Rattle.indexmap.proofs.CallerLemmas.{insert_entry-new}
-use Rattle.std.specs.List.{IsDistinct}
-use Rattle.correlation_windows.specs.Heaps.{AllUntil, IsOrderly}
-use Rattle.correlation_windows.specs.declared.matches.Match.{Match}
 use Rattle.correlation_windows.proofs.Ordering.{orderly_gain, until_gain, orderly_new, until_new}
 use Rattle.correlation_windows.proofs.Pushing.{held_push, places_push, group_is, use_ok, pushed_items, pushed_len, one_place, so_many, empty_fits}
 use Rattle.correlation_windows.proofs.growth.push.Goals as goal

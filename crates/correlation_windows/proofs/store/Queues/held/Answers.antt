@@ -1,4 +1,4 @@
-use Rattle.std.proofs.Common.{◌≡◌, ◌∙◌, ◌-◌, ◌^◌, ℕ, ap, sym, subst, min, List}
+use Rattle.std.proofs.Common.{◌∙◌, ◌-◌, ◌^◌, ℕ, ap, sym, subst, min}
 use Rattle.correlation_windows.specs.Kept.{Holds}
 use Rattle.correlation_windows.specs.Queues.{Stored, held}
 use Rattle.correlation_windows.proofs.Held.{count_is}
