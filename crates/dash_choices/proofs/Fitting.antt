@@ -1,9 +1,9 @@
 -- Choices of dashes.
-use Rattle.std.proofs.Common.{◌≡◌, ◌↔◌, ◌⊎◌, ℕ, ◌+◌, ◌<◌, ◌≤◌, Bool, true, false, nat_le, ◌&&◌, ◌||◌, ◌==◌, if◌then◌else◌, List, [], ◌∷◌, ◌++◌, map, refl, sym, ap, ◌∙◌, subst, arith, inl, inr, eq-eqb, append-nil}
+use Rattle.std.proofs.Common.{◌≡◌, ◌⊎◌, ℕ, ◌+◌, ◌<◌, ◌≤◌, Bool, true, false, nat_le, ◌||◌, ◌==◌, List, [], ◌∷◌, ◌++◌, refl, sym, ap, ◌∙◌, arith, inl, inr, eq-eqb}
 use Rattle.std.specs.List.{flat_map}
 use Rattle.std.proofs.lemmas.Bool.{eqb-true, le-leb, lt-leb, cases_lt}
 use Rattle.matching.specs.Suffixes.{SuffixHolds, CharThen}
-use Rattle.matching.specs.Steps.{folds_to, is_dash}
+use Rattle.matching.specs.Steps.{is_dash}
 use Rattle.sig_base.specs.Folding.{fold}
 use Rattle.sig_strings.specs.Fits.{Fits, same_char}
 use Rattle.sig_strings.specs.declared.part.Part.{Part}
