@@ -141,7 +141,7 @@ fn pattern_test(
         _ => Ok(SqlTest::Regexp {
             field,
             negated,
-            search: search(alloc, text)?,
+            search: Box::new(alloc, search(alloc, text)?)?,
         }),
     }
 }
