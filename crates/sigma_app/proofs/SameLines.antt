@@ -1,17 +1,15 @@
 -- `run` of a rule and `query` of what `convert` wrote for it answer the same.
-use Rattle.std.proofs.Common.{◌≡◌, ℕ, ◌+◌, ◌≤◌, ◌<◌, Bool, true, false, ◌||◌, List, [], ◌∷◌, ◌++◌, length, refl, ap, sym, ◌∙◌, subst, arith, append-nil, Option, Some, None, Result, Ok, Err, inl, inr}
+use Rattle.std.proofs.Common.{◌≡◌, ℕ, ◌≤◌, Bool, true, false, List, [], ◌∷◌, ◌++◌, length, refl, ap, sym, ◌∙◌, subst, arith, append-nil, Option, Some, None, Result, Ok, Err, inl, inr}
 use Rattle.std.specs.Prelude.{◌⊎◌, ◌↔◌, nat_le, if◌then◌else◌, pos}
 use Rattle.std.specs.Io.KnownBytes.{Appends}
 use Rattle.std.proofs.lemmas.Bool.{leb-true}
-use Rattle.std.proofs.lemmas.List.{append_cancel_left, length-append}
+use Rattle.std.proofs.lemmas.List.{append_cancel_left}
 use Rattle.answer_parts.proofs.Lined.{step_within, lines_one}
 use Rattle.answer_parts.proofs.Shares.{join_nothing}
 use Rattle.answer_parts.specs.Each.{EachPart, EachShare}
 use Rattle.answer_parts.specs.EventLines.{AnswersWithin, StepPart, EventLines}
 use Rattle.answer_parts.specs.Input.{World}
-use Rattle.answer_parts.specs.Lines.{ended}
-use Rattle.answer_parts.specs.Parts.{Share, Part, no_share, join, joined, share_of, Gains}
-use Rattle.answer_parts.specs.State.{Streams}
+use Rattle.answer_parts.specs.Parts.{Share, Part, no_share, joined, share_of, Gains}
 use Rattle.event_lines.specs.Lines.{lines_of}
 use Rattle.event_reading.specs.EventOf.{event_of}
 use Rattle.event_reading.specs.SchemaOf.{schema_of}
@@ -20,10 +18,10 @@ use Rattle.event_schema.specs.Lists.{EachOf}
 use Rattle.event_schema.specs.Occurrence.{Occurrence}
 use Rattle.event_schema.specs.declared.schema.Schema.{Schema}
 use Rattle.event_schema.specs.declared.value.Value.{Value}
-use Rattle.languages.specs.RefusedPlaces.{PatternAt, is_of_pattern}
+use Rattle.languages.specs.RefusedPlaces.{PatternAt}
 use Rattle.query_files.specs.Ended.{with_line_feed, SameWithLineFeed, RefusedForPatterns}
 use Rattle.query_files.proofs.Text.{one_more}
-use Rattle.query_runs.specs.Asked.{IsAsked, IsNotAsked, too_large, unread, most_bytes}
+use Rattle.query_runs.specs.Asked.{too_large, unread, most_bytes}
 use Rattle.rule_matching.specs.Matching.{Matches}
 use Rattle.rule_model.specs.Plain.{PlainRule}
 use Rattle.rule_model.specs.Rules.{IsLoneRule}
@@ -33,7 +31,7 @@ use Rattle.rule_queries.specs.declared.backend_name.BackendName.{BackendName}
 use Rattle.rule_queries.specs.declared.backend_name.BackendName.TheVariants as backends
 use Rattle.rule_runs.specs.Files.{single_tree}
 use Rattle.rule_runs.specs.Laws as running
-use Rattle.rule_runs.specs.Runs.{IsSingleRule, IsRun, IsNotRun}
+use Rattle.rule_runs.specs.Runs.{IsSingleRule, IsRun}
 use Rattle.rule_schema.specs.Inferred.{unfit_refusal}
 use Rattle.selected_lines.proofs.Selected.{one_selected}
 use Rattle.selected_lines.specs.Selected.{Picking, EventGives, Selects}
@@ -43,12 +41,12 @@ use Rattle.sig_base.specs.declared.limits.Limits.{Limits}
 use Rattle.sig_base.specs.declared.refusal.Detail.TheVariants.{Numbers}
 use Rattle.sig_base.specs.declared.refusal.Refusal.{Refusal}
 use Rattle.sigma_app.proofs.Wording.{one_request}
-use Rattle.sigma_app.specs.Answers.{AnswersAt, ArePlaces}
+use Rattle.sigma_app.specs.Answers.{AnswersAt}
 use Rattle.sigma_app.specs.Convert.{ConvertMeans, means_rule, means_none}
 use Rattle.sigma_app.specs.Converted.{RulesBy}
 use Rattle.sigma_app.specs.Languages.{patterns, refuses, AskedAt, AreUnbuilt}
 use Rattle.sigma_app.specs.Laws.{OneLone, AnswersMean}
-use Rattle.sigma_app.specs.Queried.{AskedUnder, asks, doesnt_ask, IsOfBuilder}
+use Rattle.sigma_app.specs.Queried.{asks, doesnt_ask, IsOfBuilder}
 use Rattle.sigma_app.specs.Ran.{RunGives, RanUnder, runs, isnt_run}
 use Rattle.sigma_app.specs.Reports.{line_share, refusal_share}
 use Rattle.sigma_app.specs.RuleFiles.{ByTree, DocumentGives, FileGives, as_one, by_document, RuleFile, contents}
