@@ -8,6 +8,14 @@ use std::test::Fail;
 const SCHEMA: &str =
     r#"{"fields":[{"name":"Image","kind":"text","cased":true},{"name":"Id","kind":"whole"},{"name":"Tags","kind":"text","many":true}]}"#;
 
+const SQLITE: [&str; 5] = ["query", "--backend=sqlite", "--schema", "s.json", "q"];
+
+const LUCENE: [&str; 5] = ["query", "--backend=lucene", "--schema", "s.json", "q"];
+
+const TO_SQLITE: [&str; 4] = ["convert", "--backend=sqlite", "--schema=s.json", "r.yml"];
+
+const TO_LUCENE: [&str; 4] = ["convert", "--backend=lucene", "--schema=s.json", "r.yml"];
+
 /// Events without a value, with the empty text, with letters of either case, and with characters that patterns give a meaning.
 const EVENTS: &str = r#"{"n":1}
 {"n":2,"Image":null,"Id":null}
@@ -31,26 +39,25 @@ fn marked(alloc: Global, events: &str, marks: &str) -> Result<String, Fail> {
     Ok(lines)
 }
 
-/// Asks a query of the events, in the language of a backend; this call of the builder fails (0: none).
+/// Asks a query of the events by these words; this call of the builder fails (0: none).
 fn ask(
     alloc: Global,
-    backend: &str,
+    words: &[&str],
     limits: &Limits,
-    query: &[u8],
+    query: &str,
     unbuilt: u64,
 ) -> Result<Ran, Fail> {
-    let files: [(&str, &[u8]); 2] = [("s.json", SCHEMA.as_bytes()), ("q", query)];
+    let files: [(&str, &[u8]); 2] = [("s.json", SCHEMA.as_bytes()), ("q", query.as_bytes())];
     let mut world = still(&files);
     world.events = EVENTS;
     world.unbuilt = unbuilt;
-    let words = ["query", "--backend", backend, "--schema", "s.json", "q"];
-    run_over(alloc, &words, limits, world)
+    run_over(alloc, words, limits, world)
 }
 
 /// The first row `marks condition` of a table whose condition selects other events than those that are marked.
 fn first_unselected(
     alloc: Global,
-    backend: &str,
+    words: &[&str],
     front: &str,
     table: &str,
 ) -> Result<String, Fail> {
@@ -60,7 +67,7 @@ fn first_unselected(
             return Ok(String::from_str(alloc, row)?);
         };
         let query = format!(in alloc; "{front}{condition}\n")?;
-        let run = ask(alloc, backend, &limits, query.as_bytes(), 0)?;
+        let run = ask(alloc, words, &limits, query.as_str(), 0)?;
         let want = marked(alloc, EVENTS, marks)?;
         if run.out.as_slice() != want.as_bytes() || !run.err.is_empty() || run.status.code() != 0 {
             return Ok(String::from_str(alloc, row)?);
@@ -72,7 +79,7 @@ fn first_unselected(
 /// The first row `refusal ~ condition` of a table whose condition isn't refused so at the file's first line.
 fn first_untold(
     alloc: Global,
-    backend: &str,
+    words: &[&str],
     front: &str,
     table: &str,
     unbuilt: u64,
@@ -83,7 +90,7 @@ fn first_untold(
             return Ok(String::from_str(alloc, row)?);
         };
         let query = format!(in alloc; "{front}{condition}")?;
-        let run = ask(alloc, backend, &limits, query.as_bytes(), unbuilt)?;
+        let run = ask(alloc, words, &limits, query.as_str(), unbuilt)?;
         let want = format!(in alloc; "q:1:{told}\n")?;
         if run.err.as_slice() != want.as_bytes() || !run.out.is_empty() || run.status.code() != 1 {
             return Ok(String::from_str(alloc, row)?);
@@ -120,7 +127,7 @@ xxxxxxxx NOT ("Image" = 'x' AND 0)
 --xx---- "Image" IN ('x', '')
 --xxx--- "Image" COLLATE NOCASE IN ('x', '')
 ----xx-x NOT "Id" IN (7, 70)"#;
-    let wrong = first_unselected(rt.alloc(), "sqlite", SELECT, table)?;
+    let wrong = first_unselected(rt.alloc(), &SQLITE, SELECT, table)?;
     assert_eq!(rt; wrong.as_str(), "");
     Ok(())
 }
@@ -146,7 +153,7 @@ fn sql_has_patterns(rt: HostRuntime) -> Result<(), Fail> {
 --xxxxxx "Image" REGEXP ''
 --x--x-x "Image" NOT REGEXP '(?i)x'
 ---xxx-- "Id" REGEXP '^-?[0-9]$'"#;
-    let wrong = first_unselected(rt.alloc(), "sqlite", SELECT, table)?;
+    let wrong = first_unselected(rt.alloc(), &SQLITE, SELECT, table)?;
     assert_eq!(rt; wrong.as_str(), "");
     Ok(())
 }
@@ -167,7 +174,7 @@ xxx--xxx (*:* AND NOT Image:X)
 ----x-xx Id:{7 TO *] OR Id:[* TO 0}
 xxxxx-xx Image:x OR (*:* AND NOT Id:[0 TO 0])
 xx------ Tags:* OR (*:* AND NOT Id:* AND NOT Image:* AND NOT Id:\-3)"#;
-    let wrong = first_unselected(rt.alloc(), "lucene", "", table)?;
+    let wrong = first_unselected(rt.alloc(), &LUCENE, "", table)?;
     assert_eq!(rt; wrong.as_str(), "");
     Ok(())
 }
@@ -181,7 +188,7 @@ fn sql_is_refused(rt: HostRuntime) -> Result<(), Fail> {
 15: 122 SqlUnknownColumn ~ SELECT * FROM "event" WHERE 1
 32: 121 SqlOutside ~ SELECT * FROM "events" WHERE 1 -- all
 8: 120 SqlSyntax ~ SELECT "Image" FROM "events" WHERE 1"#;
-    let wrong = first_untold(rt.alloc(), "sqlite", "", whole, 0)?;
+    let wrong = first_untold(rt.alloc(), &SQLITE, "", whole, 0)?;
     assert_eq!(rt; wrong.as_str(), "");
     let conditions = r#"30: 121 SqlOutside ~ Image = 'a'
 30: 122 SqlUnknownColumn ~ "Pid" = 'a'
@@ -196,7 +203,7 @@ fn sql_is_refused(rt: HostRuntime) -> Result<(), Fail> {
 30: 122 SqlUnknownColumn ~ "Pid" REGEXP '('
 45: 47 RegexSyntax ~ "Image" REGEXP '(' OR "Pid" = 1
 60: 121 SqlOutside ~ "Image" REGEXP '(' OR "Pid" = a"#;
-    let wrong = first_untold(rt.alloc(), "sqlite", SELECT, conditions, 0)?;
+    let wrong = first_untold(rt.alloc(), &SQLITE, SELECT, conditions, 0)?;
     assert_eq!(rt; wrong.as_str(), "");
     Ok(())
 }
@@ -207,13 +214,13 @@ fn sql_is_refused_by_the_builder(rt: HostRuntime) -> Result<(), Fail> {
     let first = r#"45: 48 RegexRefused ~ "Image" REGEXP 'a'
 45: 48 RegexRefused ~ "Image" REGEXP 'a' OR "Image" REGEXP '('
 56: 48 RegexRefused ~ 1 AND ("Image" NOT REGEXP 'a')"#;
-    let wrong = first_untold(rt.alloc(), "sqlite", SELECT, first, 1)?;
+    let wrong = first_untold(rt.alloc(), &SQLITE, SELECT, first, 1)?;
     assert_eq!(rt; wrong.as_str(), "");
     let second = r#"67: 48 RegexRefused ~ "Image" REGEXP 'a' OR "Image" REGEXP 'a'"#;
-    let wrong = first_untold(rt.alloc(), "sqlite", SELECT, second, 2)?;
+    let wrong = first_untold(rt.alloc(), &SQLITE, SELECT, second, 2)?;
     assert_eq!(rt; wrong.as_str(), "");
-    let query = b"SELECT * FROM \"events\" WHERE \"Image\" REGEXP 'b'".as_slice();
-    let run = ask(rt.alloc(), "sqlite", &Limits::standard(), query, 2)?;
+    let query = "SELECT * FROM \"events\" WHERE \"Image\" REGEXP 'b'";
+    let run = ask(rt.alloc(), &SQLITE, &Limits::standard(), query, 2)?;
     let out = marked(rt.alloc(), EVENTS, "-----xx-")?;
     check(&rt, &run, 0, out.as_str(), "");
     Ok(())
@@ -227,7 +234,7 @@ fn lucene_is_refused(rt: HostRuntime) -> Result<(), Fail> {
 7: 130 LuceneSyntax ~ Image:
 7: 131 LuceneOutside ~ Image:ab~
 1: 133 LuceneKind ~ Id:x"#;
-    let wrong = first_untold(rt.alloc(), "lucene", "", table, 1)?;
+    let wrong = first_untold(rt.alloc(), &LUCENE, "", table, 1)?;
     assert_eq!(rt; wrong.as_str(), "");
     Ok(())
 }
@@ -238,27 +245,46 @@ fn files_of_queries_have_limits(rt: HostRuntime) -> Result<(), Fail> {
     let mut limits = Limits::standard();
     limits.query_bytes = 3;
     limits.sql_depth = 2;
-    let cases: [(&str, &[u8], &str); 7] = [
-        ("lucene", b"a:1\n\n", "q:1:1: 2 TooLarge\n"),
-        ("sqlite", b"\xFF\xFF\xFF\xFF\xFF", "q:1:1: 2 TooLarge\n"),
-        ("lucene", b"a:1\n", "q:1:1: 132 LuceneUnknownField\n"),
-        ("lucene", b"a:\xFF\n", "q:1:3: 1 NotUtf8\n"),
-        ("sqlite", b"\n\xFF", "q:2:1: 1 NotUtf8\n"),
-        ("sqlite", b"((()", "q:1:1: 124 SqlDepth\n"),
-        ("sqlite", b"", "q:1:1: 120 SqlSyntax\n"),
-    ];
-    for (backend, query, err) in cases {
-        let run = ask(rt.alloc(), backend, &limits, query, 0)?;
+    for (query, err) in [
+        ("a:1\n\n", "q:1:1: 2 TooLarge\n"),
+        ("a:1\n", "q:1:1: 132 LuceneUnknownField\n"),
+    ] {
+        let run = ask(rt.alloc(), &LUCENE, &limits, query, 0)?;
+        check(&rt, &run, 1, "", err);
+    }
+    for (query, err) in [
+        ("((()", "q:1:1: 124 SqlDepth\n"),
+        ("", "q:1:1: 120 SqlSyntax\n"),
+    ] {
+        let run = ask(rt.alloc(), &SQLITE, &limits, query, 0)?;
         check(&rt, &run, 1, "", err);
     }
     limits.query_bytes = 34;
-    let query = b"SELECT * FROM \"events\"\nWHERE NOT 1\n".as_slice();
-    let run = ask(rt.alloc(), "sqlite", &limits, query, 0)?;
+    let query = "SELECT * FROM \"events\"\nWHERE NOT 1\n";
+    let run = ask(rt.alloc(), &SQLITE, &limits, query, 0)?;
     check(&rt, &run, 0, "", "");
-    let query = b"SELECT * FROM \"events\"\nWHERE NOT\nNOT 0".as_slice();
     limits.query_bytes = 64;
-    let run = ask(rt.alloc(), "sqlite", &limits, query, 0)?;
+    let query = "SELECT * FROM \"events\"\nWHERE NOT\nNOT 0";
+    let run = ask(rt.alloc(), &SQLITE, &limits, query, 0)?;
     check(&rt, &run, 1, "", "q:1:1: 124 SqlDepth\n");
+    Ok(())
+}
+
+/// Bytes that aren't UTF-8 are no query, unless they're too many.
+#[test]
+fn bytes_are_no_queries(rt: HostRuntime) -> Result<(), Fail> {
+    let mut limits = Limits::standard();
+    limits.query_bytes = 3;
+    let cases: [(&[u8], &str); 3] = [
+        (b"\xFF\xFF\xFF\xFF\xFF", "q:1:1: 2 TooLarge\n"),
+        (b"\n\xFF", "q:2:1: 1 NotUtf8\n"),
+        (b"a:\xFF\n", "q:1:3: 1 NotUtf8\n"),
+    ];
+    for (query, err) in cases {
+        let files: [(&str, &[u8]); 2] = [("s.json", SCHEMA.as_bytes()), ("q", query)];
+        let run = run_over(rt.alloc(), &SQLITE, &limits, still(&files))?;
+        check(&rt, &run, 1, "", err);
+    }
     Ok(())
 }
 
@@ -271,10 +297,37 @@ const MIXED: &str = r#"{"n":1,"Image":"CMD.exe","Id":4624,"Tags":["a","B"]}
 {"n":6,"Image":"C:\\x%_*","Id":8}
 "#;
 
+/// What `convert` writes of a rule by these words.
+fn converted(alloc: Global, words: &[&str], rule: &str) -> Result<Ran, Fail> {
+    let files: [(&str, &[u8]); 2] = [("s.json", SCHEMA.as_bytes()), ("r.yml", rule.as_bytes())];
+    run_over(alloc, words, &Limits::standard(), still(&files))
+}
+
+/// What a rule selects of the mixed events.
+fn run_mixed(alloc: Global, rule: &str) -> Result<Ran, Fail> {
+    let files: [(&str, &[u8]); 2] = [("s.json", SCHEMA.as_bytes()), ("r.yml", rule.as_bytes())];
+    let mut world = still(&files);
+    world.events = MIXED;
+    let words = ["run", "--schema=s.json", "r.yml"];
+    run_over(alloc, &words, &Limits::standard(), world)
+}
+
+/// What a query that was written selects of them, asked by these words.
+fn ask_mixed(alloc: Global, words: &[&str], written: &Ran) -> Result<Ran, Fail> {
+    let files: [(&str, &[u8]); 2] = [("s.json", SCHEMA.as_bytes()), ("q", written.out.as_slice())];
+    let mut world = still(&files);
+    world.events = MIXED;
+    run_over(alloc, words, &Limits::standard(), world)
+}
+
 /// The first row `marks detection` of a table whose rule `run` and the query that `convert` writes don't answer alike, or whose events
 /// aren't those that are marked.
-fn first_unlike(alloc: Global, backend: &str, table: &str) -> Result<String, Fail> {
-    let limits = Limits::standard();
+fn first_unlike(
+    alloc: Global,
+    convert: &[&str],
+    query: &[&str],
+    table: &str,
+) -> Result<String, Fail> {
     for row in table.lines() {
         let Some((marks, detection)) = row.split_once(' ') else {
             return Ok(String::from_str(alloc, row)?);
@@ -282,21 +335,9 @@ fn first_unlike(alloc: Global, backend: &str, table: &str) -> Result<String, Fai
         let rule = format!(in alloc;
             "title: T\nlogsource:\n  product: p\ndetection: {detection}\n"
         )?;
-        let files: [(&str, &[u8]); 2] = [("s.json", SCHEMA.as_bytes()), ("r.yml", rule.as_bytes())];
-        let words = ["convert", "--backend", backend, "--schema=s.json", "r.yml"];
-        let written = run_over(alloc, &words, &limits, still(&files))?;
-        let mut world = still(&files);
-        world.events = MIXED;
-        let words = ["run", "--schema=s.json", "r.yml"];
-        let ran = run_over(alloc, &words, &limits, world)?;
-        let files: [(&str, &[u8]); 2] = [
-            ("s.json", SCHEMA.as_bytes()),
-            ("q", written.out.as_slice()),
-        ];
-        let mut world = still(&files);
-        world.events = MIXED;
-        let words = ["query", "--backend", backend, "--schema=s.json", "q"];
-        let asked = run_over(alloc, &words, &limits, world)?;
+        let ran = run_mixed(alloc, rule.as_str())?;
+        let written = converted(alloc, convert, rule.as_str())?;
+        let asked = ask_mixed(alloc, query, &written)?;
         let want = marked(alloc, MIXED, marks)?;
         if asked.out.as_slice() != want.as_bytes() || ran.out.as_slice() != want.as_bytes() {
             return Ok(String::from_str(alloc, row)?);
@@ -320,14 +361,18 @@ x-xx-x {x: {Image: ''}, condition: not x}
 ----xx {x: {Id: [7, 8, seven]}, condition: x}
 x-xx-- {x: {Id: 7}, y: {Id: 8}, condition: not (x or y)}
 x---xx {x: {Id|exists: true}, condition: x}"#;
-    assert_eq!(rt; first_unlike(rt.alloc(), "sqlite", both)?.as_str(), "");
-    assert_eq!(rt; first_unlike(rt.alloc(), "lucene", both)?.as_str(), "");
+    let wrong = first_unlike(rt.alloc(), &TO_SQLITE, &SQLITE, both)?;
+    assert_eq!(rt; wrong.as_str(), "");
+    let wrong = first_unlike(rt.alloc(), &TO_LUCENE, &LUCENE, both)?;
+    assert_eq!(rt; wrong.as_str(), "");
     let decimals = r"x----- {x: {Id|startswith: 46}, condition: x}
 --xxxx {x: {Id|contains: 62}, condition: not x}";
-    assert_eq!(rt; first_unlike(rt.alloc(), "sqlite", decimals)?.as_str(), "");
+    let wrong = first_unlike(rt.alloc(), &TO_SQLITE, &SQLITE, decimals)?;
+    assert_eq!(rt; wrong.as_str(), "");
     let many = r#"x---x- {x: {Tags: b}, condition: x}
 --xx-x {x: {Tags: b}, condition: not x}
 x----- {x: {Tags: b}, y: {Image: ''}, condition: x and not y}"#;
-    assert_eq!(rt; first_unlike(rt.alloc(), "lucene", many)?.as_str(), "");
+    let wrong = first_unlike(rt.alloc(), &TO_LUCENE, &LUCENE, many)?;
+    assert_eq!(rt; wrong.as_str(), "");
     Ok(())
 }
