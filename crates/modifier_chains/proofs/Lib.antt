@@ -1,0 +1,2 @@
+pub mod CommonLemmas
+pub mod WordLemmas

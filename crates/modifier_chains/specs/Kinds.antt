@@ -1,0 +1,57 @@
+-- The kinds of modifiers.
+use Rattle.std.specs.Prelude.{Bool, true, false, List, [], ◌∷◌, ◌||◌}
+use Rattle.std.specs.List.{list_any}
+use Rattle.modifier_chains.specs.declared.modifier.Modifier.{Modifier}
+use Rattle.modifier_chains.specs.declared.modifier.Modifier.TheVariants.{Position, All, Cased, Windash, Units, Encoding, Exists, Cidr}
+
+-- says where in a text the pattern is looked for
+abbrev pub is_position : Modifier → Bool
+is_position (Position position) = true
+is_position _ = false
+
+-- asks that all values are satisfied
+abbrev pub is_all : Modifier → Bool
+is_all All = true
+is_all _ = false
+
+-- compares with regard to case
+abbrev pub is_cased : Modifier → Bool
+is_cased Cased = true
+is_cased _ = false
+
+-- takes any dash before a word
+abbrev pub is_windash : Modifier → Bool
+is_windash Windash = true
+is_windash _ = false
+
+-- says in which units of 16 bits a text is encoded
+abbrev pub is_units : Modifier → Bool
+is_units (Units form) = true
+is_units _ = false
+
+-- encodes the text
+abbrev pub is_encoding : Modifier → Bool
+is_encoding (Encoding encoding) = true
+is_encoding _ = false
+
+-- asks whether there is a value
+abbrev pub is_exists : Modifier → Bool
+is_exists Exists = true
+is_exists _ = false
+
+-- asks for an address of a network
+abbrev pub is_cidr : Modifier → Bool
+is_cidr Cidr = true
+is_cidr _ = false
+
+-- the kinds of which a text chain has at most one modifier each
+abbrev pub text_kinds : List (Modifier → Bool)
+text_kinds = is_position ∷ is_all ∷ is_cased ∷ is_windash ∷ is_encoding ∷ []
+
+-- the kinds that no encoding stands together with
+abbrev pub unencoded_kinds : List (Modifier → Bool)
+unencoded_kinds = is_windash ∷ []
+
+-- stands in text chains: those kinds, and the units of an encoding
+abbrev pub is_text_word : Modifier → Bool
+is_text_word modifier = list_any (λ is_kind. is_kind modifier) text_kinds || is_units modifier

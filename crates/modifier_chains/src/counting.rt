@@ -1,0 +1,247 @@
+//! Which modifiers stand together.
+
+ghost use Rattle.std.specs.Prelude.{◌≡◌};
+ghost use Rattle.std.specs.List.{list_all, list_any};
+ghost use Rattle.modifier_chains.specs.Chains as chains;
+ghost use Rattle.modifier_chains.specs.Kinds as kinds;
+
+use crate::modifier::Modifier;
+
+pub fn is_position(modifier: &Modifier) -> bool
+    ensures { result ≡ kinds.is_position modifier.now }
+{
+    matches!(modifier, Modifier::Position(_))
+}
+
+pub fn is_all(modifier: &Modifier) -> bool
+    ensures { result ≡ kinds.is_all modifier.now }
+{
+    matches!(modifier, Modifier::All)
+}
+
+pub fn is_cased(modifier: &Modifier) -> bool
+    ensures { result ≡ kinds.is_cased modifier.now }
+{
+    matches!(modifier, Modifier::Cased)
+}
+
+fn is_windash(modifier: &Modifier) -> bool
+    ensures { result ≡ kinds.is_windash modifier.now }
+{
+    matches!(modifier, Modifier::Windash)
+}
+
+fn is_units(modifier: &Modifier) -> bool
+    ensures { result ≡ kinds.is_units modifier.now }
+{
+    matches!(modifier, Modifier::Units(_))
+}
+
+fn is_encoding(modifier: &Modifier) -> bool
+    ensures { result ≡ kinds.is_encoding modifier.now }
+{
+    matches!(modifier, Modifier::Encoding(_))
+}
+
+fn is_exists(modifier: &Modifier) -> bool
+    ensures { result ≡ kinds.is_exists modifier.now }
+{
+    matches!(modifier, Modifier::Exists)
+}
+
+fn is_cidr(modifier: &Modifier) -> bool
+    ensures { result ≡ kinds.is_cidr modifier.now }
+{
+    matches!(modifier, Modifier::Cidr)
+}
+
+fn is_text_word(modifier: &Modifier) -> bool
+    ensures { result ≡ kinds.is_text_word modifier.now }
+{
+    is_position(modifier)
+        || is_all(modifier)
+        || is_cased(modifier)
+        || is_windash(modifier)
+        || is_encoding(modifier)
+        || is_units(modifier)
+}
+
+fn are_text_words(modifiers: &[Modifier]) -> bool
+    ensures { result ≡ list_all kinds.is_text_word modifiers.now }
+{
+    modifiers.iter().all(is_text_word)
+}
+
+fn has_encoding(modifiers: &[Modifier]) -> bool
+    ensures { result ≡ list_any kinds.is_encoding modifiers.now }
+{
+    modifiers.iter().any(is_encoding)
+}
+
+fn has_windash(modifiers: &[Modifier]) -> bool
+    ensures { result ≡ list_any kinds.is_windash modifiers.now }
+{
+    modifiers.iter().any(is_windash)
+}
+
+/// Whether a modifier is there that no encoding stands together with.
+fn has_unencoded(modifiers: &[Modifier]) -> bool
+    ensures { result ≡ chains.has_some_of kinds.unencoded_kinds modifiers.now }
+{
+    has_windash(modifiers)
+}
+
+fn one_position(modifiers: &[Modifier]) -> bool
+    ensures { result ≡ chains.at_most_one kinds.is_position modifiers.now }
+{
+    modifiers.iter().filter(|m| is_position(m)).count() <= 1
+}
+
+fn one_all(modifiers: &[Modifier]) -> bool
+    ensures { result ≡ chains.at_most_one kinds.is_all modifiers.now }
+{
+    modifiers.iter().filter(|m| is_all(m)).count() <= 1
+}
+
+fn one_cased(modifiers: &[Modifier]) -> bool
+    ensures { result ≡ chains.at_most_one kinds.is_cased modifiers.now }
+{
+    modifiers.iter().filter(|m| is_cased(m)).count() <= 1
+}
+
+fn one_windash(modifiers: &[Modifier]) -> bool
+    ensures { result ≡ chains.at_most_one kinds.is_windash modifiers.now }
+{
+    modifiers.iter().filter(|m| is_windash(m)).count() <= 1
+}
+
+fn one_encoding(modifiers: &[Modifier]) -> bool
+    ensures { result ≡ chains.at_most_one kinds.is_encoding modifiers.now }
+{
+    modifiers.iter().filter(|m| is_encoding(m)).count() <= 1
+}
+
+/// Whether there are no two modifiers of one kind of text chains.
+fn one_of_each(modifiers: &[Modifier]) -> bool
+    ensures { result ≡ list_all (λ is_kind. chains.at_most_one is_kind modifiers.now) kinds.text_kinds }
+{
+    one_position(modifiers)
+        && one_all(modifiers)
+        && one_cased(modifiers)
+        && one_windash(modifiers)
+        && one_encoding(modifiers)
+}
+
+fn starts_with_encoding(modifiers: &[Modifier]) -> bool
+    ensures { result ≡ chains.starts_with kinds.is_encoding modifiers.now }
+{
+    match modifiers.first() {
+        Some(modifier) => is_encoding(modifier),
+        None => false,
+    }
+}
+
+/// Whether units stand directly before encodings alone.
+fn units_lead(modifiers: &[Modifier]) -> bool
+    ensures { result ≡ chains.units_lead modifiers.now }
+{
+    let mut left = modifiers;
+    while let Some((modifier, rest)) = left.split_first() {
+        if is_units(modifier) && !starts_with_encoding(rest) {
+            return false;
+        }
+        left = rest;
+    }
+    true
+}
+
+/// Whether no encoding stands behind a position.
+fn encodings_lead(modifiers: &[Modifier]) -> bool
+    ensures { result ≡ chains.encodings_lead modifiers.now }
+{
+    let mut left = modifiers;
+    while let Some((modifier, rest)) = left.split_first() {
+        if is_position(modifier) && has_encoding(rest) {
+            return false;
+        }
+        left = rest;
+    }
+    true
+}
+
+fn is_text_chain(modifiers: &[Modifier]) -> bool
+    ensures { result ≡ chains.is_text_chain modifiers.now }
+{
+    are_text_words(modifiers)
+        && one_of_each(modifiers)
+        && units_lead(modifiers)
+        && encodings_lead(modifiers)
+        && !(has_encoding(modifiers) && has_unencoded(modifiers))
+}
+
+pub fn is_empty(modifiers: &[Modifier]) -> bool
+    ensures { result ≡ chains.is_empty modifiers.now }
+{
+    modifiers.is_empty()
+}
+
+/// Whether `exists` stands there alone.
+pub fn is_presence(modifiers: &[Modifier]) -> bool
+    ensures { result ≡ chains.is_presence modifiers.now }
+{
+    let Some((modifier, rest)) = modifiers.split_first() else {
+        return false;
+    };
+    is_exists(modifier) && is_empty(rest)
+}
+
+fn is_all_or_none(modifiers: &[Modifier]) -> bool
+    ensures { result ≡ chains.is_all_or_none modifiers.now }
+{
+    let Some((modifier, rest)) = modifiers.split_first() else {
+        return true;
+    };
+    is_all(modifier) && is_empty(rest)
+}
+
+/// Whether networks are asked for, alone or with `all` behind.
+pub fn is_network_chain(modifiers: &[Modifier]) -> bool
+    ensures { result ≡ chains.is_network_chain modifiers.now }
+{
+    let Some((modifier, rest)) = modifiers.split_first() else {
+        return false;
+    };
+    is_cidr(modifier) && is_all_or_none(rest)
+}
+
+/// Whether null is taken beside texts.
+pub fn takes_null(modifiers: &[Modifier]) -> bool
+    ensures { result ≡ chains.takes_null modifiers.now }
+{
+    modifiers.iter().all(|m| is_all(m) || is_cased(m))
+}
+
+fn is_field_chain(modifiers: &[Modifier]) -> bool
+    ensures { result ≡ chains.is_field_chain modifiers.now }
+{
+    is_empty(modifiers)
+        || is_presence(modifiers)
+        || is_network_chain(modifiers)
+        || is_text_chain(modifiers)
+}
+
+fn is_keyword_chain(modifiers: &[Modifier]) -> bool
+    ensures { result ≡ chains.is_keyword_chain modifiers.now }
+{
+    is_empty(modifiers) || is_text_chain(modifiers)
+}
+
+/// Whether the modifiers may stand together, at a keyword or at a field.
+pub fn is_chain(keyword: bool, modifiers: &[Modifier]) -> bool
+    ensures { result ≡ chains.is_chain keyword modifiers.now }
+{
+    if keyword {
+        return is_keyword_chain(modifiers);
+    }
+    is_field_chain(modifiers)
+}

@@ -1,0 +1,16 @@
+//! Chains of modifiers: their words, which of them stand together, and what kind of chain they make.
+#![tactic(auto)]
+
+pub use chain::Chain;
+pub use form::ChainForm;
+pub use law::{common_chains, encodings_without_dashes};
+pub use modifier::{Encoding, Joined, Modifier, Position};
+
+mod chain;
+mod counting;
+mod form;
+mod law;
+mod modifier;
+mod reading;
+#[cfg(test)]
+mod tests;

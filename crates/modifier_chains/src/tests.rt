@@ -1,0 +1,133 @@
+//! Rows of the table of chains, reckoned by hand.
+
+use crate::{Chain, ChainForm, Joined};
+use sig_base::{Detail, Fault, Place, Refusal, Text};
+use std::alloc::Global;
+use std::test::Fail;
+
+const KEY: Place = Place { line: 6, column: 5 };
+
+/// Chains, and what is answered at a field and at a keyword: the number of a refusal with its word, or the kind of the
+/// chain and how values are joined.
+const ROWS: &str = "~bare any~texts any
+contains~texts any~texts any
+all~nulls all~texts all
+cased~nulls any~texts any
+cased|all~nulls all~texts all
+contains|startswith~41~41
+contains|all|startswith~41~41
+cased|cased~41~41
+all|contains|all~41~41
+cased|all|endswith~texts all~texts all
+near|near~40 near~40 near
+contains|startswith|near|far~40 near~40 near
+cased|~40 ~40 
+Contains~40 Contains~40 Contains
+exists~exists any~41
+exists|all~41~41
+cased|exists~41~41
+exists|exists~41~41
+exists|near~40 near~40 near
+cidr~40 cidr~40 cidr
+all|cidr~40 cidr~40 cidr
+windash~texts any~texts any
+windash|contains|all~texts all~texts all
+contains|windash~texts any~texts any
+windash|cased|windash~41~41
+base64~texts any~texts any
+base64offset|contains~texts any~texts any
+contains|base64offset~41~41
+base64|base64offset~41~41
+base64|base64~41~41
+base64|windash~41~41
+windash|cased|base64~41~41
+wide~41~41
+wide|base64~texts any~texts any
+utf16le|base64offset|contains~texts any~texts any
+utf16be|base64~texts any~texts any
+utf16|base64~texts any~texts any
+wide|cased|base64~41~41
+cased|wide|base64|all|contains~texts all~texts all
+base64|wide~41~41
+wide|utf16|base64~41~41
+startswith|wide|base64~41~41
+wide|contains~41~41
+base64|exists~41~41
+base64|endswith|cased~texts any~texts any";
+
+fn words(alloc: Global, joined: &str) -> Result<Vec<Text>, Fail> {
+    let mut texts = Vec::new(alloc);
+    if joined.is_empty() {
+        return Ok(texts);
+    }
+    for word in joined.split('|') {
+        texts.push(Text::copy(alloc, word)?)?;
+    }
+    Ok(texts)
+}
+
+/// The number and the word of a refusal, or nothing where it stands elsewhere.
+fn refused(alloc: Global, refusal: &Refusal) -> Result<String, Fail> {
+    let mut shown = String::new(alloc);
+    if refusal.place != KEY {
+        return Ok(shown);
+    }
+    let code = refusal.code.number();
+    match &refusal.detail {
+        Detail::None => shown.push_str(&format!(in alloc; "{code}")?)?,
+        Detail::Text(word) => shown.push_str(&format!(in alloc; "{code} {}", word.as_str())?)?,
+        Detail::Numbers(_, _) => (),
+    }
+    Ok(shown)
+}
+
+fn form_word(form: ChainForm) -> &'static str {
+    match form {
+        ChainForm::Bare => "bare",
+        ChainForm::Presence => "exists",
+        ChainForm::Networks => "networks",
+        ChainForm::Texts { nulls: true } => "nulls",
+        ChainForm::Texts { nulls: false } => "texts",
+    }
+}
+
+fn joined_word(joined: Joined) -> &'static str {
+    match joined {
+        Joined::All => "all",
+        Joined::Any => "any",
+    }
+}
+
+/// What is answered for these words.
+fn answered(alloc: Global, joined: &str, keyword: bool) -> Result<String, Fail> {
+    match Chain::read(alloc, &words(alloc, joined)?, keyword, KEY) {
+        Ok(chain) => Ok(format!(in alloc;
+            "{} {}",
+            form_word(chain.form()),
+            joined_word(chain.joined())
+        )?),
+        Err(Fault::Refused(refusal)) => refused(alloc, &refusal),
+        Err(Fault::Memory) => Ok(String::new(alloc)),
+    }
+}
+
+#[test]
+fn words_make_chains(rt: HostRuntime) -> Result<(), Fail> {
+    let alloc = rt.alloc();
+    for row in ROWS.lines() {
+        let Some((joined, wants)) = row.split_once('~') else {
+            panic!(rt; "{row}");
+        };
+        let Some((at_field, at_keyword)) = wants.split_once('~') else {
+            panic!(rt; "{row}");
+        };
+        assert_eq!(rt; answered(alloc, joined, false)?.as_str(), at_field, "{row}");
+        assert_eq!(rt;
+            answered(alloc, joined, true)?.as_str(),
+            at_keyword,
+            "{row}"
+        );
+    }
+    assert_eq!(rt; ROWS.lines().count(), 49);
+    Ok(())
+}

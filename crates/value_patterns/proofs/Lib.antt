@@ -1,0 +1,9 @@
+pub mod Choosing
+pub mod DashPlaces
+pub mod Existing
+pub mod JudgedLemmas
+pub mod Keeping
+pub mod NetworkPatterns
+pub mod PartsLemmas
+pub mod Passing
+pub mod Plain

@@ -1,0 +1,5 @@
+pub mod Edited
+pub mod Encoded
+pub mod Parts
+pub mod PlainPatterns
+pub mod Uses

@@ -1,0 +1,134 @@
+-- What a chain takes a value for, and why that is refused (Sigma specification 2.0, modifiers).
+use Rattle.std.specs.Prelude.{ℕ, ◌≡◌, Bool, true, false, ◌||◌, not, nat_le, ℤ, List, [], ◌∷◌, length, map, Option, Some, None, is_none, is_some}
+use Rattle.sig_base.specs.declared.refusal.Place.{Place}
+use Rattle.sig_base.specs.declared.refusal.Refusal.{Refusal}
+use Rattle.sig_base.specs.Judged.{must, first}
+use Rattle.dash_choices.specs.Choices.{dash_count}
+use Rattle.modifier_chains.specs.Written.{Written}
+use Rattle.modifier_chains.specs.declared.modifier.Encoding.{Encoding}
+use Rattle.sig_encode.specs.Written.{net_in}
+use Rattle.sig_strings.specs.Edits.{has_wildcard, plain_text}
+use Rattle.sig_strings.specs.Spells.{Spells}
+use Rattle.sig_strings.specs.declared.part.Part.{Part}
+use Rattle.value_patterns.specs.Edited.{pattern_of}
+use Rattle.value_patterns.specs.Encoded.{encoding_of, units_of, bytes_in, least_bytes, as_pattern, AreTexts, AreAlternatives}
+use Rattle.value_patterns.specs.Parts.{parts_of, has_nul}
+
+-- what a chain takes a value for
+pub data Use : Type 0 where
+  -- not taken
+  unused : Use
+  -- that there is no value
+  absent : Use
+  -- that there is a value, or none
+  existing : Bool → Use
+  -- the patterns that this text stands for
+  pattern : List ℕ → Use
+  -- the network that this text is
+  network : List ℕ → Use
+  -- this number
+  number : ℤ → Use
+
+abbrev pub is_used : Use → Bool
+is_used unused = false
+is_used absent = true
+is_used (existing b) = true
+is_used (pattern t) = true
+is_used (network t) = true
+is_used (number n) = true
+
+-- the text that is read, if one is
+abbrev pub text_of : Use → List ℕ
+text_of unused = []
+text_of absent = []
+text_of (existing b) = []
+text_of (pattern t) = t
+text_of (network t) = t
+text_of (number n) = []
+
+-- what the text is encoded as, if it's one of a pattern and its chain encodes it
+abbrev pub encoding_in : Written → Use → Option Encoding
+encoding_in chain unused = None
+encoding_in chain absent = None
+encoding_in chain (existing b) = None
+encoding_in chain (pattern t) = encoding_of chain.modifiers
+encoding_in chain (network t) = None
+encoding_in chain (number n) = None
+
+-- what is encoded has no wildcard
+abbrev pub no_wildcard : Option Encoding → List ℕ → Bool
+no_wildcard encoding t = is_none encoding || not (has_wildcard (parts_of false t))
+
+-- what is encoded has as many bytes as its encoding takes
+abbrev pub enough_bytes : Option Encoding → Written → List ℕ → Bool
+enough_bytes None chain t = true
+enough_bytes (Some encoding) chain t =
+    nat_le (least_bytes encoding) (length (bytes_in (units_of chain.modifiers) (plain_text (parts_of false t))))
+
+-- a network's text is one
+abbrev pub is_network_text : Use → Bool
+is_network_text unused = true
+is_network_text absent = true
+is_network_text (existing b) = true
+is_network_text (pattern t) = true
+is_network_text (network t) = is_some (net_in t)
+is_network_text (number n) = true
+
+-- the dash places of the pattern that is made of a text; what is encoded has none, since no chain has `windash` beside an
+-- encoding
+abbrev pub dash_places_of : Option Encoding → Written → List ℕ → ℕ
+dash_places_of None chain t = dash_count (pattern_of chain (parts_of false t))
+dash_places_of (Some encoding) chain t = 0
+
+abbrev pub dash_places : Written → Use → ℕ
+dash_places chain unused = 0
+dash_places chain absent = 0
+dash_places chain (existing b) = 0
+dash_places chain (pattern t) = dash_places_of (encoding_of chain.modifiers) chain t
+dash_places chain (network t) = 0
+dash_places chain (number n) = 0
+
+-- what has to hold of a use, in the order in which it's judged: the value is taken; its text has at most so many
+-- characters, and no U+0000; what is encoded has no wildcard, and bytes enough; a network is one; and there are at most
+-- so many dash places
+abbrev pub use_checks : ℕ → ℕ → Written → Place → Use → List (Option Refusal)
+use_checks most dashes chain place u =
+    must 42 place (is_used u)
+    ∷ must 49 place (nat_le (length (text_of u)) most)
+    ∷ must 50 place (not (has_nul (text_of u)))
+    ∷ must 43 place (no_wildcard (encoding_in chain u) (text_of u))
+    ∷ must 42 place (enough_bytes (encoding_in chain u) chain (text_of u))
+    ∷ must 44 place (is_network_text u)
+    ∷ must 46 place (nat_le (dash_places chain u) dashes)
+    ∷ []
+
+-- why a use is refused
+abbrev pub use_refusal : ℕ → ℕ → Written → Place → Use → Option Refusal
+use_refusal most dashes chain place u = first (use_checks most dashes chain place u)
+
+-- the patterns that a text stands for: its alternatives, each edited as the chain says
+pub record ArePatterns (chain : Written) (t : List ℕ) (patterns : List (List Part)) : Type 0 where
+  pub parts : List Part
+  pub spelled : Spells false t parts
+  pub alternatives : List (List Part)
+  pub are_alternatives : AreAlternatives (encoding_of chain.modifiers) (units_of chain.modifiers) parts alternatives
+  pub patterns_are : patterns ≡ map (pattern_of chain) alternatives
+
+-- ---- parts of the table
+
+-- what has to hold of any text that is read
+abbrev pub text_checks : ℕ → Place → List ℕ → List (Option Refusal)
+text_checks most place t = must 49 place (nat_le (length t) most) ∷ must 50 place (not (has_nul t)) ∷ []
+
+-- what has to hold of a pattern that is encoded
+abbrev pub encoding_checks : Encoding → Written → Place → List Part → List (Option Refusal)
+encoding_checks encoding chain place parts =
+    must 43 place (not (has_wildcard parts))
+    ∷ must 42 place (nat_le (least_bytes encoding) (length (bytes_in (units_of chain.modifiers) (plain_text parts))))
+    ∷ []
+
+-- what the chain makes of the texts that a pattern's characters are encoded as
+abbrev pub AreEditedTexts : Written → Encoding → List Part → List (List Part) → Type 0
+AreEditedTexts chain encoding parts patterns =
+    (texts : List (List ℕ)) × AreTexts encoding (bytes_in (units_of chain.modifiers) (plain_text parts)) texts
+    × (patterns ≡ map (λ text. pattern_of chain (as_pattern text)) texts)

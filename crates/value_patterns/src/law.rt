@@ -1,0 +1,78 @@
+//! What follows from the definitions, for the proofs of callers: each function does nothing, and its clauses are laws.
+
+ghost use Rattle.std.specs.Prelude.{◌≡◌, ◌↔◌, ◌<◌, ◌≤◌, ◌-◌, ◌*◌, ◌^◌, ℕ, Bool, List, None, true, false, length, if◌then◌else◌};
+ghost use Rattle.std.specs.List.{list_all, list_any};
+ghost use Rattle.std.specs.Str.{all_scalars};
+ghost use Rattle.dash_choices.specs.Choices.{choices, dash_count};
+ghost use Rattle.event_schema.specs.Addresses.{IsAddress};
+ghost use Rattle.event_schema.specs.Lists.{EachOf};
+ghost use Rattle.modifier_chains.specs.Kinds.{is_windash};
+ghost use Rattle.modifier_chains.specs.Written.{Written};
+ghost use Rattle.sig_base.specs.declared.refusal.Place.{Place};
+ghost use Rattle.sig_encode.specs.Networks.{Net, InNetwork, IsNetwork, SomeFits, patterns_of, told_octets};
+ghost use Rattle.sig_strings.specs.Edits.{dashes_of};
+ghost use Rattle.sig_strings.specs.Spells.{Spells};
+ghost use Rattle.sig_strings.specs.declared.part.Part.{Part};
+ghost use Rattle.value_patterns.specs.Edited.{pattern_of};
+ghost use Rattle.value_patterns.specs.Parts.{has_nul, parts_of};
+ghost use Rattle.value_patterns.specs.PlainPatterns.{is_dashed, is_plain, IsDashedPattern, IsPlainPattern};
+ghost use Rattle.value_patterns.specs.Uses as uses;
+
+/// The function gives the pattern that a text spells, and a text spells no other.
+pub fn parts_are_spelled()
+    ensures spelled { (text : List ℕ) → Spells false text (parts_of false text) }
+    ensures no_other { (text : List ℕ) (parts : List Part) → Spells false text parts → parts ≡ parts_of false text }
+{}
+
+/// A text stands for one list of patterns under a chain.
+pub fn one_list_of_patterns()
+    ensures some { (chain : Written) (text : List ℕ) → (patterns : List (List Part)) × uses.ArePatterns chain text patterns }
+    ensures same { (chain : Written) (text : List ℕ) (patterns others : List (List Part))
+        → uses.ArePatterns chain text patterns → uses.ArePatterns chain text others → patterns ≡ others }
+{}
+
+/// A text is one network at most, and one where it isn't refused.
+pub fn one_network()
+    ensures some { (most dashes : ℕ) (chain : Written) (place : Place) (text : List ℕ)
+        → uses.use_refusal most dashes chain place (uses.network text) ≡ None → (n : Net) × IsNetwork text n }
+    ensures same { (text : List ℕ) (m n : Net) → IsNetwork text m → IsNetwork text n → m ≡ n }
+{}
+
+/// The patterns of a text have no placeholders, and where it has no U+0000, neither have they.
+pub fn patterns_are_dashed()
+    ensures tests { (chain : Written) (text : List ℕ) (patterns : List (List Part))
+        → has_nul text ≡ false → uses.ArePatterns chain text patterns → list_all is_dashed patterns ≡ true }
+    ensures scalars { (chain : Written) (text : List ℕ) (patterns : List (List Part))
+        → all_scalars text ≡ true → has_nul text ≡ false → uses.ArePatterns chain text patterns → EachOf IsDashedPattern patterns }
+{}
+
+/// Where no encoding stands, a pattern has dash places through `windash` alone, as many as it makes of the text's own pattern.
+pub fn dash_places_are_counted()
+    ensures { (chain : Written) (text : List ℕ) → dash_count (pattern_of chain (parts_of false text))
+        ≡ (if list_any is_windash chain.modifiers then dash_count (dashes_of (parts_of false text)) else 0) }
+{}
+
+/// The choices of dashes of a pattern without placeholders can be written.
+pub fn choices_are_plain()
+    ensures tests { (parts : List Part) → is_dashed parts ≡ true → list_all is_plain (choices parts) ≡ true }
+    ensures scalars { (parts : List Part) → IsDashedPattern parts → EachOf IsPlainPattern (choices parts) }
+{}
+
+/// A network that is read has a number of 32 bits, and of these 32 count at most.
+pub fn networks_are_bounded()
+    ensures bits { (text : List ℕ) (n : Net) → IsNetwork text n → n.bits < 2 ^ 32 }
+    ensures prefix { (text : List ℕ) (n : Net) → IsNetwork text n → n.prefix ≤ 32 }
+{}
+
+/// One of the patterns of a network that is read fits an address exactly where it's of the network.
+pub fn network_patterns_fit()
+    ensures { (text : List ℕ) (n : Net) (address : List ℕ) (cased : Bool) → IsNetwork text n → IsAddress address
+        → SomeFits (patterns_of n) address cased ↔ InNetwork n address }
+{}
+
+/// A network's patterns can be written, and there are as many as its prefix leaves to the last octet that they tell.
+pub fn network_patterns_are_plain()
+    ensures tests { (n : Net) → n.bits < 2 ^ 32 → n.prefix ≤ 32 → list_all is_plain (patterns_of n) ≡ true }
+    ensures scalars { (n : Net) → n.bits < 2 ^ 32 → n.prefix ≤ 32 → EachOf IsPlainPattern (patterns_of n) }
+    ensures counted { (n : Net) → length (patterns_of n) ≡ 2 ^ (8 * told_octets n.prefix - n.prefix) }
+{}

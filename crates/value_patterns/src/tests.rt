@@ -1,0 +1,171 @@
+//! Patterns and refusals reckoned by hand.
+
+use crate::{read_network, read_patterns};
+use modifier_chains::Chain;
+use sig_base::{Fault, Limits, Place, Refusal, Text};
+use sig_strings::{Part, SharedPattern};
+use std::alloc::Global;
+use std::test::Fail;
+
+const KEY: Place = Place { line: 6, column: 5 };
+
+const VALUE: Place = Place {
+    line: 6,
+    column: 14,
+};
+
+/// Chains at a field, texts of at most 20 characters, and the patterns of the text, where `<*>` is a run, `<?>` a single
+/// character and `<->` a dash place, or the number of a refusal.
+const AT_FIELDS: &str = "contains~100%_x~<*>100%_x<*>
+startswith|all~a*~a<*>
+endswith~*.exe~<*>.exe
+~a?\\*~a<?>*
+windash|contains~ -a /b~<*> <->a <->b<*>
+contains|windash~/x-y -z~<*><->x-y <->z<*>
+windash~a-b~a-b
+windash~-a -b -c -d~<->a <->b <->c <->d
+windash~-a -b -c -d -e~46
+contains~-a -b -c -d -e~<*>-a -b -c -d -e<*>
+base64offset|contains~/bin/bash~<*>L2Jpbi9iYXNo<*> <*>9iaW4vYmFza<*> <*>vYmluL2Jhc2<*>
+base64offset~é~w6 Op Dq
+base64offset~x~42
+base64offset~~42
+base64offset~*~43
+base64~~
+base64|startswith~foo~Zm9v<*>
+base64~c*~43
+base64~a\\*~YSo=
+base64~-a -b -c -d -e~LWEgLWIgLWMgLWQgLWU=
+wide|base64~cmd~YwBtAGQA
+utf16le|base64~cmd~YwBtAGQA
+utf16be|base64~c~AGM=
+utf16|base64~c~//5jAA==
+base64|contains~aaaaaaaaaaaaaaaaaaa?\0~49
+base64|contains~a?\0~50
+windash~-a -b -c -d -e\0~50";
+
+const AT_KEYWORDS: &str = "~a~<*>a<*>
+windash~-a~<*><->a<*>
+base64~foo~<*>Zm9v<*>
+base64offset|startswith~ab~YW<*> Fi<*> hY<*>
+all~*a*~<*>a<*>";
+
+/// Texts, and how many patterns the network has, or the number of a refusal.
+const NETWORKS: &str = "192.168.0.0/14~4
+0.0.0.0/0~256
+10.0.0.1~1
+10.0.0.0/33~44
+::1/128~44
+10.*~44
+~44
+10.0.0.0/8\0~50
+10.0.0.0/000000000008~49
+aaaaaaaaaaaaaaaaaaaa\0~49";
+
+fn chain(alloc: Global, joined: &str, keyword: bool) -> Result<Chain, Fail> {
+    let mut words = Vec::new(alloc);
+    if !joined.is_empty() {
+        for word in joined.split('|') {
+            words.push(Text::copy(alloc, word)?)?;
+        }
+    }
+    Ok(Chain::read(alloc, &words, keyword, KEY)?)
+}
+
+fn put_part(shown: &mut String, part: &Part) -> Result<(), Fail> {
+    match part {
+        Part::Char(c) => shown.push(*c)?,
+        Part::One => shown.push_str("<?>")?,
+        Part::Run => shown.push_str("<*>")?,
+        Part::Dash => shown.push_str("<->")?,
+        Part::Hole(_) => shown.push_str("<hole>")?,
+    }
+    Ok(())
+}
+
+/// The patterns, with a space between them.
+fn shown(alloc: Global, patterns: &[SharedPattern]) -> Result<String, Fail> {
+    let mut shown = String::new(alloc);
+    for (at, pattern) in patterns.iter().enumerate() {
+        if at > 0 {
+            shown.push(' ')?;
+        }
+        for part in pattern.parts() {
+            put_part(&mut shown, part)?;
+        }
+    }
+    Ok(shown)
+}
+
+/// The number of a refusal, or nothing where it stands elsewhere.
+fn refused(alloc: Global, refusal: &Refusal) -> Result<String, Fail> {
+    if refusal.place != VALUE {
+        return Ok(String::new(alloc));
+    }
+    Ok(format!(in alloc; "{}", refusal.code.number())?)
+}
+
+fn limits() -> Limits {
+    let mut limits = Limits::standard();
+    limits.value_chars = 20;
+    limits
+}
+
+fn answered(alloc: Global, joined: &str, keyword: bool, text: &str) -> Result<String, Fail> {
+    let chain = chain(alloc, joined, keyword)?;
+    match read_patterns(alloc, &limits(), &chain, text, VALUE) {
+        Ok(patterns) => shown(alloc, &patterns),
+        Err(Fault::Refused(refusal)) => refused(alloc, &refusal),
+        Err(Fault::Memory) => Ok(String::new(alloc)),
+    }
+}
+
+fn answered_network(alloc: Global, text: &str) -> Result<String, Fail> {
+    match read_network(&limits(), text, VALUE) {
+        Ok(network) => Ok(format!(in alloc; "{}", network.patterns(alloc)?.len())?),
+        Err(Fault::Refused(refusal)) => refused(alloc, &refusal),
+        Err(Fault::Memory) => Ok(String::new(alloc)),
+    }
+}
+
+/// A row's three parts.
+fn row(line: &str) -> Option<(&str, &str, &str)> {
+    let (joined, rest) = line.split_once('~')?;
+    let (text, want) = rest.split_once('~')?;
+    Some((joined, text, want))
+}
+
+/// The first row that isn't answered as it says, with its answer, or nothing.
+fn first_wrong(alloc: Global, rows: &str, keyword: bool) -> Result<String, Fail> {
+    for line in rows.lines() {
+        let Some((joined, text, want)) = row(line) else {
+            return Ok(format!(in alloc; "no row: {line}")?);
+        };
+        let got = answered(alloc, joined, keyword, text)?;
+        if got.as_str() != want {
+            return Ok(format!(in alloc; "{line}: {}", got.as_str())?);
+        }
+    }
+    Ok(String::new(alloc))
+}
+
+#[test]
+fn texts_stand_for_patterns(rt: HostRuntime) -> Result<(), Fail> {
+    let alloc = rt.alloc();
+    assert_eq!(rt; AT_FIELDS.lines().count(), 27);
+    assert_eq!(rt; first_wrong(alloc, AT_FIELDS, false)?.as_str(), "");
+    assert_eq!(rt; first_wrong(alloc, AT_KEYWORDS, true)?.as_str(), "");
+    Ok(())
+}
+
+#[test]
+fn texts_are_networks(rt: HostRuntime) -> Result<(), Fail> {
+    let alloc = rt.alloc();
+    for line in NETWORKS.lines() {
+        let Some((text, want)) = line.split_once('~') else {
+            panic!(rt; "{line}");
+        };
+        assert_eq!(rt; answered_network(alloc, text)?.as_str(), want, "{line}");
+    }
+    Ok(())
+}
