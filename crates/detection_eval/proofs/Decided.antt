@@ -19,8 +19,8 @@ use Rattle.rule_items.specs.declared.item.Fields.TheVariants.{Keyword, Names}
 use Rattle.rule_items.specs.declared.item.Item.{Item}
 use Rattle.sig_conditions.specs.Formulas.{PlainFormula, FDetection, FNot, FAnd, FOr, PlainFormulas, no_forms, form}
 use Rattle.sig_modifiers.specs.Holds.{Holds}
-use Rattle.sig_modifiers.specs.declared.modifier.Joined.{Joined}
-use Rattle.sig_modifiers.specs.declared.modifier.Joined.TheVariants.{All, Any}
+use Rattle.modifier_chains.specs.declared.modifier.Joined.{Joined}
+use Rattle.modifier_chains.specs.declared.modifier.Joined.TheVariants.{All, Any}
 use Rattle.sig_modifiers.specs.declared.test.Test.{Test}
 use Rattle.sig_modifiers.specs.declared.test.Test.TheVariants as tests
 use Rattle.sig_strings.specs.Fits.{Fits, same_char}

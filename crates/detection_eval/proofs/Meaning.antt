@@ -16,8 +16,8 @@ use Rattle.rule_matching.proofs.Iffs.{iff_same, iff_then, each_same, each_then, 
 use Rattle.rule_matching.specs.Matching.{JoinedHolds, FieldSatisfies, KeywordSatisfied, FieldsHold, ItemHolds, DetectionHolds, NumberHolds, FormHolds, AllFormsHold, SomeFormHolds, Matches}
 use Rattle.rule_model.specs.Plain.{PlainRule}
 use Rattle.sig_conditions.specs.Formulas.{PlainFormula, FDetection, FNot, FAnd, FOr, PlainFormulas, no_forms, form, forms_of, value, all_true, some_true}
-use Rattle.sig_modifiers.specs.declared.modifier.Joined.{Joined}
-use Rattle.sig_modifiers.specs.declared.modifier.Joined.TheVariants.{All, Any}
+use Rattle.modifier_chains.specs.declared.modifier.Joined.{Joined}
+use Rattle.modifier_chains.specs.declared.modifier.Joined.TheVariants.{All, Any}
 use Rattle.sig_modifiers.specs.declared.test.Test.{Test}
 use Rattle.detection_eval.specs.Ready.{Satisfies, SearchSatisfies, AskedHolds, NumberedHolds, AlternativesHold, AreTruths, asked_of, numbered_item, numbered_detection, PlainReady, ready_rule}
 use Rattle.detection_eval.specs.Truths.{truth_at}

@@ -15,7 +15,7 @@ use Rattle.rule_matching.specs.Matching.{JoinedHolds}
 use Rattle.rule_model.specs.Plain.{PlainRule}
 use Rattle.sig_conditions.specs.Formulas.{PlainFormula, forms_view}
 use Rattle.sig_modifiers.specs.Holds.{Holds}
-use Rattle.sig_modifiers.specs.declared.modifier.Joined.{Joined}
+use Rattle.modifier_chains.specs.declared.modifier.Joined.{Joined}
 use Rattle.sig_modifiers.specs.declared.test.Test.{Test}
 use Rattle.detection_eval.specs.declared.numbered.Asked.{Asked}
 use Rattle.detection_eval.specs.declared.numbered.Asked.TheVariants.{Searched, Numbers}

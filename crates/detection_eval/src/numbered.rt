@@ -2,7 +2,7 @@
 
 use rule_items::Values;
 use sig_base::Sequence;
-use sig_modifiers::Joined;
+use modifier_chains::Joined;
 
 /// The numbers of an item's fields; none for a name that no field has.
 pub type FieldPlaces = Sequence<Option<u32>>;

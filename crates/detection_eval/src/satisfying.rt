@@ -8,7 +8,8 @@ ghost use Rattle.detection_eval.specs.Ready.{Satisfies, SearchSatisfies, Numbere
 
 use crate::numbered::{Asked, NumberedAlternative, NumberedItem};
 use event_schema::{Event, Value};
-use sig_modifiers::{Joined, Test, Tests};
+use modifier_chains::Joined;
+use sig_modifiers::{Test, Tests};
 
 /// Whether one of the tests holds of a field's values.
 fn is_satisfied(tests: &[Test], own: &[Value]) -> bool

@@ -7,7 +7,8 @@ use rule_items::{Alternative, Alternatives, Detection, Detections, Fields, Item,
 use rule_model::Rule;
 use sig_base::{Limits, Place, Text, Texts};
 use sig_conditions::{DetectionNumbers, Formula};
-use sig_modifiers::{Joined, Test, Tests};
+use modifier_chains::Joined;
+use sig_modifiers::{Test, Tests};
 use sig_strings::{Pattern, SharedPattern};
 use std::alloc::Global;
 use std::test::Fail;

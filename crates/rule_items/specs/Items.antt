@@ -5,11 +5,11 @@ use Rattle.std.specs.declared.option.Option.{Option}
 use Rattle.sig_base.specs.declared.limits.Limits.{Limits}
 use Rattle.sig_base.specs.declared.refusal.Place.{Place}
 use Rattle.sig_base.specs.declared.refusal.Refusal.{Refusal}
-use Rattle.sig_modifiers.specs.Chains.{chain_of, chain_refusal, joined_of}
+use Rattle.modifier_chains.specs.Chains.{chain_of, chain_refusal, joined_of}
 use Rattle.sig_base.specs.Judged.{must, first}
 use Rattle.sig_modifiers.specs.TestsOf.{TestsOf, value_refusal}
 use Rattle.yaml_tree.specs.Nodes.{place_of}
-use Rattle.sig_modifiers.specs.Written.{Written}
+use Rattle.modifier_chains.specs.Written.{Written}
 use Rattle.yaml_tree.specs.Tree.{Tree, Member}
 use Rattle.rule_items.specs.Keys.{name_in, words_in, is_keyword_key, is_item_key}
 use Rattle.yaml_tree.specs.Nodes.{is_empty}
@@ -37,7 +37,7 @@ values_refusal limits chain place t = first (
     first (list_map shape_refusal (parts_in t))
     ∷ must 78 (place_of t) (not (is_empty (parts_in t)))
     ∷ must 79 place (nat_le (length (parts_in t)) limits.list_values)
-    ∷ first (list_map (value_refusal limits.value_chars chain) (parts_in t))
+    ∷ first (list_map (value_refusal limits.value_chars limits.dashes chain) (parts_in t))
     ∷ [])
 
 -- why an entry is no item: its name, its modifiers, and then its values
@@ -61,7 +61,7 @@ abbrev pub bare_chain : Tree → Written
 bare_chain t = chain_of [] true (place_of t)
 
 abbrev pub keyword_refusal : Limits → Tree → Option Refusal
-keyword_refusal limits t = value_refusal limits.value_chars (bare_chain t) t
+keyword_refusal limits t = value_refusal limits.value_chars limits.dashes (bare_chain t) t
 
 pub record IsKeyword (t : Tree) (i : Item) : Type 0 where
   pub fields : i.fields ≡ Keyword

@@ -1,21 +1,14 @@
--- What the detections of every rule that is read keep: nothing in them is empty, their names are legal, and their patterns can
--- be written.
+-- What the detections of every rule that is read keep: nothing in them is empty, their names are legal, and their patterns have no
+-- placeholder.
 use Rattle.std.specs.Prelude.{ℕ, ◌≡◌, true, List, [], ◌∷◌, ⊤}
 use Rattle.event_schema.specs.Lists.{EachOf, HasElement}
-use Rattle.sig_modifiers.specs.PlainTests.{ArePlainTests}
+use Rattle.sig_modifiers.specs.PlainTests.{ArePlainTests, IsPatternTest}
 use Rattle.sig_modifiers.specs.declared.test.Test.{Test}
-use Rattle.sig_modifiers.specs.declared.test.Test.TheVariants.{Absent, Exists, Fits, Equals}
 use Rattle.event_schema.specs.Names.{IsName}
 use Rattle.rule_items.specs.declared.detection.Detection.{Detection}
 use Rattle.rule_items.specs.declared.item.Fields.{Fields}
 use Rattle.rule_items.specs.declared.item.Fields.TheVariants.{Keyword, Names}
 use Rattle.rule_items.specs.declared.item.Item.{Item}
-
-abbrev pub IsPatternTest : Test → Type 0
-IsPatternTest Absent = ⊥
-IsPatternTest (Exists there) = ⊥
-IsPatternTest (Fits pattern cased) = ⊤
-IsPatternTest (Equals n) = ⊥
 
 pub record IsWholeValue (tests : List Test) : Type 0 where
   pub some : HasElement tests

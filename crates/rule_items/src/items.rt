@@ -13,8 +13,9 @@ ghost use Rattle.rule_items.specs.Whole.{IsWholeItem};
 
 use crate::item::{Fields, Item, Values};
 use crate::keys::Key;
+use modifier_chains::Chain;
 use sig_base::{Code, Fault, Limits, Place, Text, Texts, must};
-use sig_modifiers::{Chain, resolve};
+use sig_modifiers::{keyword_tests, resolve, some_test};
 use std::alloc::Global;
 use yaml_tree::{Entry, Node, is_empty, is_scalar, parts_of, place_of};
 
@@ -44,7 +45,7 @@ fn read_values(
     values: &[Node],
 ) -> Result<Values, Fault>
     ensures judged { Judged (λ all. AllZip (TestsOf chain.now) (nodes_view values.now) all)
-        (first (list_map (value_refusal limits.now.value_chars chain.now) (nodes_view values.now))) result }
+        (first (list_map (value_refusal limits.now.value_chars limits.now.dashes chain.now) (nodes_view values.now))) result }
     ensures plain { IfOk result (λ all. EachOf ArePlainTests all) }
 {
     let mut all = Values::with_capacity(alloc, values.len())?;
@@ -98,6 +99,8 @@ impl Item {
         ensures judged { Judged (λ i. spec.IsItem (entry_view entry.now) i) (spec.item_refusal limits.now (entry_view entry.now)) result }
         ensures whole { IfOk result (λ i. IsWholeItem i) }
     {
+        some_test();
+        keyword_tests();
         let key = Key::read(alloc, &entry.key, entry.place)?;
         let chain = Chain::read(alloc, key.words.as_slice(), key.keyword, entry.place)?;
         let tests = read_tests(alloc, limits, &chain, entry.place, &entry.value)?;
@@ -115,6 +118,8 @@ impl Item {
         ensures judged { Judged (λ i. spec.IsKeyword (node_view node.now) i) (spec.keyword_refusal limits.now (node_view node.now)) result }
         ensures whole { IfOk result (λ i. IsWholeItem i) }
     {
+        some_test();
+        keyword_tests();
         let words = Texts::new(alloc);
         let place = place_of(node);
         let chain = Chain::read(alloc, words.as_slice(), true, place)?;

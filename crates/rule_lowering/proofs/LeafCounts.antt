@@ -1,8 +1,9 @@
 -- The code's count is the number of a tree's tests, up to the greatest number.
-use Rattle.std.proofs.Common.{ℕ, zero, suc, ◌≡◌, ◌+◌, ◌*◌, ◌≤◌, min, refl, sym, ap, ◌∙◌, List, [], ◌∷◌, length, map, sum_by, slice_index, arith}
+use Rattle.std.proofs.Common.{ℕ, zero, suc, ◌≡◌, ◌+◌, ◌*◌, ◌≤◌, ◌^◌, min, refl, sym, ap, ◌∙◌, List, [], ◌∷◌, length, map, sum_by, slice_index, arith}
 use Rattle.std.specs.Prelude.{Option, Some, None}
 use Rattle.std.specs.List.{flat_map}
 use Rattle.std.proofs.Math.Nat.{mul-suc, add-mul}
+use Rattle.std.proofs.lemmas.List.{length-map}
 use Rattle.std.proofs.lemmas.List.Sums.{sum_by-cons, sum_by-append}
 use Rattle.backend_core.specs.Sound.{kind_at}
 use Rattle.backend_core.specs.Trees.{Plain, all, any, negated, leaf, never, Plains, no_parts, a_part}
@@ -18,13 +19,16 @@ use Rattle.rule_items.specs.declared.item.Item.{Item}
 use Rattle.sig_base.specs.declared.refusal.Place.{Place}
 use Rattle.sig_conditions.specs.Formulas.{PlainFormula, FDetection, FNot, FAnd, FOr, PlainFormulas, no_forms, form, forms_of, form_view, forms_view, numbered}
 use Rattle.sig_conditions.specs.declared.formula.Formula.{Formula}
-use Rattle.sig_modifiers.specs.declared.modifier.Joined.{Joined}
-use Rattle.sig_modifiers.specs.declared.modifier.Joined.TheVariants.{All, Any}
+use Rattle.modifier_chains.specs.declared.modifier.Joined.{Joined}
+use Rattle.modifier_chains.specs.declared.modifier.Joined.TheVariants.{All, Any}
 use Rattle.sig_modifiers.specs.declared.test.Test.{Test}
-use Rattle.rule_lowering.specs.Counts.{values_count, width, item_count, alternative_count, alternatives_count, detection_counts, form_count, forms_count, rule_count}
+use Rattle.sig_modifiers.specs.declared.test.Test.TheVariants as tests
+use Rattle.sig_strings.specs.declared.part.Part.{Part}
+use Rattle.dash_choices.specs.Choices.{choices, dash_count}
+use Rattle.rule_lowering.specs.Counts.{test_count, value_count, values_count, width, item_count, alternative_count, alternatives_count, detection_counts, form_count, forms_count, rule_count}
 use Rattle.rule_lowering.specs.Joining.{plains, listed, parts_of, tree_with, closed, join}
 use Rattle.rule_lowering.specs.Leaves.{leaves, leaves_in}
-use Rattle.rule_lowering.specs.TreeOf.{leaf_test, leaf_if_any, test_tree, value_tree, values_tree, keyword_tree, number_tree, fields_tree, item_tree, alternative_tree, detection_tree, numbered_tree, form_tree, form_trees, tree_of}
+use Rattle.rule_lowering.specs.TreeOf.{leaf_test, leaf_if_any, written_tree, written_tests, test_tree, value_tree, values_tree, keyword_tree, number_tree, fields_tree, item_tree, alternative_tree, detection_tree, numbered_tree, form_tree, form_trees, tree_of}
 use Rattle.field_numbers.specs.Numbers.{number_of, searched}
 
 pub forms_within : (most : ℕ) (counts : List ℕ) (fs : PlainFormulas) → forms_count most counts fs ≤ most
@@ -116,74 +120,87 @@ one_leaf : (place : Place) (n : ℕ) (test : Option LeafTest) → leaves (leaf_i
 one_leaf place n None = refl
 one_leaf place n (Some test) = refl
 
-value_leaves : (place : Place) (kind : FieldKind) (n : ℕ) (ts : List Test) → leaves (value_tree place kind n ts) ≡ length ts
-value_leaves place kind n ts = join_map_leaves Any (test_tree place kind n) (λ t. 1) (λ t. one_leaf place n (leaf_test kind t)) ts ∙ sum_ones ts
+-- where a pattern has as many choices as its places tell
+module _ (counted : (parts : List Part) → length (choices parts) ≡ 5 ^ dash_count parts) where
+  written_count : (test : Test) → length (written_tests test) ≡ test_count test
+  written_count tests.Absent = refl
+  written_count (tests.Exists there) = refl
+  written_count (tests.Fits parts cased) = length-map (choices parts) (λ chosen. tests.Fits chosen cased) ∙ counted parts
+  written_count (tests.Equals n) = refl
 
-values_leaves : (place : Place) (j : Joined) (values : List (List Test)) (kind : FieldKind) (n : ℕ)
-    → leaves (values_tree place j values kind n) ≡ values_count values
-values_leaves place j values kind n = join_map_leaves j (value_tree place kind n) (λ ts. length ts) (value_leaves place kind n) values
+  test_leaves : (place : Place) (kind : FieldKind) (n : ℕ) (test : Test) → leaves (test_tree place kind n test) ≡ test_count test
+  test_leaves place kind n test =
+      join_map_leaves Any (written_tree place kind n) (λ t. 1) (λ t. one_leaf place n (leaf_test kind t)) (written_tests test)
+      ∙ (sum_ones (written_tests test) ∙ written_count test)
 
-module _ (fields : List Field) where
-  keyword_leaves : (place : Place) (ts : List Test) → leaves (keyword_tree fields place ts) ≡ length ts * length (searched fields)
-  keyword_leaves place ts =
-      join_map_leaves Any (λ n. value_tree place (kind_at fields n) n ts) (λ n. length ts) (λ n. value_leaves place (kind_at fields n) n ts) (searched fields)
-      ∙ sum_same (length ts) (searched fields)
+  value_leaves : (place : Place) (kind : FieldKind) (n : ℕ) (ts : List Test) → leaves (value_tree place kind n ts) ≡ value_count ts
+  value_leaves place kind n ts = join_map_leaves Any (test_tree place kind n) test_count (test_leaves place kind n) ts
 
-  fields_leaves : (place : Place) (j : Joined) (values : List (List Test)) (fs : Fields)
-      → leaves (fields_tree fields place j values fs) ≡ values_count values * width (length (searched fields)) fs
-  fields_leaves place j values Keyword =
-      join_map_leaves j (keyword_tree fields place) (λ ts. length ts * length (searched fields)) (keyword_leaves place) values
-      ∙ sum_times (λ ts. length ts) (length (searched fields)) values
-  fields_leaves place j values (Names names) =
-      join_map_leaves Any (λ name. number_tree fields place j values (number_of fields name)) (λ name. values_count values)
-      (λ name. values_leaves place j values (kind_at fields (number_of fields name)) (number_of fields name)) names
-      ∙ sum_same (values_count values) names
+  values_leaves : (place : Place) (j : Joined) (values : List (List Test)) (kind : FieldKind) (n : ℕ)
+      → leaves (values_tree place j values kind n) ≡ values_count values
+  values_leaves place j values kind n = join_map_leaves j (value_tree place kind n) value_count (value_leaves place kind n) values
 
-  item_leaves : (i : Item) → leaves (item_tree fields i) ≡ item_count (length (searched fields)) i
-  item_leaves i = fields_leaves i.place i.joined i.tests i.fields
+  module _ (fields : List Field) where
+    keyword_leaves : (place : Place) (ts : List Test) → leaves (keyword_tree fields place ts) ≡ value_count ts * length (searched fields)
+    keyword_leaves place ts =
+        join_map_leaves Any (λ n. value_tree place (kind_at fields n) n ts) (λ n. value_count ts) (λ n. value_leaves place (kind_at fields n) n ts) (searched fields)
+        ∙ sum_same (value_count ts) (searched fields)
 
-  alternative_leaves : (items : List Item) → leaves (alternative_tree fields items) ≡ alternative_count (length (searched fields)) items
-  alternative_leaves items = join_map_leaves All (item_tree fields) (item_count (length (searched fields))) item_leaves items
+    fields_leaves : (place : Place) (j : Joined) (values : List (List Test)) (fs : Fields)
+        → leaves (fields_tree fields place j values fs) ≡ values_count values * width (length (searched fields)) fs
+    fields_leaves place j values Keyword =
+        join_map_leaves j (keyword_tree fields place) (λ ts. value_count ts * length (searched fields)) (keyword_leaves place) values
+        ∙ sum_times value_count (length (searched fields)) values
+    fields_leaves place j values (Names names) =
+        join_map_leaves Any (λ name. number_tree fields place j values (number_of fields name)) (λ name. values_count values)
+        (λ name. values_leaves place j values (kind_at fields (number_of fields name)) (number_of fields name)) names
+        ∙ sum_same (values_count values) names
 
-  detection_leaves : (d : Detection) → leaves (detection_tree fields d) ≡ alternatives_count (length (searched fields)) d.alternatives
-  detection_leaves d = join_map_leaves Any (alternative_tree fields) (alternative_count (length (searched fields))) alternative_leaves d.alternatives
+    item_leaves : (i : Item) → leaves (item_tree fields i) ≡ item_count (length (searched fields)) i
+    item_leaves i = fields_leaves i.place i.joined i.tests i.fields
 
-  -- ---- formulas, up to the greatest number
+    alternative_leaves : (items : List Item) → leaves (alternative_tree fields items) ≡ alternative_count (length (searched fields)) items
+    alternative_leaves items = join_map_leaves All (item_tree fields) (item_count (length (searched fields))) item_leaves items
 
-  module _ (most : ℕ) where
-    abbrev counts : List Detection → List ℕ
-    counts ds = detection_counts most (length (searched fields)) ds
+    detection_leaves : (d : Detection) → leaves (detection_tree fields d) ≡ alternatives_count (length (searched fields)) d.alternatives
+    detection_leaves d = join_map_leaves Any (alternative_tree fields) (alternative_count (length (searched fields))) alternative_leaves d.alternatives
 
-    numbered_leaves : (ds : List Detection) (n : ℕ) → min (slice_index (counts ds) n) most ≡ min (leaves (numbered_tree fields ds n)) most
-    numbered_leaves [] n = refl
-    numbered_leaves (d ∷ ds) zero = omega (arith, detection_leaves d)
-    numbered_leaves (d ∷ ds) (suc n) = numbered_leaves ds n
+    -- ---- formulas, up to the greatest number
 
-    mutual
-      form_leaves : (ds : List Detection) (f : PlainFormula) → form_count most (counts ds) f ≡ min (leaves (form_tree fields ds f)) most
-      form_leaves ds (FDetection n) = numbered_leaves ds n
-      form_leaves ds (FNot f) = form_leaves ds f
-      form_leaves ds (FAnd fs) = forms_leaves ds fs ∙ ap (λ n. min n most) (sym (join_leaves All (form_trees fields ds fs)))
-      form_leaves ds (FOr fs) = forms_leaves ds fs ∙ ap (λ n. min n most) (sym (join_leaves Any (form_trees fields ds fs)))
+    module _ (most : ℕ) where
+      abbrev counts : List Detection → List ℕ
+      counts ds = detection_counts most (length (searched fields)) ds
 
-      forms_leaves : (ds : List Detection) (fs : PlainFormulas) → forms_count most (counts ds) fs ≡ min (sum_by leaves (form_trees fields ds fs)) most
-      forms_leaves ds no_forms = omega arith
-      forms_leaves ds (form f fs) =
-          added (form_count most (counts ds) f) (forms_count most (counts ds) fs) (leaves (form_tree fields ds f)) (sum_by leaves (form_trees fields ds fs))
-          (sum_by leaves (form_tree fields ds f ∷ form_trees fields ds fs)) most (form_leaves ds f) (forms_leaves ds fs)
-          (sum_by-cons leaves (form_tree fields ds f) (form_trees fields ds fs))
+      numbered_leaves : (ds : List Detection) (n : ℕ) → min (slice_index (counts ds) n) most ≡ min (leaves (numbered_tree fields ds n)) most
+      numbered_leaves [] n = refl
+      numbered_leaves (d ∷ ds) zero = omega (arith, detection_leaves d)
+      numbered_leaves (d ∷ ds) (suc n) = numbered_leaves ds n
+
+      mutual
+        form_leaves : (ds : List Detection) (f : PlainFormula) → form_count most (counts ds) f ≡ min (leaves (form_tree fields ds f)) most
+        form_leaves ds (FDetection n) = numbered_leaves ds n
+        form_leaves ds (FNot f) = form_leaves ds f
+        form_leaves ds (FAnd fs) = forms_leaves ds fs ∙ ap (λ n. min n most) (sym (join_leaves All (form_trees fields ds fs)))
+        form_leaves ds (FOr fs) = forms_leaves ds fs ∙ ap (λ n. min n most) (sym (join_leaves Any (form_trees fields ds fs)))
+
+        forms_leaves : (ds : List Detection) (fs : PlainFormulas) → forms_count most (counts ds) fs ≡ min (sum_by leaves (form_trees fields ds fs)) most
+        forms_leaves ds no_forms = omega arith
+        forms_leaves ds (form f fs) =
+            added (form_count most (counts ds) f) (forms_count most (counts ds) fs) (leaves (form_tree fields ds f)) (sum_by leaves (form_trees fields ds fs))
+            (sum_by leaves (form_tree fields ds f ∷ form_trees fields ds fs)) most (form_leaves ds f) (forms_leaves ds fs)
+            (sum_by-cons leaves (form_tree fields ds f) (form_trees fields ds fs))
 
 -- the trees of a list of formulas
 pub form_trees_are : (fields : List Field) (ds : List Detection) (fs : List PlainFormula) → form_trees fields ds (forms_of fs) ≡ map (form_tree fields ds) fs
 form_trees_are fields ds [] = refl
 form_trees_are fields ds (f ∷ fs) = ap (λ (ts : List Plain). form_tree fields ds f ∷ ts) (form_trees_are fields ds fs)
 
-pub rule_leaves : (most : ℕ) (schema : Schema) (rule : PlainRule)
+pub rule_leaves : (counted : (parts : List Part) → length (choices parts) ≡ 5 ^ dash_count parts) (most : ℕ) (schema : Schema) (rule : PlainRule)
     → rule_count most (length (searched schema.fields)) rule ≡ min (leaves (tree_of schema rule)) most
-rule_leaves most schema rule =
+rule_leaves counted most schema rule =
     let fields = schema.fields in
     let ds = rule.detections in
-    forms_leaves fields most ds (forms_of rule.conditions)
+    forms_leaves counted fields most ds (forms_of rule.conditions)
     ∙ (ap (λ (ts : List Plain). min (sum_by leaves ts) most) (form_trees_are fields ds rule.conditions)
     ∙ ap (λ n. min n most) (sym (join_leaves Any (map (form_tree fields ds) rule.conditions))))
 

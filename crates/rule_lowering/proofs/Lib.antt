@@ -10,3 +10,4 @@ pub mod Levels
 pub mod Ones
 pub mod LeafCounts
 pub mod RuleLemmas
+pub mod ChoiceLemmas

@@ -14,11 +14,11 @@ use Rattle.rule_items.specs.declared.item.Fields.{Fields}
 use Rattle.rule_items.specs.declared.item.Fields.TheVariants.{Keyword, Names}
 use Rattle.rule_items.specs.declared.item.Item.{Item}
 use Rattle.sig_base.specs.declared.refusal.Place.{Place}
-use Rattle.sig_modifiers.specs.declared.modifier.Joined.{Joined}
-use Rattle.sig_modifiers.specs.declared.modifier.Joined.TheVariants.{All, Any}
+use Rattle.modifier_chains.specs.declared.modifier.Joined.{Joined}
+use Rattle.modifier_chains.specs.declared.modifier.Joined.TheVariants.{All, Any}
 use Rattle.sig_modifiers.specs.declared.test.Test.{Test}
 use Rattle.rule_lowering.specs.Joining.{plains, listed, parts_of, closed, join}
-use Rattle.rule_lowering.specs.TreeOf.{leaf_test, leaf_if_any, test_tree, value_tree, values_tree, keyword_tree, number_tree, fields_tree, item_tree, alternative_tree, detection_tree}
+use Rattle.rule_lowering.specs.TreeOf.{leaf_test, leaf_if_any, written_tree, written_tests, test_tree, value_tree, values_tree, keyword_tree, number_tree, fields_tree, item_tree, alternative_tree, detection_tree}
 use Rattle.field_numbers.specs.Numbers.{number_of, searched}
 
 abbrev AreNotOne : Plains → Type 0
@@ -110,8 +110,19 @@ leaf_closed : (place : Place) (field : ℕ) (test : Option LeafTest) → IsClose
 leaf_closed place field None = tt
 leaf_closed place field (Some test) = tt
 
+written_closed : (place : Place) (kind : FieldKind) (field : ℕ) (test : Test) → IsClosed (written_tree place kind field test)
+written_closed place kind field test = leaf_closed place field (leaf_test kind test)
+
 pub test_closed : (place : Place) (kind : FieldKind) (field : ℕ) (test : Test) → IsClosed (test_tree place kind field test)
-test_closed place kind field test = leaf_closed place field (leaf_test kind test)
+test_closed place kind field test = join_closed Any (written_tree place kind field) (written_closed place kind field) (written_tests test)
+
+-- what stands for itself alone
+pub alone : {E : Type 0} (r : Result Tree E) (place : Place) (kind : FieldKind) (field : ℕ) (test : Test) → written_tests test ≡ test ∷ []
+    → IfOk r (λ t. tree_view t ≡ written_tree place kind field test) → IfOk r (λ t. tree_view t ≡ test_tree place kind field test)
+alone r place kind field test one h =
+    subst (λ (p : Plain). IfOk r (λ t. tree_view t ≡ p))
+    (sym (ap (λ (ts : List Test). join Any (map (written_tree place kind field) ts)) one
+    ∙ join_one Any (written_tree place kind field test) (written_closed place kind field test))) h
 
 pub value_closed : (place : Place) (kind : FieldKind) (field : ℕ) (tests : List Test) → IsClosed (value_tree place kind field tests)
 value_closed place kind field tests = join_closed Any (test_tree place kind field) (test_closed place kind field) tests

@@ -15,7 +15,8 @@ use Rattle.event_schema.specs.declared.schema.Schema.{Schema}
 use Rattle.rule_schema.specs.Inferred.{fields_refusal, fit_refusal, items_of}
 use Rattle.event_schema.specs.Lists.{EachOf, HasElement}
 use Rattle.rule_model.specs.Plain.{PlainRule}
-use Rattle.sig_modifiers.specs.PlainTests.{IsPlainPattern, IsPlainTest}
+use Rattle.sig_modifiers.specs.PlainTests.{IsPlainTest}
+use Rattle.value_patterns.specs.PlainPatterns.{IsDashedPattern, IsPlainPattern}
 use Rattle.rule_items.specs.Whole.{IsWholeValue, AreWholeFields, IsWholeItem, IsWholeAlternative, IsWholeDetection}
 use Rattle.rule_model.specs.Whole.{IsWholeForm, AreSomeForms, AreWholeForms, IsWhole}
 use Rattle.rule_items.specs.declared.detection.Detection.{Detection}
@@ -24,14 +25,16 @@ use Rattle.rule_items.specs.declared.item.Fields.TheVariants.{Keyword, Names}
 use Rattle.rule_items.specs.declared.item.Item.{Item}
 use Rattle.sig_base.specs.declared.refusal.Place.{Place}
 use Rattle.sig_conditions.specs.Formulas.{PlainFormula, FDetection, FNot, FAnd, FOr, PlainFormulas, no_forms, form}
-use Rattle.sig_modifiers.specs.declared.modifier.Joined.{Joined}
-use Rattle.sig_modifiers.specs.declared.modifier.Joined.TheVariants.{All, Any}
+use Rattle.modifier_chains.specs.declared.modifier.Joined.{Joined}
+use Rattle.modifier_chains.specs.declared.modifier.Joined.TheVariants.{All, Any}
 use Rattle.sig_modifiers.specs.declared.test.Test.{Test}
 use Rattle.sig_modifiers.specs.declared.test.Test.TheVariants as tests
 use Rattle.sig_strings.specs.Edits.{has_wildcard, plain_text}
+use Rattle.dash_choices.specs.Choices.{choices, before_each}
 use Rattle.sig_strings.specs.declared.part.Part.{Part}
+use Rattle.sig_strings.specs.declared.part.Part.TheVariants.{Char, One, Run, Dash, Hole}
 use Rattle.rule_lowering.specs.Joining.{plains, listed, parts_of, tree_with, closed, join}
-use Rattle.rule_lowering.specs.TreeOf.{text_test, whole_test, leaf_test, leaf_if_any, test_tree, value_tree, keyword_tree, number_tree, fields_tree, item_tree, alternative_tree, detection_tree, numbered_tree, form_tree, form_trees, tree_of}
+use Rattle.rule_lowering.specs.TreeOf.{text_test, whole_test, leaf_test, leaf_if_any, written_tree, written_tests, test_tree, value_tree, keyword_tree, number_tree, fields_tree, item_tree, alternative_tree, detection_tree, numbered_tree, form_tree, form_trees, tree_of}
 use Rattle.field_numbers.specs.Numbers.{number_of, searched}
 use Rattle.rule_lowering.specs.WholeNumbers.{is_whole, written_number}
 use Rattle.rule_lowering.proofs.Decimals.{characters, own_text, characters_written, low_decimal, low_plain}
@@ -58,196 +61,245 @@ some_append : {A : Type 0} (xs ys : List A) → HasElement xs → HasElement (xs
 some_append [] ys h = absurd h
 some_append (x ∷ xs) ys h = tt
 
--- ---- joining
+-- ---- choices of dashes
 
-module _ (fields : List Field) where
-  some_listed : (ts : Plains) → AreTwo ts → HasElement (listed ts)
-  some_listed no_parts h = absurd h
-  some_listed (a_part t ts) h = tt
+some_choice : (parts : List Part) → HasElement (choices parts)
+some_choice [] = tt
+some_choice (Char c ∷ parts) = some_map (λ rest. Char c ∷ rest) (choices parts) (some_choice parts)
+some_choice (One ∷ parts) = some_map (λ rest. One ∷ rest) (choices parts) (some_choice parts)
+some_choice (Run ∷ parts) = some_map (λ rest. Run ∷ rest) (choices parts) (some_choice parts)
+some_choice (Dash ∷ parts) =
+    some_append (before_each (Char 45) (choices parts)) _ (some_map (λ rest. Char 45 ∷ rest) (choices parts) (some_choice parts))
+some_choice (Hole name ∷ parts) = some_map (λ rest. Hole name ∷ rest) (choices parts) (some_choice parts)
 
-  listed_sound : (ts : Plains) → AreSound fields ts → EachOf (IsSound fields) (listed ts)
-  listed_sound no_parts h = tt
-  listed_sound (a_part t ts) h = (h.0, listed_sound ts h.1)
+-- patterns that can be written are sound
+all_sound : (patterns : List (List Part)) → EachOf IsPlainPattern patterns → EachOf IsSoundPattern patterns
+all_sound [] h = tt
+all_sound (parts ∷ patterns) h = (record { written = h.0.written; plain = h.0.plain }, all_sound patterns h.1)
 
-  plains_sound : (ts : List Plain) → EachOf (IsSound fields) ts → AreSound fields (plains ts)
-  plains_sound [] h = tt
-  plains_sound (t ∷ ts) h = (h.0, plains_sound ts h.1)
+-- where the choices of a pattern without placeholders can be written
+module _ (choices_plain : (parts : List Part) → IsDashedPattern parts → EachOf IsPlainPattern (choices parts)) where
+  choices_sound : (parts : List Part) → IsDashedPattern parts → EachOf IsSoundPattern (choices parts)
+  choices_sound parts h = all_sound (choices parts) (choices_plain parts h)
 
-  parts_sound : (j : Joined) (t : Plain) → IsSound fields t → HasElement (parts_of j t) × EachOf (IsSound fields) (parts_of j t)
-  parts_sound All (all ts) h = (some_listed ts h.0, listed_sound ts h.1)
-  parts_sound All (any ts) h = (tt, (h, tt))
-  parts_sound All (negated t) h = (tt, (h, tt))
-  parts_sound All (leaf l) h = (tt, (h, tt))
-  parts_sound All never h = (tt, (h, tt))
-  parts_sound Any (all ts) h = (tt, (h, tt))
-  parts_sound Any (any ts) h = (some_listed ts h.0, listed_sound ts h.1)
-  parts_sound Any (negated t) h = (tt, (h, tt))
-  parts_sound Any (leaf l) h = (tt, (h, tt))
-  parts_sound Any never h = (tt, (h, tt))
+  -- ---- joining
 
-  flat_sound : (j : Joined) (ts : List Plain) → EachOf (IsSound fields) ts → EachOf (IsSound fields) (flat_map (parts_of j) ts)
-  flat_sound j [] h = tt
-  flat_sound j (t ∷ ts) h =
-      (each_append (IsSound fields) (parts_of j t) (flat_map (parts_of j) ts)).1 ((parts_sound j t h.0).1, flat_sound j ts h.1)
+  module _ (fields : List Field) where
+    some_listed : (ts : Plains) → AreTwo ts → HasElement (listed ts)
+    some_listed no_parts h = absurd h
+    some_listed (a_part t ts) h = tt
 
-  some_flat : (j : Joined) (ts : List Plain) → HasElement ts → EachOf (IsSound fields) ts → HasElement (flat_map (parts_of j) ts)
-  some_flat j [] s h = absurd s
-  some_flat j (t ∷ ts) s h = some_append (parts_of j t) (flat_map (parts_of j) ts) (parts_sound j t h.0).0
+    listed_sound : (ts : Plains) → AreSound fields ts → EachOf (IsSound fields) (listed ts)
+    listed_sound no_parts h = tt
+    listed_sound (a_part t ts) h = (h.0, listed_sound ts h.1)
 
-  with_sound : (j : Joined) (ts : Plains) → AreTwo ts → AreSound fields ts → IsSound fields (tree_with j ts)
-  with_sound All ts two h = (two, h)
-  with_sound Any ts two h = (two, h)
+    plains_sound : (ts : List Plain) → EachOf (IsSound fields) ts → AreSound fields (plains ts)
+    plains_sound [] h = tt
+    plains_sound (t ∷ ts) h = (h.0, plains_sound ts h.1)
 
-  closed_sound : (j : Joined) (ts : List Plain) → HasElement ts → EachOf (IsSound fields) ts → IsSound fields (closed j ts)
-  closed_sound j [] s h = absurd s
-  closed_sound j (t ∷ []) s h = h.0
-  closed_sound j (t ∷ u ∷ ts) s h = with_sound j (plains (t ∷ u ∷ ts)) tt (plains_sound (t ∷ u ∷ ts) h)
+    parts_sound : (j : Joined) (t : Plain) → IsSound fields t → HasElement (parts_of j t) × EachOf (IsSound fields) (parts_of j t)
+    parts_sound All (all ts) h = (some_listed ts h.0, listed_sound ts h.1)
+    parts_sound All (any ts) h = (tt, (h, tt))
+    parts_sound All (negated t) h = (tt, (h, tt))
+    parts_sound All (leaf l) h = (tt, (h, tt))
+    parts_sound All never h = (tt, (h, tt))
+    parts_sound Any (all ts) h = (tt, (h, tt))
+    parts_sound Any (any ts) h = (some_listed ts h.0, listed_sound ts h.1)
+    parts_sound Any (negated t) h = (tt, (h, tt))
+    parts_sound Any (leaf l) h = (tt, (h, tt))
+    parts_sound Any never h = (tt, (h, tt))
 
-  join_sound : (j : Joined) (ts : List Plain) → HasElement ts → EachOf (IsSound fields) ts → IsSound fields (join j ts)
-  unfolding join
-  join_sound j ts s h = closed_sound j (flat_map (parts_of j) ts) (some_flat j ts s h) (flat_sound j ts h)
+    flat_sound : (j : Joined) (ts : List Plain) → EachOf (IsSound fields) ts → EachOf (IsSound fields) (flat_map (parts_of j) ts)
+    flat_sound j [] h = tt
+    flat_sound j (t ∷ ts) h =
+        (each_append (IsSound fields) (parts_of j t) (flat_map (parts_of j) ts)).1 ((parts_sound j t h.0).1, flat_sound j ts h.1)
 
-  join_map_sound : {A : Type 0} (P : A → Type 0) (j : Joined) (f : A → Plain) → ((x : A) → P x → IsSound fields (f x))
-      → (xs : List A) → HasElement xs → EachOf P xs → IsSound fields (join j (map f xs))
-  join_map_sound P j f holds xs s h = join_sound j (map f xs) (some_map f xs s) (each_with P (IsSound fields) f holds xs h)
+    some_flat : (j : Joined) (ts : List Plain) → HasElement ts → EachOf (IsSound fields) ts → HasElement (flat_map (parts_of j) ts)
+    some_flat j [] s h = absurd s
+    some_flat j (t ∷ ts) s h = some_append (parts_of j t) (flat_map (parts_of j) ts) (parts_sound j t h.0).0
 
-  -- ---- values
+    with_sound : (j : Joined) (ts : Plains) → AreTwo ts → AreSound fields ts → IsSound fields (tree_with j ts)
+    with_sound All ts two h = (two, h)
+    with_sound Any ts two h = (two, h)
 
-  decimal_sound : (low : List ℕ) → IsPlainText low → IsSoundPattern (characters low)
-  decimal_sound low h = record { written = characters_written low; plain = subst IsPlainText (sym (own_text low)) h }
+    closed_sound : (j : Joined) (ts : List Plain) → HasElement ts → EachOf (IsSound fields) ts → IsSound fields (closed j ts)
+    closed_sound j [] s h = absurd s
+    closed_sound j (t ∷ []) s h = h.0
+    closed_sound j (t ∷ u ∷ ts) s h = with_sound j (plains (t ∷ u ∷ ts)) tt (plains_sound (t ∷ u ∷ ts) h)
 
-  -- of a field that isn't one of whole numbers
-  text_sound : (kind : FieldKind) → (kind ≡ kinds.Whole → ⊥) → (test : Test) → IsPlainTest test → IsSoundTest kind (text_test test)
-  text_sound kind other tests.Absent h = tt
-  text_sound kind other (tests.Exists true) h = tt
-  text_sound kind other (tests.Exists false) h = tt
-  text_sound kind other (tests.Fits parts cased) h = (record { written = h.written; plain = h.plain }, (λ is. absurd (other is)))
-  text_sound kind other (tests.Equals n) h =
-      (decimal_sound (signed_decimal n) (low_plain (signed_decimal n) (low_decimal n)), (λ is. absurd (other is)))
+    join_sound : (j : Joined) (ts : List Plain) → HasElement ts → EachOf (IsSound fields) ts → IsSound fields (join j ts)
+    unfolding join
+    join_sound j ts s h = closed_sound j (flat_map (parts_of j) ts) (some_flat j ts s h) (flat_sound j ts h)
 
-  abbrev IsSoundIfAny : FieldKind → Option LeafTest → Type 0
-  IsSoundIfAny kind None = ⊤
-  IsSoundIfAny kind (Some test) = IsSoundTest kind test
+    join_map_sound : {A : Type 0} (P : A → Type 0) (j : Joined) (f : A → Plain) → ((x : A) → P x → IsSound fields (f x))
+        → (xs : List A) → HasElement xs → EachOf P xs → IsSound fields (join j (map f xs))
+    join_map_sound P j f holds xs s h = join_sound j (map f xs) (some_map f xs s) (each_with P (IsSound fields) f holds xs h)
 
-  written_sound : (number : Option ℤ) → ((n : ℤ) → number ≡ Some n → IsWholeNumber n) → IsSoundIfAny kinds.Whole (option_map leaf_tests.Equals number)
-  written_sound None whole = tt
-  written_sound (Some n) whole = (refl, whole n refl)
+    -- ---- values
 
-  pattern_sound : (parts : List Part) (cased : Bool) → IsPlainPattern parts → IsSoundIfAny kinds.Whole (whole_test (tests.Fits parts cased))
-  pattern_sound parts cased h = by (has_wildcard parts) refl where
-    by : (b : Bool) → has_wildcard parts ≡ b
-        → IsSoundIfAny kinds.Whole (if b then Some (leaf_tests.Fits parts cased) else option_map leaf_tests.Equals (written_number (plain_text parts)))
-    by true is = (record { written = h.written; plain = h.plain }, (λ same. is))
-    by false is = written_sound (written_number (plain_text parts)) (λ n e. (written_is (plain_text parts) n e).1)
+    -- what a language can say: patterns have no dash places any more
+    abbrev IsWrittenTest : Test → Type 0
+    IsWrittenTest tests.Absent = ⊤
+    IsWrittenTest (tests.Exists there) = ⊤
+    IsWrittenTest (tests.Fits parts cased) = IsSoundPattern parts
+    IsWrittenTest (tests.Equals n) = ⊤
 
-  number_sound : (n : ℤ) → IsSoundIfAny kinds.Whole (whole_test (tests.Equals n))
-  number_sound n = by (is_whole n) refl where
-    by : (b : Bool) → is_whole n ≡ b → IsSoundIfAny kinds.Whole (option_map leaf_tests.Equals (if b then Some n else None))
-    by true is = (refl, whole_holds n is)
-    by false is = tt
+    decimal_sound : (low : List ℕ) → IsPlainText low → IsSoundPattern (characters low)
+    decimal_sound low h = record { written = characters_written low; plain = subst IsPlainText (sym (own_text low)) h }
 
-  whole_sound : (test : Test) → IsPlainTest test → IsSoundIfAny kinds.Whole (whole_test test)
-  whole_sound tests.Absent h = tt
-  whole_sound (tests.Exists true) h = tt
-  whole_sound (tests.Exists false) h = tt
-  whole_sound (tests.Fits parts cased) h = pattern_sound parts cased h
-  whole_sound (tests.Equals n) h = number_sound n
+    -- of a field that isn't one of whole numbers
+    text_sound : (kind : FieldKind) → (kind ≡ kinds.Whole → ⊥) → (test : Test) → IsWrittenTest test → IsSoundTest kind (text_test test)
+    text_sound kind other tests.Absent h = tt
+    text_sound kind other (tests.Exists true) h = tt
+    text_sound kind other (tests.Exists false) h = tt
+    text_sound kind other (tests.Fits parts cased) h = (h, (λ is. absurd (other is)))
+    text_sound kind other (tests.Equals n) h =
+        (decimal_sound (signed_decimal n) (low_plain (signed_decimal n) (low_decimal n)), (λ is. absurd (other is)))
 
-  test_sound : (kind : FieldKind) (test : Test) → IsPlainTest test → IsSoundIfAny kind (leaf_test kind test)
-  test_sound kinds.Text test h = text_sound kinds.Text (λ is. absurd (cc)) test h
-  test_sound kinds.Whole test h = whole_sound test h
-  test_sound kinds.Address test h = text_sound kinds.Address (λ is. absurd (cc)) test h
+    abbrev IsSoundIfAny : FieldKind → Option LeafTest → Type 0
+    IsSoundIfAny kind None = ⊤
+    IsSoundIfAny kind (Some test) = IsSoundTest kind test
 
-  leaf_sound : (place : Place) (n : ℕ) → n < length fields → (test : Option LeafTest) → IsSoundIfAny (kind_at fields n) test
-      → IsSound fields (leaf_if_any place n test)
-  leaf_sound place n within None h = tt
-  leaf_sound place n within (Some test) h = (within, h)
+    written_sound : (number : Option ℤ) → ((n : ℤ) → number ≡ Some n → IsWholeNumber n) → IsSoundIfAny kinds.Whole (option_map leaf_tests.Equals number)
+    written_sound None whole = tt
+    written_sound (Some n) whole = (refl, whole n refl)
 
-  abbrev kind : ℕ → FieldKind
-  kind n = kind_at fields n
+    pattern_sound : (parts : List Part) (cased : Bool) → IsSoundPattern parts → IsSoundIfAny kinds.Whole (whole_test (tests.Fits parts cased))
+    pattern_sound parts cased h = by (has_wildcard parts) refl where
+      by : (b : Bool) → has_wildcard parts ≡ b
+          → IsSoundIfAny kinds.Whole (if b then Some (leaf_tests.Fits parts cased) else option_map leaf_tests.Equals (written_number (plain_text parts)))
+      by true is = (h, (λ same. is))
+      by false is = written_sound (written_number (plain_text parts)) (λ n e. (written_is (plain_text parts) n e).1)
 
-  value_sound : (place : Place) (n : ℕ) → n < length fields → (ts : List Test) → IsWholeValue ts → IsSound fields (value_tree place (kind n) n ts)
-  value_sound place n within ts h =
-      join_map_sound IsPlainTest Any (test_tree place (kind n) n)
-      (λ t whole. leaf_sound place n within (leaf_test (kind n) t) (test_sound (kind n) t whole)) ts h.some h.each
+    number_sound : (n : ℤ) → IsSoundIfAny kinds.Whole (whole_test (tests.Equals n))
+    number_sound n = by (is_whole n) refl where
+      by : (b : Bool) → is_whole n ≡ b → IsSoundIfAny kinds.Whole (option_map leaf_tests.Equals (if b then Some n else None))
+      by true is = (refl, whole_holds n is)
+      by false is = tt
 
-  values_sound : (place : Place) (j : Joined) (values : List (List Test)) → HasElement values → EachOf IsWholeValue values
-      → (n : ℕ) → n < length fields → IsSound fields (number_tree fields place j values n)
-  values_sound place j values s h n within = join_map_sound IsWholeValue j (value_tree place (kind n) n) (value_sound place n within) values s h
+    whole_sound : (test : Test) → IsWrittenTest test → IsSoundIfAny kinds.Whole (whole_test test)
+    whole_sound tests.Absent h = tt
+    whole_sound (tests.Exists true) h = tt
+    whole_sound (tests.Exists false) h = tt
+    whole_sound (tests.Fits parts cased) h = pattern_sound parts cased h
+    whole_sound (tests.Equals n) h = number_sound n
 
-  keyword_sound : (place : Place) → HasElement (searched fields) → (ts : List Test) → IsWholeValue ts → IsSound fields (keyword_tree fields place ts)
-  keyword_sound place s ts h =
-      join_map_sound (λ n. n < length fields) Any (λ n. value_tree place (kind n) n ts) (λ n within. value_sound place n within ts h)
-      (searched fields) s (searched_within fields)
+    kind_sound : (kind : FieldKind) (test : Test) → IsWrittenTest test → IsSoundIfAny kind (leaf_test kind test)
+    kind_sound kinds.Text test h = text_sound kinds.Text (λ is. absurd (cc)) test h
+    kind_sound kinds.Whole test h = whole_sound test h
+    kind_sound kinds.Address test h = text_sound kinds.Address (λ is. absurd (cc)) test h
 
-  -- ---- items
+    leaf_sound : (place : Place) (n : ℕ) → n < length fields → (test : Option LeafTest) → IsSoundIfAny (kind_at fields n) test
+        → IsSound fields (leaf_if_any place n test)
+    leaf_sound place n within None h = tt
+    leaf_sound place n within (Some test) h = (within, h)
 
-  fields_sound : (place : Place) (j : Joined) (values : List (List Test)) (fs : Fields) → AreWholeFields fs values → HasElement values → EachOf IsWholeValue values
-      → fields_refusal fields place fs ≡ None → IsSound fields (fields_tree fields place j values fs)
-  fields_sound place j values Keyword w s h fits =
-      join_map_sound IsWholeValue j (keyword_tree fields place) (keyword_sound place (some_searched fields (must_holds 83 place _ fits))) values s h
-  fields_sound place j values (Names names) w s h fits =
-      join_map_sound (λ name. number_of fields name < length fields) Any (λ name. number_tree fields place j values (number_of fields name))
-      (λ name within. values_sound place j values s h (number_of fields name) within)
-      names w.0 (each_name _ (field_within fields) names (must_holds 81 place _ fits))
+    abbrev kind : ℕ → FieldKind
+    kind n = kind_at fields n
 
-  abbrev Passes : Item → Type 0
-  Passes i = fields_refusal fields i.place i.fields ≡ None
+    written_tree_sound : (place : Place) (n : ℕ) → n < length fields → (test : Test) → IsWrittenTest test → IsSound fields (written_tree place (kind n) n test)
+    written_tree_sound place n within test h = leaf_sound place n within (leaf_test (kind n) test) (kind_sound (kind n) test h)
 
-  item_sound : (i : Item) → IsWholeItem i × Passes i → IsSound fields (item_tree fields i)
-  item_sound i h = fields_sound i.place i.joined i.tests i.fields h.0.fields h.0.some h.0.each h.1
+    some_written : (test : Test) → HasElement (written_tests test)
+    some_written tests.Absent = tt
+    some_written (tests.Exists there) = tt
+    some_written (tests.Fits parts cased) = some_map (λ chosen. tests.Fits chosen cased) (choices parts) (some_choice parts)
+    some_written (tests.Equals n) = tt
 
-  alternative_sound : (items : List Item) → IsWholeAlternative items × EachOf Passes items → IsSound fields (alternative_tree fields items)
-  alternative_sound items h =
-      join_map_sound (λ i. IsWholeItem i × Passes i) All (item_tree fields) item_sound items h.0.some (each_both IsWholeItem Passes items h.0.each h.1)
+    each_written : (test : Test) → IsPlainTest test → EachOf IsWrittenTest (written_tests test)
+    each_written tests.Absent h = (tt, tt)
+    each_written (tests.Exists there) h = (tt, tt)
+    each_written (tests.Fits parts cased) h =
+        each_with IsSoundPattern IsWrittenTest (λ chosen. tests.Fits chosen cased) (λ chosen sound. sound) (choices parts) (choices_sound parts h)
+    each_written (tests.Equals n) h = (tt, tt)
 
-  abbrev DetectionPasses : Detection → Type 0
-  DetectionPasses d = EachOf (λ items. EachOf Passes items) d.alternatives
+    test_sound : (place : Place) (n : ℕ) → n < length fields → (test : Test) → IsPlainTest test → IsSound fields (test_tree place (kind n) n test)
+    test_sound place n within test h =
+        join_map_sound IsWrittenTest Any (written_tree place (kind n) n) (written_tree_sound place n within) (written_tests test)
+        (some_written test) (each_written test h)
 
-  detection_sound : (d : Detection) → IsWholeDetection d × DetectionPasses d → IsSound fields (detection_tree fields d)
-  detection_sound d h =
-      join_map_sound (λ items. IsWholeAlternative items × EachOf Passes items) Any (alternative_tree fields) alternative_sound d.alternatives h.0.some
-      (each_both IsWholeAlternative (λ items. EachOf Passes items) d.alternatives h.0.each h.1)
+    value_sound : (place : Place) (n : ℕ) → n < length fields → (ts : List Test) → IsWholeValue ts → IsSound fields (value_tree place (kind n) n ts)
+    value_sound place n within ts h =
+        join_map_sound IsPlainTest Any (test_tree place (kind n) n)
+        (test_sound place n within) ts h.some h.each
 
-  items_pass : (ds : List Detection) → EachOf Passes (items_of ds) → EachOf DetectionPasses ds
-  items_pass ds h =
-      (over_flat All (λ d. flat_map (λ items. items) d.alternatives) Passes DetectionPasses
-      (λ d. over_flat All (λ items. items) Passes (λ items. EachOf Passes items) (λ items. iff_same) d.alternatives) ds).0 h
+    values_sound : (place : Place) (j : Joined) (values : List (List Test)) → HasElement values → EachOf IsWholeValue values
+        → (n : ℕ) → n < length fields → IsSound fields (number_tree fields place j values n)
+    values_sound place j values s h n within = join_map_sound IsWholeValue j (value_tree place (kind n) n) (value_sound place n within) values s h
 
-  -- ---- conditions
+    keyword_sound : (place : Place) → HasElement (searched fields) → (ts : List Test) → IsWholeValue ts → IsSound fields (keyword_tree fields place ts)
+    keyword_sound place s ts h =
+        join_map_sound (λ n. n < length fields) Any (λ n. value_tree place (kind n) n ts) (λ n within. value_sound place n within ts h)
+        (searched fields) s (searched_within fields)
 
-  abbrev Fine : List Detection → Type 0
-  Fine ds = EachOf (λ d. IsWholeDetection d × DetectionPasses d) ds
+    -- ---- items
 
-  numbered_sound : (ds : List Detection) → Fine ds → (n : ℕ) → n < length ds → IsSound fields (numbered_tree fields ds n)
-  numbered_sound [] h n within = absurd (omega arith)
-  numbered_sound (d ∷ ds) h zero within = detection_sound d h.0
-  numbered_sound (d ∷ ds) h (suc n) within = numbered_sound ds h.1 n (omega arith)
+    fields_sound : (place : Place) (j : Joined) (values : List (List Test)) (fs : Fields) → AreWholeFields fs values → HasElement values → EachOf IsWholeValue values
+        → fields_refusal fields place fs ≡ None → IsSound fields (fields_tree fields place j values fs)
+    fields_sound place j values Keyword w s h fits =
+        join_map_sound IsWholeValue j (keyword_tree fields place) (keyword_sound place (some_searched fields (must_holds 83 place _ fits))) values s h
+    fields_sound place j values (Names names) w s h fits =
+        join_map_sound (λ name. number_of fields name < length fields) Any (λ name. number_tree fields place j values (number_of fields name))
+        (λ name within. values_sound place j values s h (number_of fields name) within)
+        names w.0 (each_name _ (field_within fields) names (must_holds 81 place _ fits))
 
-  mutual
-    form_sound : (ds : List Detection) → Fine ds → (f : PlainFormula) → IsWholeForm (length ds) f → IsSound fields (form_tree fields ds f)
-    form_sound ds h (FDetection n) w = numbered_sound ds h n w
-    form_sound ds h (FNot f) w = form_sound ds h f w
-    form_sound ds h (FAnd fs) w = join_sound All (form_trees fields ds fs) (some_forms ds fs w) (some_forms_sound ds h fs w)
-    form_sound ds h (FOr fs) w = join_sound Any (form_trees fields ds fs) (some_forms ds fs w) (some_forms_sound ds h fs w)
+    abbrev Passes : Item → Type 0
+    Passes i = fields_refusal fields i.place i.fields ≡ None
 
-    some_forms_sound : (ds : List Detection) → Fine ds → (fs : PlainFormulas) → AreSomeForms (length ds) fs → EachOf (IsSound fields) (form_trees fields ds fs)
-    some_forms_sound ds h no_forms w = tt
-    some_forms_sound ds h (form f fs) w = (form_sound ds h f w.0, forms_sound ds h fs w.1)
+    item_sound : (i : Item) → IsWholeItem i × Passes i → IsSound fields (item_tree fields i)
+    item_sound i h = fields_sound i.place i.joined i.tests i.fields h.0.fields h.0.some h.0.each h.1
 
-    forms_sound : (ds : List Detection) → Fine ds → (fs : PlainFormulas) → AreWholeForms (length ds) fs → EachOf (IsSound fields) (form_trees fields ds fs)
-    forms_sound ds h no_forms w = tt
-    forms_sound ds h (form f fs) w = (form_sound ds h f w.0, forms_sound ds h fs w.1)
+    alternative_sound : (items : List Item) → IsWholeAlternative items × EachOf Passes items → IsSound fields (alternative_tree fields items)
+    alternative_sound items h =
+        join_map_sound (λ i. IsWholeItem i × Passes i) All (item_tree fields) item_sound items h.0.some (each_both IsWholeItem Passes items h.0.each h.1)
 
-    some_forms : (ds : List Detection) (fs : PlainFormulas) → AreSomeForms (length ds) fs → HasElement (form_trees fields ds fs)
-    some_forms ds no_forms w = absurd w
-    some_forms ds (form f fs) w = tt
+    abbrev DetectionPasses : Detection → Type 0
+    DetectionPasses d = EachOf (λ items. EachOf Passes items) d.alternatives
 
-pub tree_sound : (schema : Schema) (rule : PlainRule) → IsWhole rule → fit_refusal schema rule ≡ None → IsSound schema.fields (tree_of schema rule)
-tree_sound schema rule w fits =
-    let fields = schema.fields in
-    let ds = rule.detections in
-    let pass : EachOf (DetectionPasses fields) ds =
-    items_pass fields ds (each_passes (λ (i : Item). fields_refusal fields i.place i.fields) (items_of ds) fits) in
-    let fine : Fine fields ds = each_both IsWholeDetection (DetectionPasses fields) ds w.detections pass in
-    join_map_sound fields (IsWholeForm (length ds)) Any (form_tree fields ds) (form_sound fields ds fine) rule.conditions w.some w.conditions
+    detection_sound : (d : Detection) → IsWholeDetection d × DetectionPasses d → IsSound fields (detection_tree fields d)
+    detection_sound d h =
+        join_map_sound (λ items. IsWholeAlternative items × EachOf Passes items) Any (alternative_tree fields) alternative_sound d.alternatives h.0.some
+        (each_both IsWholeAlternative (λ items. EachOf Passes items) d.alternatives h.0.each h.1)
+
+    items_pass : (ds : List Detection) → EachOf Passes (items_of ds) → EachOf DetectionPasses ds
+    items_pass ds h =
+        (over_flat All (λ d. flat_map (λ items. items) d.alternatives) Passes DetectionPasses
+        (λ d. over_flat All (λ items. items) Passes (λ items. EachOf Passes items) (λ items. iff_same) d.alternatives) ds).0 h
+
+    -- ---- conditions
+
+    abbrev Fine : List Detection → Type 0
+    Fine ds = EachOf (λ d. IsWholeDetection d × DetectionPasses d) ds
+
+    numbered_sound : (ds : List Detection) → Fine ds → (n : ℕ) → n < length ds → IsSound fields (numbered_tree fields ds n)
+    numbered_sound [] h n within = absurd (omega arith)
+    numbered_sound (d ∷ ds) h zero within = detection_sound d h.0
+    numbered_sound (d ∷ ds) h (suc n) within = numbered_sound ds h.1 n (omega arith)
+
+    mutual
+      form_sound : (ds : List Detection) → Fine ds → (f : PlainFormula) → IsWholeForm (length ds) f → IsSound fields (form_tree fields ds f)
+      form_sound ds h (FDetection n) w = numbered_sound ds h n w
+      form_sound ds h (FNot f) w = form_sound ds h f w
+      form_sound ds h (FAnd fs) w = join_sound All (form_trees fields ds fs) (some_forms ds fs w) (some_forms_sound ds h fs w)
+      form_sound ds h (FOr fs) w = join_sound Any (form_trees fields ds fs) (some_forms ds fs w) (some_forms_sound ds h fs w)
+
+      some_forms_sound : (ds : List Detection) → Fine ds → (fs : PlainFormulas) → AreSomeForms (length ds) fs → EachOf (IsSound fields) (form_trees fields ds fs)
+      some_forms_sound ds h no_forms w = tt
+      some_forms_sound ds h (form f fs) w = (form_sound ds h f w.0, forms_sound ds h fs w.1)
+
+      forms_sound : (ds : List Detection) → Fine ds → (fs : PlainFormulas) → AreWholeForms (length ds) fs → EachOf (IsSound fields) (form_trees fields ds fs)
+      forms_sound ds h no_forms w = tt
+      forms_sound ds h (form f fs) w = (form_sound ds h f w.0, forms_sound ds h fs w.1)
+
+      some_forms : (ds : List Detection) (fs : PlainFormulas) → AreSomeForms (length ds) fs → HasElement (form_trees fields ds fs)
+      some_forms ds no_forms w = absurd w
+      some_forms ds (form f fs) w = tt
+
+  pub tree_sound : (schema : Schema) (rule : PlainRule) → IsWhole rule → fit_refusal schema rule ≡ None → IsSound schema.fields (tree_of schema rule)
+  tree_sound schema rule w fits =
+      let fields = schema.fields in
+      let ds = rule.detections in
+      let pass : EachOf (DetectionPasses fields) ds =
+      items_pass fields ds (each_passes (λ (i : Item). fields_refusal fields i.place i.fields) (items_of ds) fits) in
+      let fine : Fine fields ds = each_both IsWholeDetection (DetectionPasses fields) ds w.detections pass in
+      join_map_sound fields (IsWholeForm (length ds)) Any (form_tree fields ds) (form_sound fields ds fine) rule.conditions w.some w.conditions

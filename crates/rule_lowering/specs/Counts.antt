@@ -1,5 +1,6 @@
 -- The code's own count of the tests of a rule's tree, made before the tree.
-use Rattle.std.specs.Prelude.{ℕ, ◌+◌, ◌*◌, min, List, length, map, sum_by, slice_index}
+use Rattle.std.specs.Prelude.{ℕ, ◌+◌, ◌*◌, ◌^◌, min, List, length, map, sum_by, slice_index}
+use Rattle.dash_choices.specs.Choices.{dash_count}
 use Rattle.rule_model.specs.Plain.{PlainRule}
 use Rattle.rule_items.specs.declared.detection.Detection.{Detection}
 use Rattle.rule_items.specs.declared.item.Fields.{Fields}
@@ -7,9 +8,20 @@ use Rattle.rule_items.specs.declared.item.Fields.TheVariants.{Keyword, Names}
 use Rattle.rule_items.specs.declared.item.Item.{Item}
 use Rattle.sig_conditions.specs.Formulas.{PlainFormula, FDetection, FNot, FAnd, FOr, PlainFormulas, no_forms, form, forms_of}
 use Rattle.sig_modifiers.specs.declared.test.Test.{Test}
+use Rattle.sig_modifiers.specs.declared.test.Test.TheVariants as tests
+
+-- five dashes at each place
+abbrev pub test_count : Test → ℕ
+test_count tests.Absent = 1
+test_count (tests.Exists there) = 1
+test_count (tests.Fits pattern cased) = 5 ^ dash_count pattern
+test_count (tests.Equals n) = 1
+
+abbrev pub value_count : List Test → ℕ
+value_count value = sum_by test_count value
 
 abbrev pub values_count : List (List Test) → ℕ
-values_count values = sum_by (λ tests. length tests) values
+values_count values = sum_by value_count values
 
 -- how many fields an item asks about, where keywords search so many
 abbrev pub width : ℕ → Fields → ℕ

@@ -1,5 +1,5 @@
 -- The tree of tests that a rule is under a schema (Sigma specification 2.0, detection and condition). What a test asks goes by
--- the kind of its field.
+-- the kind of its field, and a pattern with dash places (modifier `windash`) is each of its choices of dashes.
 use Rattle.std.specs.Prelude.{ℕ, zero, suc, true, false, if◌then◌else◌, List, [], ◌∷◌, map, Option, Some, None, option_map}
 use Rattle.std.specs.Fmt.{signed_decimal}
 use Rattle.backend_core.specs.Sound.{kind_at}
@@ -10,6 +10,7 @@ use Rattle.event_schema.specs.declared.schema.Field.{Field}
 use Rattle.event_schema.specs.declared.schema.FieldKind.{FieldKind}
 use Rattle.event_schema.specs.declared.schema.FieldKind.TheVariants as kinds
 use Rattle.event_schema.specs.declared.schema.Schema.{Schema}
+use Rattle.dash_choices.specs.Choices.{choices}
 use Rattle.field_numbers.specs.Numbers.{number_of, searched}
 use Rattle.rule_model.specs.Plain.{PlainRule}
 use Rattle.rule_items.specs.declared.detection.Detection.{Detection}
@@ -18,8 +19,8 @@ use Rattle.rule_items.specs.declared.item.Fields.TheVariants.{Keyword, Names}
 use Rattle.rule_items.specs.declared.item.Item.{Item}
 use Rattle.sig_base.specs.declared.refusal.Place.{Place}
 use Rattle.sig_conditions.specs.Formulas.{PlainFormula, FDetection, FNot, FAnd, FOr, PlainFormulas, no_forms, form}
-use Rattle.sig_modifiers.specs.declared.modifier.Joined.{Joined}
-use Rattle.sig_modifiers.specs.declared.modifier.Joined.TheVariants.{All, Any}
+use Rattle.modifier_chains.specs.declared.modifier.Joined.{Joined}
+use Rattle.modifier_chains.specs.declared.modifier.Joined.TheVariants.{All, Any}
 use Rattle.sig_modifiers.specs.declared.test.Test.{Test}
 use Rattle.sig_modifiers.specs.declared.test.Test.TheVariants as tests
 use Rattle.sig_strings.specs.Edits.{has_wildcard, plain_text}
@@ -55,9 +56,20 @@ abbrev pub leaf_if_any : Place → ℕ → Option LeafTest → Plain
 leaf_if_any place field None = never
 leaf_if_any place field (Some test) = leaf (record { field = field; test = test; place = place })
 
--- a test at the field of this number, which is of this kind
+-- what a query language can say of a test at the field of this number, which is of this kind
+abbrev pub written_tree : Place → FieldKind → ℕ → Test → Plain
+written_tree place kind field test = leaf_if_any place field (leaf_test kind test)
+
+-- the tests that stand for a test where a language has no place for any dash: for a pattern one for each choice of dashes
+abbrev pub written_tests : Test → List Test
+written_tests tests.Absent = tests.Absent ∷ []
+written_tests (tests.Exists there) = tests.Exists there ∷ []
+written_tests (tests.Fits pattern cased) = map (λ chosen. tests.Fits chosen cased) (choices pattern)
+written_tests (tests.Equals n) = tests.Equals n ∷ []
+
+-- a test is any of those that stand for it
 abbrev pub test_tree : Place → FieldKind → ℕ → Test → Plain
-test_tree place kind field test = leaf_if_any place field (leaf_test kind test)
+test_tree place kind field test = join Any (map (written_tree place kind field) (written_tests test))
 
 -- a value is any of its tests
 abbrev pub value_tree : Place → FieldKind → ℕ → List Test → Plain

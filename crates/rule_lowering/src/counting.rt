@@ -5,11 +5,12 @@ ghost use Rattle.rule_lowering.specs.Counts as spec;
 ghost use Rattle.rule_model.specs.Plain.{rule_view};
 ghost use Rattle.sig_conditions.specs.Formulas.{form_view, forms_view, forms_of, numbered};
 
+use dash_choices::dash_count;
 use rule_items::{Alternative, Detection, Fields, Item};
 use rule_model::Rule;
 use sig_base::Fault;
 use sig_conditions::Formula;
-use sig_modifiers::Tests;
+use sig_modifiers::{Test, Tests};
 use std::alloc::Global;
 
 /// The greatest number that is told.
@@ -29,12 +30,42 @@ fn times(count: u128, fields: usize) -> u128
     count.saturating_mul(fields as u128).min(MOST)
 }
 
+/// The choices of dashes at so many places.
+fn count_choices(places: usize) -> u128
+    ensures { result ≡ min (5 ^ places) (2 ^ 127 - 1) }
+{
+    let mut count = 1;
+    for _ in 0..places {
+        count = times(count, 5);
+    }
+    count
+}
+
+fn count_test(test: &Test) -> u128
+    ensures { result ≡ min (spec.test_count test.now) (2 ^ 127 - 1) }
+{
+    match test {
+        Test::Fits { pattern, .. } => count_choices(dash_count(pattern)),
+        Test::Absent | Test::Exists(_) | Test::Equals(_) => 1,
+    }
+}
+
+fn count_value(tests: &[Test]) -> u128
+    ensures { result ≡ min (spec.value_count tests.now) (2 ^ 127 - 1) }
+{
+    let mut count = 0;
+    for test in tests {
+        count = add(count, count_test(test));
+    }
+    count
+}
+
 fn count_values(values: &[Tests]) -> u128
     ensures { result ≡ min (spec.values_count values.now) (2 ^ 127 - 1) }
 {
     let mut count = 0;
     for value in values {
-        count = add(count, value.as_slice().len() as u128);
+        count = add(count, count_value(value.as_slice()));
     }
     count
 }

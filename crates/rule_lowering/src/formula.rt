@@ -12,10 +12,10 @@ use crate::lowering::lower_numbered;
 use backend_core::Tree;
 use event_schema::Field;
 use field_numbers::FieldNumbers;
+use modifier_chains::Joined;
 use rule_items::Detection;
 use sig_base::Fault;
 use sig_conditions::Formula;
-use sig_modifiers::Joined;
 use std::alloc::Global;
 
 /// All of the detections of some numbers, or any of them.

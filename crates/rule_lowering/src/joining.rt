@@ -4,10 +4,10 @@ ghost use Rattle.std.specs.Prelude.{◌≡◌, ◌++◌, OnOk, map};
 ghost use Rattle.backend_core.specs.View.{tree_view, plains_of};
 ghost use Rattle.rule_lowering.specs.Joining as spec;
 ghost use Rattle.rule_lowering.specs.Joining.{parts_of, closed};
-ghost use Rattle.sig_modifiers.specs.declared.modifier.Joined.TheVariants.{All, Any};
+ghost use Rattle.modifier_chains.specs.declared.modifier.Joined.TheVariants.{All, Any};
 
 use backend_core::Tree;
-use sig_modifiers::Joined;
+use modifier_chains::Joined;
 use std::alloc::AllocError;
 
 fn add_to_all(parts: &mut Vec<Tree>, tree: Tree) -> Result<(), AllocError>

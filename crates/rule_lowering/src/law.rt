@@ -12,7 +12,9 @@ ghost use Rattle.rule_model.specs.Plain.{PlainRule};
 ghost use Rattle.rule_model.specs.Whole.{IsWhole};
 ghost use Rattle.rule_lowering.specs.TreeOf.{tree_of};
 
+use dash_choices::choices_fit;
 use sig_strings::plain_fits;
+use value_patterns::choices_are_plain;
 
 /// The tree of a rule holds of an event exactly where the rule matches it.
 pub fn tree_means_rule()
@@ -20,10 +22,13 @@ pub fn tree_means_rule()
         → IsEvent schema.fields row → TreeHolds row (tree_of schema rule) ↔ Matches schema.fields row rule }
 {
     plain_fits();
+    choices_fit();
 }
 
 /// The tree of a whole rule that fits the schema is sound.
 pub fn tree_is_sound()
     ensures { (schema : Schema) (rule : PlainRule)
         → IsWhole rule → fit_refusal schema rule ≡ None → IsSound schema.fields (tree_of schema rule) }
-{}
+{
+    choices_are_plain();
+}

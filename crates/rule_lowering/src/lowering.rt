@@ -9,17 +9,21 @@ ghost use Rattle.field_numbers.specs.Numbered.{AreNumbered};
 ghost use Rattle.field_numbers.specs.Numbers.{number_of};
 ghost use Rattle.rule_lowering.specs.TreeOf as spec;
 ghost use Rattle.rule_items.specs.declared.item.Fields.TheVariants.{Keyword, Names};
-ghost use Rattle.sig_modifiers.specs.declared.modifier.Joined.TheVariants.{Any};
+ghost use Rattle.modifier_chains.specs.declared.modifier.Joined.TheVariants.{Any};
+ghost use Rattle.sig_modifiers.specs.declared.test.Test.TheVariants.{Fits};
 
 use crate::field_kind::kind_of;
 use crate::joining::{add_part, close_parts};
 use crate::leaf_tests::leaf_test;
 use backend_core::{Leaf, LeafTest, Tree};
+use dash_choices::{choice, dash_count};
 use event_schema::{Field, FieldKind};
 use field_numbers::FieldNumbers;
+use modifier_chains::Joined;
 use rule_items::{Detection, Fields, Item};
 use sig_base::{Fault, Place, Text};
-use sig_modifiers::{Joined, Test, Tests};
+use sig_modifiers::{Test, Tests};
+use sig_strings::SharedPattern;
 use std::alloc::Global;
 
 fn leaf_if_any(place: Place, field: u32, test: Option<LeafTest>) -> Tree
@@ -31,8 +35,59 @@ fn leaf_if_any(place: Place, field: u32, test: Option<LeafTest>) -> Tree
     }
 }
 
+/// A test without dash places at a field of this kind.
+fn lower_written(
+    alloc: Global,
+    place: Place,
+    kind: FieldKind,
+    field: u32,
+    test: &Test,
+) -> Result<Tree, Fault>
+    ensures ok { IfOk result (λ t. tree_view t ≡ spec.written_tree place kind field test.now) }
+    ensures err { IfErr result (λ e. e ≡ Fault.Memory) }
+{
+    let test = leaf_test(alloc, kind, test)?;
+    Ok(leaf_if_any(place, field, test))
+}
+
+/// One choice of dashes at a field of this kind.
+fn lower_choice(
+    alloc: Global,
+    place: Place,
+    kind: FieldKind,
+    field: u32,
+    pattern: SharedPattern,
+    cased: bool,
+) -> Result<Tree, Fault>
+    ensures ok { IfOk result (λ t. tree_view t ≡ spec.written_tree place kind field (Fits pattern cased)) }
+    ensures err { IfErr result (λ e. e ≡ Fault.Memory) }
+{
+    let test = Test::Fits { pattern, cased };
+    lower_written(alloc, place, kind, field, &test)
+}
+
+/// A pattern's choices of dashes, made one by one.
+fn lower_choices(
+    alloc: Global,
+    place: Place,
+    kind: FieldKind,
+    field: u32,
+    pattern: &SharedPattern,
+    cased: bool,
+) -> Result<Tree, Fault>
+    ensures ok { IfOk result (λ t. tree_view t ≡ spec.test_tree place kind field (Fits pattern.now cased)) }
+    ensures err { IfErr result (λ e. e ≡ Fault.Memory) }
+{
+    let mut parts = Vec::new(alloc);
+    while let Some(chosen) = choice(alloc, pattern, parts.len() as u64)? {
+        let part = lower_choice(alloc, place, kind, field, chosen, cased)?;
+        parts.push(part)?;
+    }
+    Ok(close_parts(Joined::Any, parts))
+}
+
 /// A test at a field of this kind.
-fn lower_leaf(
+fn lower_test(
     alloc: Global,
     place: Place,
     kind: FieldKind,
@@ -42,8 +97,17 @@ fn lower_leaf(
     ensures ok { IfOk result (λ t. tree_view t ≡ spec.test_tree place kind field test.now) }
     ensures err { IfErr result (λ e. e ≡ Fault.Memory) }
 {
-    let test = leaf_test(alloc, kind, test)?;
-    Ok(leaf_if_any(place, field, test))
+    match test {
+        Test::Fits { pattern, cased } => {
+            if dash_count(pattern) == 0 {
+                return lower_written(alloc, place, kind, field, test);
+            }
+            lower_choices(alloc, place, kind, field, pattern, *cased)
+        }
+        Test::Absent | Test::Exists(_) | Test::Equals(_) => {
+            lower_written(alloc, place, kind, field, test)
+        }
+    }
 }
 
 /// A value at a field.
@@ -58,11 +122,11 @@ fn lower_value(
     ensures err { IfErr result (λ e. e ≡ Fault.Memory) }
 {
     if let [test] = tests {
-        return lower_leaf(alloc, place, kind, field, test);
+        return lower_test(alloc, place, kind, field, test);
     }
     let mut parts = Vec::new(alloc);
     for test in tests {
-        let part = lower_leaf(alloc, place, kind, field, test)?;
+        let part = lower_test(alloc, place, kind, field, test)?;
         add_part(Joined::Any, &mut parts, part)?;
     }
     Ok(close_parts(Joined::Any, parts))

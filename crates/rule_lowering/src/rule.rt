@@ -18,11 +18,12 @@ use crate::counting::count_rule;
 use crate::formula::lower_formulas;
 use crate::law::{tree_is_sound, tree_means_rule};
 use backend_core::Tree;
+use dash_choices::choices_are_counted;
 use event_schema::Schema;
 use field_numbers::FieldNumbers;
+use modifier_chains::Joined;
 use rule_model::Rule;
 use sig_base::{Code, Detail, Fault, Limits, Place, Refusal};
-use sig_modifiers::Joined;
 use std::alloc::Global;
 
 fn too_many(place: Place, count: u128, limit: usize) -> Fault
@@ -49,6 +50,7 @@ pub fn lower(alloc: Global, limits: &Limits, rule: &Rule, schema: &Schema) -> Re
 {
     tree_means_rule();
     tree_is_sound();
+    choices_are_counted();
     let fields = schema.fields.as_slice();
     let numbers = FieldNumbers::of(alloc, fields)?;
     let count = count_rule(alloc, numbers.searched().len(), rule)?;

@@ -5,12 +5,13 @@ ghost use Rattle.std.specs.Prelude.{◌≤◌};
 use crate::lower;
 use backend_core::{Leaf, LeafTest, Tree};
 use event_schema::{Field, FieldKind, FieldList, Schema};
+use modifier_chains::Joined;
 use rule_head::{Head, LogSource};
 use rule_items::{Alternative, Alternatives, Detection, Detections, Fields, Item, Values};
 use rule_model::Rule;
 use sig_base::{Code, Detail, Fault, Limits, Place, Text, Texts};
 use sig_conditions::{DetectionNumbers, Formula};
-use sig_modifiers::{Joined, Test, Tests};
+use sig_modifiers::{Test, Tests};
 use sig_strings::{Pattern, SharedPattern};
 use std::alloc::Global;
 use std::test::Fail;
@@ -295,6 +296,54 @@ fn texts_of_whole_numbers(rt: HostRuntime) -> Result<(), Fail> {
     Ok(())
 }
 
+/// The test that `windash` makes of a text.
+fn dashed(alloc: Global, text: &str) -> Result<Tests, Fail> {
+    let pattern = Pattern::read(alloc, &Limits::standard(), text, false, KEY)?;
+    let pattern = SharedPattern::share(alloc, pattern.dashes())?;
+    let mut tests = Tests::new(alloc);
+    tests.push(Test::Fits {
+        pattern,
+        cased: true,
+    })?;
+    Ok(tests)
+}
+
+/// The kind of a field, `=`, a text, `=`, and the tree that its pattern with dash places gives.
+const DASHED: &str = "text=*-a=(0=*-a|0=*/a|0=*–a|0=*—a|0=*―a|)
+text=a-b=0=a-b
+whole=-5=(0#-5|never|never|never|never|)
+whole=/5*=(0=-5*|0=/5*|0=–5*|0=—5*|0=―5*|)";
+
+#[test]
+fn each_choice_of_dashes(rt: HostRuntime) -> Result<(), Fail> {
+    let alloc = rt.alloc();
+    for line in DASHED.lines() {
+        let Some((kind, rest)) = line.split_once('=') else {
+            continue;
+        };
+        let Some((text, want)) = rest.split_once('=') else {
+            continue;
+        };
+        let kind = if kind == "whole" {
+            FieldKind::Whole
+        } else {
+            FieldKind::Text
+        };
+        let tree = shown_value(alloc, kind, dashed(alloc, text)?)?;
+        assert_eq!(rt; tree.as_str(), want);
+    }
+    Ok(())
+}
+
+#[test]
+fn choices_are_counted(rt: HostRuntime) -> Result<(), Fail> {
+    let alloc = rt.alloc();
+    let mut all = item(alloc, ["A", "B"].as_slice(), Joined::Any, ["c"].as_slice())?;
+    all.tests.push(dashed(alloc, " -a /b -c")?)?;
+    assert_eq!(rt; refused_leaves(alloc, all, 251)?, 252);
+    Ok(())
+}
+
 #[test]
 fn numbers(rt: HostRuntime) -> Result<(), Fail> {
     let alloc = rt.alloc();
@@ -428,35 +477,42 @@ fn conditions(rt: HostRuntime) -> Result<(), Fail> {
     Ok(())
 }
 
-/// Whether a rule of this many values is refused at its place, with these numbers.
-fn is_refused(alloc: Global, values: u32, limit: usize) -> Result<bool, Fail>
+/// How many leaves a rule of this item is refused for at its place, or 0 where it isn't.
+fn refused_leaves(alloc: Global, item: Item, limit: usize) -> Result<i128, Fail>
     requires low { 1 ≤ limit }
     requires high { limit ≤ 16384 }
 {
-    let mut all = item(alloc, ["A"].as_slice(), Joined::Any, [].as_slice())?;
-    for _ in 0..values {
-        all.tests.push(fits(alloc, "a")?)?;
-    }
     let mut detections = Detections::new(alloc);
-    detections.push(detection(alloc, all)?)?;
+    detections.push(detection(alloc, item)?)?;
     let rule = rule(alloc, detections, numbered(alloc, [0].as_slice())?)?;
     let mut limits = Limits::standard();
     limits.leaves = limit;
-    let schema = schema(alloc, &[("A", false)])?;
+    let schema = schema(alloc, &[("A", false), ("B", false)])?;
     let Err(Fault::Refused(refusal)) = lower(alloc, &limits, &rule, &schema) else {
-        return Ok(false);
+        return Ok(0);
     };
-    let numbers = match &refusal.detail {
-        Detail::Numbers(count, most) => *count == 2000 && *most == 1999,
-        _ => false,
-    };
-    Ok(numbers && refusal.code == Code::TOO_MANY_LEAVES && refusal.place == RULE)
+    if refusal.code != Code::TOO_MANY_LEAVES || refusal.place != RULE {
+        return Ok(-1);
+    }
+    match &refusal.detail {
+        Detail::Numbers(count, most) if *most == limit as i128 => Ok(*count),
+        _ => Ok(-1),
+    }
+}
+
+/// An item of this many values.
+fn values(alloc: Global, count: u32) -> Result<Item, Fail> {
+    let mut all = item(alloc, ["A"].as_slice(), Joined::Any, [].as_slice())?;
+    for _ in 0..count {
+        all.tests.push(fits(alloc, "a")?)?;
+    }
+    Ok(all)
 }
 
 #[test]
 fn too_many_tests(rt: HostRuntime) -> Result<(), Fail> {
     let alloc = rt.alloc();
-    assert!(rt; is_refused(alloc, 2000, 1999)?);
-    assert!(rt; !is_refused(alloc, 2000, 2000)?);
+    assert_eq!(rt; refused_leaves(alloc, values(alloc, 2000)?, 1999)?, 2000);
+    assert_eq!(rt; refused_leaves(alloc, values(alloc, 2000)?, 2000)?, 0);
     Ok(())
 }

@@ -5,8 +5,8 @@ use Rattle.event_schema.specs.declared.value.Value.{Value}
 use Rattle.event_schema.specs.Rows.{field_number, values_if_any}
 use Rattle.sig_conditions.specs.Formulas.{PlainFormula, FDetection, FNot, FAnd, FOr, PlainFormulas, no_forms, form}
 use Rattle.sig_modifiers.specs.Holds.{Holds}
-use Rattle.sig_modifiers.specs.declared.modifier.Joined.{Joined}
-use Rattle.sig_modifiers.specs.declared.modifier.Joined.TheVariants.{All, Any}
+use Rattle.modifier_chains.specs.declared.modifier.Joined.{Joined}
+use Rattle.modifier_chains.specs.declared.modifier.Joined.TheVariants.{All, Any}
 use Rattle.sig_modifiers.specs.declared.test.Test.{Test}
 use Rattle.event_schema.specs.Lists.{EachOf, SomeOf}
 use Rattle.rule_model.specs.Plain.{PlainRule}

@@ -9,8 +9,8 @@ use Rattle.sig_conditions.specs.Grammar.{ConditionReads}
 use Rattle.sig_conditions.specs.Words.{words}
 use Rattle.sig_conditions.specs.declared.word.Word.{Word}
 use Rattle.sig_modifiers.specs.TestsOf.{TestsOf}
-use Rattle.sig_modifiers.specs.Written.{Written}
-use Rattle.sig_modifiers.specs.declared.modifier.Joined.{Joined}
+use Rattle.modifier_chains.specs.Written.{Written}
+use Rattle.modifier_chains.specs.declared.modifier.Joined.{Joined}
 use Rattle.sig_modifiers.specs.declared.test.Test.{Test}
 use Rattle.yaml_tree.specs.Tree.{Tree, scalar, list, map, Member}
 use Rattle.rule_model.specs.Conditions.{names_of, IsFormula, conditions_in, AreConditions}

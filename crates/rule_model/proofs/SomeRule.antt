@@ -10,11 +10,11 @@ use Rattle.sig_conditions.specs.Formulas.{PlainFormula, FDetection, FNot, FAnd, 
 use Rattle.sig_conditions.specs.Taken.{number_of, taken}
 use Rattle.sig_conditions.specs.Words.{has_bar, nesting, words}
 use Rattle.sig_conditions.proofs.Sound.{is_condition}
-use Rattle.sig_modifiers.specs.Chains.{chain_refusal, joined_of}
+use Rattle.modifier_chains.specs.Chains.{chain_refusal, joined_of}
 use Rattle.sig_base.specs.Judged.{must, first}
 use Rattle.sig_modifiers.specs.TestsOf.{TestsOf, value_refusal}
 use Rattle.yaml_tree.specs.Nodes.{place_of}
-use Rattle.sig_modifiers.specs.Written.{Written}
+use Rattle.modifier_chains.specs.Written.{Written}
 use Rattle.sig_modifiers.specs.declared.test.Test.{Test}
 use Rattle.yaml_tree.specs.Tree.{Tree, scalar, list, map as tree_map, Member}
 use Rattle.rule_model.specs.Conditions.{condition_of, first_fault, unresolved, condition_refusal, IsFormula, names_of, listed_refusal, conditions_refusal, conditions_in, AreConditions}
@@ -172,13 +172,13 @@ conditions_some limits t none =
 
 -- ---- items, alternatives, detections
 
-module _ (tests_some : (most : ℕ) (chain : Written) (value : Tree) → value_refusal most chain value ≡ None → (tests : List Test) × TestsOf chain value tests) where
+module _ (tests_some : (most dashes : ℕ) (chain : Written) (value : Tree) → value_refusal most dashes chain value ≡ None → (tests : List Test) × TestsOf chain value tests) where
   values_all : (limits : Limits) (chain : Written) (place : Place) (t : Tree) → values_refusal limits chain place t ≡ None
       → (all : List (List Test)) × AllZip (TestsOf chain) (parts_in t) all
   values_all limits chain place t none =
       let lines = four_hold (first (map shape_refusal (parts_in t))) (must 78 (place_of t) (not (is_empty (parts_in t))))
-      (must 79 place (nat_le (length (parts_in t)) limits.list_values)) (first (map (value_refusal limits.value_chars chain) (parts_in t))) none in
-      zip_all (TestsOf chain) (value_refusal limits.value_chars chain) (tests_some limits.value_chars chain) (parts_in t) lines.3
+      (must 79 place (nat_le (length (parts_in t)) limits.list_values)) (first (map (value_refusal limits.value_chars limits.dashes chain) (parts_in t))) none in
+      zip_all (TestsOf chain) (value_refusal limits.value_chars limits.dashes chain) (tests_some limits.value_chars limits.dashes chain) (parts_in t) lines.3
 
   item_some : (limits : Limits) (e : Member) → item_refusal limits e ≡ None → (i : Item) × IsItem e i
   item_some limits e none =
@@ -191,7 +191,7 @@ module _ (tests_some : (most : ℕ) (chain : Written) (value : Tree) → value_r
 
   keyword_some : (limits : Limits) (t : Tree) → keyword_refusal limits t ≡ None → (i : Item) × IsKeyword t i
   keyword_some limits t none =
-      let one = tests_some limits.value_chars (bare_chain t) t none in (
+      let one = tests_some limits.value_chars limits.dashes (bare_chain t) t none in (
         record { fields = Keyword; tests = one.0 ∷ []; joined = joined_of (bare_chain t); place = place_of t },
         record { fields = refl; tests = (one.1, tt); joined = refl; place = refl },
       )

@@ -1,32 +1,21 @@
 -- A rule of a node that isn't refused, and whose texts are of scalar values, is whole.
 use Rattle.std.proofs.Common.{ℕ, zero, suc, ◌≡◌, ◌/◌, ◌%◌, ◌<◌, ℤ, pos, negsuc, Bool, true, false, not, ◌||◌, ◌==◌, nat_lt, nat_le, if◌then◌else◌, List, [], ◌∷◌, length, map, refl, sym, ap, ◌∙◌, subst, arith}
 use Rattle.std.specs.Prelude.{Option, Some, None, codes, filter, is_some}
-use Rattle.std.specs.Fmt.{digit_glyph, digits_onto, digits, signed_decimal}
 use Rattle.std.specs.List.{AllZip, list_all, list_any}
 use Rattle.std.specs.Str.{all_scalars, bytes_eq}
 use Rattle.std.proofs.lemmas.Bool.{and_parts, and_from}
 use Rattle.std.proofs.lemmas.Bool.Decides.{nat_tests}
 use Rattle.std.proofs.Math.Utf8.{scalar}
-use Rattle.sig_base.specs.Texts.{is_ascii}
 use Rattle.sig_base.specs.declared.limits.Limits.{Limits}
 use Rattle.sig_base.specs.declared.refusal.Place.{Place}
 use Rattle.sig_base.specs.declared.refusal.Refusal.{Refusal}
-use Rattle.sig_base.proofs.TextLemmas.{ascii_scalars}
-use Rattle.sig_modifiers.specs.Chains.{chain_of, chain_refusal}
+use Rattle.modifier_chains.specs.Chains.{chain_refusal}
 use Rattle.sig_base.specs.Judged.{must, first}
-use Rattle.sig_modifiers.specs.Kinds.{is_plain}
-use Rattle.sig_modifiers.specs.PlainTests.{ArePlainTests}
-use Rattle.sig_modifiers.specs.TestsOf.{Use, unused, absent, existing, pattern, number, UseTests, TestsOf, use_of, form_of, form_use, scalar_use, truth_text, has_nul, use_refusal, value_refusal}
+use Rattle.sig_modifiers.specs.PlainTests.{ArePlainTests, IsPatternTest}
+use Rattle.sig_modifiers.specs.TestsOf.{TestsOf, value_refusal}
 use Rattle.yaml_tree.specs.Nodes.{place_of}
-use Rattle.sig_modifiers.specs.Written.{Written}
-use Rattle.sig_modifiers.specs.declared.form.ChainForm as forms
-use Rattle.sig_modifiers.specs.declared.form.ChainForm.TheVariants.{Bare, Presence, Texts}
+use Rattle.modifier_chains.specs.Written.{Written}
 use Rattle.sig_modifiers.specs.declared.test.Test.{Test}
-use Rattle.sig_modifiers.specs.declared.test.Test.TheVariants as tests
-use Rattle.sig_modifiers.proofs.PlainLemmas.{spells_plain, plain_pattern_of}
-use Rattle.sig_strings.specs.Edits.{all_written, plain_text}
-use Rattle.sig_strings.specs.Spells.{Spells}
-use Rattle.sig_strings.specs.declared.part.Part.{Part}
 use Rattle.yaml_tree.specs.Texts.{IsScalarText, HasScalarTexts, HaveScalarTexts, MembersHave}
 use Rattle.yaml_tree.specs.Tree.{Scalar, null, truth, whole, text, Tree, scalar as scalar_node, list, map as tree_map, Elements, no_elements, element, Members, no_members, member, Member}
 use Rattle.rule_model.specs.Conditions.{conditions_refusal}
@@ -35,7 +24,7 @@ use Rattle.rule_head.specs.Heads.{head_checks}
 use Rattle.rule_items.specs.Items.{key_chain, shape_refusal, values_refusal, item_refusal, IsItem, bare_chain, keyword_refusal, IsKeyword}
 use Rattle.rule_items.specs.Keys.{pieces, name_in, words_in, is_keyword_key, is_item_key}
 use Rattle.yaml_tree.specs.Nodes.{is_empty}
-use Rattle.event_schema.specs.Lists.{EachOf}
+use Rattle.event_schema.specs.Lists.{EachOf, HasElement}
 use Rattle.yaml_tree.specs.Nodes.{is_map, is_null, listed, entered, entries_in, parts_in, key_place, value_in, refused_by}
 use Rattle.rule_model.specs.Plain.{PlainRule}
 use Rattle.rule_model.specs.Rules.{rule_refusal, IsRule}
@@ -80,25 +69,6 @@ name_scalars (c ∷ cs) h =
       | false ↦ and_from (scalar c) (all_scalars (name_in cs)) both.0 (name_scalars cs both.1)
     ]
 
-digit_ascii : (d : ℕ) → d < 10 → nat_lt (digit_glyph false d) 128 ≡ true
-digit_ascii d h = grind (arith, nat_tests)
-
-digits_ascii : (k n : ℕ) (acc : List ℕ) → is_ascii acc ≡ true → is_ascii (digits_onto k 10 false n acc) ≡ true
-digits_ascii zero n acc h = h
-digits_ascii (suc k) n acc h =
-    let small : n % 10 < 10 = omega arith in
-    let now : is_ascii (digit_glyph false (n % 10) ∷ acc) ≡ true = and_from _ _ (digit_ascii (n % 10) small) h in
-    elim (n / 10 == 0) as (λ (b : Bool). is_ascii (if b then digit_glyph false (n % 10) ∷ acc else digits_onto k 10 false (n / 10) (digit_glyph false (n % 10) ∷ acc)) ≡ true)
-    [ true ↦ now | false ↦ digits_ascii k (n / 10) (digit_glyph false (n % 10) ∷ acc) now ]
-
-all_digits_ascii : (n : ℕ) → is_ascii (digits 10 false n) ≡ true
-unfolding digits
-all_digits_ascii n = digits_ascii 64 n [] refl
-
-decimal_ascii : (n : ℤ) → is_ascii (signed_decimal n) ≡ true
-decimal_ascii (pos n) = all_digits_ascii n
-decimal_ascii (negsuc n) = all_digits_ascii (suc n)
-
 abbrev IsScalarMember : Member → Type 0
 IsScalarMember e = (all_scalars e.key ≡ true) × HasScalarTexts e.value
 
@@ -136,91 +106,36 @@ each_kept P p (x ∷ xs) each =
       | false ↦ each_kept P p xs each.1
     ]
 
--- ---- patterns
+-- ---- values
 
-abbrev IsScalarUse : Use → Type 0
-IsScalarUse unused = Unit {0}
-IsScalarUse absent = Unit {0}
-IsScalarUse (existing b) = Unit {0}
-IsScalarUse (pattern t) = all_scalars t ≡ true
-IsScalarUse (number n) = Unit {0}
-
-truth_scalars : (b : Bool) → all_scalars (truth_text b) ≡ true
-truth_scalars true = refl
-truth_scalars false = refl
-
-null_scalars : (nulls : Bool) → IsScalarUse (if nulls then absent else unused)
-null_scalars true = tt
-null_scalars false = tt
-
-scalar_uses : (form : forms.ChainForm) (s : Scalar) → IsScalarText s → IsScalarUse (scalar_use form s)
-scalar_uses Bare null h = tt
-scalar_uses Bare (truth b) h = truth_scalars b
-scalar_uses Bare (whole n) h = tt
-scalar_uses Bare (text t) h = h
-scalar_uses Presence null h = tt
-scalar_uses Presence (truth b) h = tt
-scalar_uses Presence (whole n) h = tt
-scalar_uses Presence (text t) h = tt
-scalar_uses (Texts nulls) null h = null_scalars nulls
-scalar_uses (Texts nulls) (truth b) h = truth_scalars b
-scalar_uses (Texts nulls) (whole n) h = ascii_scalars (signed_decimal n) (decimal_ascii n)
-scalar_uses (Texts nulls) (text t) h = h
-
-node_uses : (form : forms.ChainForm) (t : Tree) → HasScalarTexts t → IsScalarUse (form_use form t)
-node_uses form (scalar_node a s) h = scalar_uses form s h
-node_uses form (list a es) h = tt
-node_uses form (tree_map a ms) h = tt
-
-module _ (plain_tests : (most : ℕ) (chain : Written) (value : Tree) (ts : List Test) → value_refusal most chain value ≡ None → TestsOf chain value ts → list_all is_plain ts ≡ true) where
-  -- as the test that a field without modifiers makes of a text
-  text_written : (most : ℕ) (place : Place) (t : List ℕ) (parts : List Part) → use_refusal most place (pattern t) ≡ None → Spells false t parts → all_written parts ≡ true
-  text_written most place t parts none spelled =
-      let plain = plain_tests most (chain_of [] false place) (scalar_node (record { line = place.line; column = place.column }) (text t)) (tests.Fits parts false ∷ [])
-      none (record { parts = parts; spelled = spelled; tests_are = refl }) in
-      (and_parts (all_written parts) (list_all (λ c. nat_lt 0 c) (plain_text parts)) (and_parts (is_plain (tests.Fits parts false)) true plain).0).0
-
-  no_nul : (most : ℕ) (place : Place) (t : List ℕ) → use_refusal most place (pattern t) ≡ None → has_nul t ≡ false
-  no_nul most place t none =
-      let lines = three_hold (must 42 place true) (must 49 place (nat_le (length t) most)) (must 50 place (not (has_nul t))) none in
-      not_holds (has_nul t) (must_holds 50 place (not (has_nul t)) lines.2)
-
-  use_plain : (most : ℕ) (place : Place) (chain : Written) (u : Use) (ts : List Test) → use_refusal most place u ≡ None → IsScalarUse u → UseTests chain u ts → ArePlainTests ts
-  use_plain most place chain unused ts none scalars h = absurd h
-  use_plain most place chain absent ts none scalars h = subst ArePlainTests (sym h) (tt, tt)
-  use_plain most place chain (existing b) ts none scalars h = subst ArePlainTests (sym h) (tt, tt)
-  use_plain most place chain (pattern t) ts none scalars h =
-      subst ArePlainTests (sym h.tests_are)
-      (plain_pattern_of chain h.parts (spells_plain t h.parts h.spelled (text_written most place t h.parts none h.spelled) scalars (no_nul most place t none)), tt)
-  use_plain most place chain (number n) ts none scalars h = subst ArePlainTests (sym h) (tt, tt)
-
-  value_plain : (most : ℕ) (chain : Written) (t : Tree) (ts : List Test) → value_refusal most chain t ≡ None → HasScalarTexts t → TestsOf chain t ts → ArePlainTests ts
-  value_plain most chain t ts none scalars h = use_plain most (place_of t) chain (use_of chain t) ts none (node_uses (form_of chain) t scalars) h
-
-  values_plain : (most : ℕ) (chain : Written) (parts : List Tree) (all : List (List Test)) → first (map (value_refusal most chain) parts) ≡ None
+module _ (plain_tests : (most dashes : ℕ) (chain : Written) (value : Tree) (ts : List Test)
+    → value_refusal most dashes chain value ≡ None → HasScalarTexts value → TestsOf chain value ts → ArePlainTests ts)
+    (some_test : (chain : Written) (value : Tree) (ts : List Test) → TestsOf chain value ts → HasElement ts)
+    (keyword_tests : (chain : Written) (value : Tree) (ts : List Test) → chain.keyword ≡ true → TestsOf chain value ts → EachOf IsPatternTest ts) where
+  values_plain : (most dashes : ℕ) (chain : Written) (parts : List Tree) (all : List (List Test)) → first (map (value_refusal most dashes chain) parts) ≡ None
       → EachOf HasScalarTexts parts → AllZip (TestsOf chain) parts all → EachOf ArePlainTests all
-  values_plain most chain parts all none scalars h =
-      each_read (TestsOf chain) HasScalarTexts ArePlainTests (value_refusal most chain) (value_plain most chain) parts all none scalars h
+  values_plain most dashes chain parts all none scalars h =
+      each_read (TestsOf chain) HasScalarTexts ArePlainTests (value_refusal most dashes chain) (plain_tests most dashes chain) parts all none scalars h
 
   -- ---- items, alternatives, detections
 
-  item_values : (limits : Limits) (e : Member) → item_refusal limits e ≡ None → first (map (value_refusal limits.value_chars (key_chain e)) (parts_in e.value)) ≡ None
+  item_values : (limits : Limits) (e : Member) → item_refusal limits e ≡ None → first (map (value_refusal limits.value_chars limits.dashes (key_chain e)) (parts_in e.value)) ≡ None
   item_values limits e none =
       let lines = three_hold (must 71 (key_place e) (is_item_key e.key)) (chain_refusal (is_keyword_key e.key) (key_place e) (words_in e.key))
       (values_refusal limits (key_chain e) (key_place e) e.value) none in
       let values = four_hold (first (map shape_refusal (parts_in e.value))) (must 78 (place_of e.value) (not (is_empty (parts_in e.value))))
-      (must 79 (key_place e) (nat_le (length (parts_in e.value)) limits.list_values)) (first (map (value_refusal limits.value_chars (key_chain e)) (parts_in e.value))) lines.2 in
+      (must 79 (key_place e) (nat_le (length (parts_in e.value)) limits.list_values)) (first (map (value_refusal limits.value_chars limits.dashes (key_chain e)) (parts_in e.value))) lines.2 in
       values.3
 
   item_whole : (limits : Limits) (e : Member) (i : Item) → item_refusal limits e ≡ None → IsScalarMember e → IsItem e i → IsWholeItem i
   item_whole limits e i none scalars read =
-      whole_item limits e i none read (name_scalars e.key scalars.0)
-      (values_plain limits.value_chars (key_chain e) (parts_in e.value) i.tests (item_values limits e none) (each_part e.value scalars.1) read.tests)
+      whole_item some_test keyword_tests limits e i none read (name_scalars e.key scalars.0)
+      (values_plain limits.value_chars limits.dashes (key_chain e) (parts_in e.value) i.tests (item_values limits e none) (each_part e.value scalars.1) read.tests)
 
   keyword_whole : (limits : Limits) (t : Tree) (i : Item) → keyword_refusal limits t ≡ None → HasScalarTexts t → IsKeyword t i → IsWholeItem i
   keyword_whole limits t i none scalars read =
-      whole_keyword t i read
-      (values_plain limits.value_chars (bare_chain t) (t ∷ []) i.tests (first_one (keyword_refusal limits t) ∙ none) (scalars, tt) read.tests)
+      whole_keyword some_test keyword_tests t i read
+      (values_plain limits.value_chars limits.dashes (bare_chain t) (t ∷ []) i.tests (first_one (keyword_refusal limits t) ∙ none) (scalars, tt) read.tests)
 
   alternative_whole : (limits : Limits) (t : Tree) (items : List Item) → alternative_refusal limits t ≡ None → HasScalarTexts t → IsAlternative t items → IsWholeAlternative items
   alternative_whole limits (scalar_node a s) items none scalars read =

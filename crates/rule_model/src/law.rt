@@ -14,7 +14,7 @@ ghost use Rattle.rule_model.specs.Rules.{rule_refusal, lone_refusal, IsRule, IsL
 ghost use Rattle.rule_model.specs.Whole.{IsWhole};
 
 use sig_conditions::one_condition;
-use sig_modifiers::{one_tests, plain_tests, tests_or_refusal};
+use sig_modifiers::{keyword_tests, one_tests, plain_tests, some_test, tests_or_refusal};
 
 /// A condition that a text has in the tables is one of the grammar's, and of a text with at most so many words that nest the
 /// tables have each that the grammar has.
@@ -54,4 +54,6 @@ pub fn rules_are_whole()
         → rule_refusal limits t ≡ None → IsRule t rule → HasScalarTexts t → IsWhole rule }
 {
     plain_tests();
+    some_test();
+    keyword_tests();
 }

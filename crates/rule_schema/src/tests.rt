@@ -6,7 +6,7 @@ use rule_head::{Head, LogSource};
 use rule_items::{Alternative, Alternatives, Detection, Detections, Fields, Item, Values};
 use rule_model::Rule;
 use sig_base::{Fault, Place, Refusal, Text, Texts};
-use sig_modifiers::Joined;
+use modifier_chains::Joined;
 use std::alloc::Global;
 use std::test::Fail;
 

@@ -1,5 +1,3 @@
-pub mod KindLemmas
-pub mod PlainLemmas
-pub mod TestsLemmas
-pub mod ViewLemmas
-pub mod WordLemmas
+pub mod PatternLemmas
+mod TestsLemmas
+mod ViewLemmas

@@ -1,44 +1,126 @@
--- A value that isn't refused has tests, and one list of them.
-use Rattle.std.proofs.Common.{◌≡◌, ℕ, Bool, false, List, [], ◌∷◌, refl, sym, ◌∙◌, ap}
-use Rattle.std.specs.Prelude.{None}
-use Rattle.std.specs.List.{list_any}
+-- A value that isn't refused has tests, one list of them, which isn't empty.
+use Rattle.std.proofs.Common.{◌≡◌, ℕ, Bool, true, false, List, [], ◌∷◌, map as list_map, refl, sym, ◌∙◌, ap, subst}
+use Rattle.std.specs.Prelude.{Option, Some, None, length, ⊤}
+use Rattle.event_schema.specs.Lists.{HasElement}
+use Rattle.modifier_chains.specs.Chains.{form_of}
+use Rattle.modifier_chains.specs.Written.{Written}
+use Rattle.modifier_chains.specs.declared.form.ChainForm.{ChainForm}
+use Rattle.modifier_chains.specs.declared.form.ChainForm.TheVariants.{Bare, Presence, Networks, Texts}
+use Rattle.modifier_chains.specs.declared.modifier.Encoding.{Encoding}
+use Rattle.modifier_chains.specs.declared.modifier.Encoding.TheVariants.{Base64, Base64Offset}
 use Rattle.sig_base.specs.declared.refusal.Place.{Place}
+use Rattle.sig_encode.specs.declared.utf16.Form.{Form}
+use Rattle.sig_strings.specs.Edits.{plain_text}
 use Rattle.sig_strings.specs.declared.part.Part.{Part}
-use Rattle.sig_strings.specs.Spells.{Spells}
-use Rattle.yaml_tree.specs.Tree.{Tree}
-use Rattle.sig_modifiers.specs.Chains.{is_cased}
-use Rattle.sig_modifiers.specs.TestsOf.{Use, unused, absent, existing, pattern, number, UseTests, TestsOf, use_of, use_refusal, value_refusal, pattern_of}
+use Rattle.value_patterns.specs.Edited.{pattern_of}
+use Rattle.value_patterns.specs.Encoded.{encoding_of, units_of, bytes_in, as_pattern, AreTexts, AreAlternatives}
+use Rattle.value_patterns.specs.Uses.{Use, unused, absent, existing, pattern, network, number, use_refusal, ArePatterns}
 use Rattle.yaml_tree.specs.Nodes.{place_of}
-use Rattle.sig_modifiers.specs.Written.{Written}
+use Rattle.yaml_tree.specs.Tree.{Scalar, null, truth, whole, text, Tree, scalar, list, map}
+use Rattle.sig_modifiers.specs.TestsOf.{UseTests, TestsOf, use_of, form_use, scalar_use, fits_of, value_refusal}
 use Rattle.sig_modifiers.specs.declared.test.Test.{Test}
 use Rattle.sig_modifiers.specs.declared.test.Test.TheVariants as tests
 
-abbrev fits_of : Written → List Part → List Test
-fits_of chain parts = tests.Fits (pattern_of chain parts) (list_any is_cased chain.modifiers) ∷ []
-
--- where two patterns of a text are the same
-module _ (same : (expand : Bool) (text : List ℕ) (parts others : List Part) → Spells expand text parts → Spells expand text others → parts ≡ others) where
+-- where a text stands for one list of patterns at most
+module _ (same : (chain : Written) (t : List ℕ) (patterns others : List (List Part)) → ArePatterns chain t patterns → ArePatterns chain t others → patterns ≡ others) where
   use_one : (chain : Written) (u : Use) (a b : List Test) → UseTests chain u a → UseTests chain u b → a ≡ b
   use_one chain unused a b p q = absurd p
   use_one chain absent a b p q = p ∙ sym q
   use_one chain (existing e) a b p q = p ∙ sym q
   use_one chain (pattern t) a b p q =
-      p.tests_are ∙ (ap (fits_of chain) (same false t p.parts q.parts p.spelled q.spelled) ∙ sym q.tests_are)
+      p.tests_are ∙ (ap (λ (all : List (List Part)). list_map (fits_of chain) all) (same chain t p.patterns q.patterns p.are_patterns q.are_patterns) ∙ sym q.tests_are)
+  use_one chain (network t) a b p q = absurd p
   use_one chain (number n) a b p q = p ∙ sym q
 
   pub one_list : (chain : Written) (value : Tree) (a b : List Test) → TestsOf chain value a → TestsOf chain value b → a ≡ b
   one_list chain value a b p q = use_one chain (use_of chain value) a b p q
 
--- where each text spells some pattern
-module _ (some : (expand : Bool) (text : List ℕ) → (parts : List Part) × Spells expand text parts) where
-  use_some : (most : ℕ) (chain : Written) (place : Place) (u : Use) → use_refusal most place u ≡ None → (ts : List Test) × UseTests chain u ts
-  use_some most chain place unused h = absurd cc
-  use_some most chain place absent h = (tests.Absent ∷ [], refl)
-  use_some most chain place (existing e) h = (tests.Exists e ∷ [], refl)
-  use_some most chain place (pattern t) h =
-      let p : (parts : List Part) × Spells false t parts = some false t in
-      (fits_of chain p.0, record { parts = p.0; spelled = p.1; tests_are = refl })
-  use_some most chain place (number n) h = (tests.Equals n ∷ [], refl)
+-- no value is taken for a network
+abbrev IsNoNetwork : Use → Type 0
+IsNoNetwork unused = ⊤
+IsNoNetwork absent = ⊤
+IsNoNetwork (existing b) = ⊤
+IsNoNetwork (pattern t) = ⊤
+IsNoNetwork (network t) = ⊥
+IsNoNetwork (number n) = ⊤
 
-  pub some_list : (most : ℕ) (chain : Written) (value : Tree) → value_refusal most chain value ≡ None → (ts : List Test) × TestsOf chain value ts
-  some_list most chain value h = use_some most chain (place_of value) (use_of chain value) h
+no_network_null : (nulls : Bool) → IsNoNetwork (scalar_use (Texts nulls) null)
+no_network_null true = tt
+no_network_null false = tt
+
+no_network_scalar : (form : ChainForm) (s : Scalar) → IsNoNetwork (scalar_use form s)
+no_network_scalar Bare null = tt
+no_network_scalar Bare (truth b) = tt
+no_network_scalar Bare (whole n) = tt
+no_network_scalar Bare (text t) = tt
+no_network_scalar Presence null = tt
+no_network_scalar Presence (truth b) = tt
+no_network_scalar Presence (whole n) = tt
+no_network_scalar Presence (text t) = tt
+no_network_scalar Networks s = tt
+no_network_scalar (Texts nulls) null = no_network_null nulls
+no_network_scalar (Texts nulls) (truth b) = tt
+no_network_scalar (Texts nulls) (whole n) = tt
+no_network_scalar (Texts nulls) (text t) = tt
+
+no_network : (form : ChainForm) (value : Tree) → IsNoNetwork (form_use form value)
+no_network form (scalar at s) = no_network_scalar form s
+no_network form (list at parts) = tt
+no_network form (map at parts) = tt
+
+-- where each text stands for some patterns
+module _ (some : (chain : Written) (t : List ℕ) → (patterns : List (List Part)) × ArePatterns chain t patterns) where
+  use_some : (most dashes : ℕ) (chain : Written) (place : Place) (u : Use) → IsNoNetwork u → use_refusal most dashes chain place u ≡ None
+      → (ts : List Test) × UseTests chain u ts
+  use_some most dashes chain place unused k h = absurd cc
+  use_some most dashes chain place absent k h = (tests.Absent ∷ [], refl)
+  use_some most dashes chain place (existing e) k h = (tests.Exists e ∷ [], refl)
+  use_some most dashes chain place (pattern t) k h =
+      let p : (patterns : List (List Part)) × ArePatterns chain t patterns = some chain t in
+      (list_map (fits_of chain) p.0, record { patterns = p.0; are_patterns = p.1; tests_are = refl })
+  use_some most dashes chain place (network t) k h = absurd k
+  use_some most dashes chain place (number n) k h = (tests.Equals n ∷ [], refl)
+
+  pub some_list : (most dashes : ℕ) (chain : Written) (value : Tree) → value_refusal most dashes chain value ≡ None
+      → (ts : List Test) × TestsOf chain value ts
+  some_list most dashes chain value h =
+      use_some most dashes chain (place_of value) (use_of chain value) (no_network (form_of chain) value) h
+
+-- ---- there's a test
+
+some_map : {A B : Type 0} (f : A → B) (xs : List A) → HasElement xs → HasElement (list_map f xs)
+some_map f [] h = absurd h
+some_map f (x ∷ xs) h = tt
+
+some_of_three : (texts : List (List ℕ)) → length texts ≡ 3 → HasElement texts
+some_of_three [] h = absurd cc
+some_of_three (first ∷ others) h = tt
+
+some_text : (encoding : Encoding) (bytes : List ℕ) (texts : List (List ℕ)) → AreTexts encoding bytes texts → HasElement texts
+some_text Base64 bytes texts h = subst (λ (ts : List (List ℕ)). HasElement ts) (sym h.2) tt
+some_text Base64Offset bytes texts h = some_of_three texts h.three
+
+some_alternative : (encoding : Option Encoding) (units : Option Form) (parts : List Part) (all : List (List Part))
+    → AreAlternatives encoding units parts all → HasElement all
+some_alternative None units parts patterns h = subst (λ (ps : List (List Part)). HasElement ps) (sym h) tt
+some_alternative (Some encoding) units parts patterns h =
+    subst (λ (ps : List (List Part)). HasElement ps) (sym h.2)
+    (some_map as_pattern h.0 (some_text encoding (bytes_in units (plain_text parts)) h.0 h.1))
+
+some_pattern : (chain : Written) (t : List ℕ) (patterns : List (List Part)) → ArePatterns chain t patterns → HasElement patterns
+some_pattern chain t patterns h =
+    subst (λ (ps : List (List Part)). HasElement ps) (sym h.patterns_are)
+    (some_map (pattern_of chain) h.alternatives
+    (some_alternative (encoding_of chain.modifiers) (units_of chain.modifiers) h.parts h.alternatives h.are_alternatives))
+
+use_has : (chain : Written) (u : Use) (ts : List Test) → UseTests chain u ts → HasElement ts
+use_has chain unused ts h = absurd h
+use_has chain absent ts h = subst (λ (us : List Test). HasElement us) (sym h) tt
+use_has chain (existing b) ts h = subst (λ (us : List Test). HasElement us) (sym h) tt
+use_has chain (pattern t) ts h =
+    subst (λ (us : List Test). HasElement us) (sym h.tests_are) (some_map (fits_of chain) h.patterns (some_pattern chain t h.patterns h.are_patterns))
+use_has chain (network t) ts h = absurd h
+use_has chain (number n) ts h = subst (λ (us : List Test). HasElement us) (sym h) tt
+
+pub has_test : (chain : Written) (value : Tree) (ts : List Test) → TestsOf chain value ts → HasElement ts
+has_test chain value ts h = use_has chain (use_of chain value) ts h

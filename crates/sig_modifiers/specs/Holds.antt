@@ -1,5 +1,5 @@
 -- Whether a test holds of a field's values (Sigma specification 2.0, detection items; null and the modifier `exists`).
-use Rattle.std.specs.Prelude.{ℕ, ◌≡◌, true, false, List, [], ◌∷◌}
+use Rattle.std.specs.Prelude.{◌≡◌, true, false, List}
 use Rattle.std.specs.Fmt.{signed_decimal}
 use Rattle.event_schema.specs.Lists.{SomeOf, HasElement, HasNoElement}
 use Rattle.event_schema.specs.Rows.{value_text}

@@ -1,7 +1,9 @@
-//! Rows of the table of chains, reckoned by hand.
+//! The tests that chains make of values, reckoned by hand.
 
-use crate::{Chain, Joined, Test, Tests};
-use sig_base::{Detail, Fault, Limits, Place, Refusal, Text, TryCopy};
+use crate::{Test, Tests};
+use modifier_chains::Chain;
+use sig_base::{Fault, Limits, Place, Refusal, Text, TryCopy};
+use sig_strings::{Part, SharedPattern};
 use std::alloc::Global;
 use std::test::Fail;
 use yaml_tree::{Kind, Node};
@@ -13,81 +15,24 @@ const VALUE: Place = Place {
     column: 12,
 };
 
-fn chain(alloc: Global, words: &[&str], keyword: bool) -> Result<Result<Chain, Fault>, Fail> {
+/// The chain of `field|WORD|..` or of `keyword|WORD|..`.
+fn chain(alloc: Global, written: &str) -> Result<Result<Chain, Fault>, Fail> {
     let mut texts = Vec::new(alloc);
+    let mut words = written.split('|');
+    let keyword = words.next() == Some("keyword");
     for word in words {
         texts.push(Text::copy(alloc, word)?)?;
     }
     Ok(Chain::read(alloc, &texts, keyword, KEY))
 }
 
-/// The number and the detail of a refusal, or nothing where it stands elsewhere.
-fn refused(alloc: Global, refusal: &Refusal, place: Place) -> Result<String, Fail> {
-    let mut shown = String::new(alloc);
-    if refusal.place != place {
-        return Ok(shown);
+/// The number of a refusal, or nothing where it stands elsewhere.
+fn refused(alloc: Global, refusal: &Refusal) -> Result<String, Fail> {
+    if refusal.place != VALUE {
+        return Ok(String::new(alloc));
     }
     let code = refusal.code.number();
-    match &refusal.detail {
-        Detail::None => shown.push_str(&format!(in alloc; "{code}")?)?,
-        Detail::Text(word) => shown.push_str(&format!(in alloc; "{code} {}", word.as_str())?)?,
-        Detail::Numbers(_, _) => (),
-    }
-    Ok(shown)
-}
-
-/// What refuses the words, or nothing.
-fn refused_words(alloc: Global, words: &[&str], keyword: bool) -> Result<String, Fail> {
-    let Err(Fault::Refused(refusal)) = chain(alloc, words, keyword)? else {
-        return Ok(String::new(alloc));
-    };
-    refused(alloc, &refusal, KEY)
-}
-
-#[test]
-fn words_are_refused(rt: HostRuntime) -> Result<(), Fail> {
-    let alloc = rt.alloc();
-    for (words, keyword, want) in [
-        (["near", "near"].as_slice(), false, "40 near"),
-        (["contains", "startswith"].as_slice(), false, "41"),
-        (["contains", "all", "startswith"].as_slice(), true, "41"),
-        (["cased", "cased"].as_slice(), false, "41"),
-        (["all", "contains", "all"].as_slice(), false, "41"),
-        (
-            ["contains", "startswith", "near", "far"].as_slice(),
-            false,
-            "40 near",
-        ),
-        (["cased", ""].as_slice(), false, "40 "),
-        (["Contains"].as_slice(), false, "40 Contains"),
-        (["exists"].as_slice(), false, ""),
-        (["exists"].as_slice(), true, "41"),
-        (["exists", "near"].as_slice(), true, "40 near"),
-        (["exists", "all"].as_slice(), false, "41"),
-        (["cased", "exists"].as_slice(), false, "41"),
-        (["exists", "exists"].as_slice(), false, "41"),
-        (["cased", "all", "endswith"].as_slice(), true, ""),
-        ([].as_slice(), false, ""),
-        ([].as_slice(), true, ""),
-    ] {
-        assert_eq!(rt; refused_words(alloc, words, keyword)?.as_str(), want);
-    }
-    Ok(())
-}
-
-#[test]
-fn all_joins(rt: HostRuntime) -> Result<(), Fail> {
-    let alloc = rt.alloc();
-    for (words, want) in [
-        ([].as_slice(), Joined::Any),
-        (["contains", "cased"].as_slice(), Joined::Any),
-        (["contains", "all"].as_slice(), Joined::All),
-        (["all"].as_slice(), Joined::All),
-    ] {
-        let chain = chain(alloc, words, false)??;
-        assert_eq!(rt; chain.joined(), want);
-    }
-    Ok(())
+    Ok(format!(in alloc; "{code}")?)
 }
 
 /// A value by how it's written here: a text where it's nothing else.
@@ -106,17 +51,28 @@ fn value(alloc: Global, written: &str) -> Result<Node, Fail> {
     Ok(Node { place: VALUE, kind })
 }
 
-/// A test: a pattern with `*` for a run.
+/// A pattern, with `*` for a run, `?` for a single character and `_` for any dash.
+fn shown_pattern(alloc: Global, pattern: &SharedPattern) -> Result<String, Fail> {
+    let mut shown = String::new(alloc);
+    for part in pattern.parts() {
+        shown.push(match part {
+            Part::Char(c) => *c,
+            Part::One => '?',
+            Part::Run => '*',
+            Part::Dash => '_',
+            Part::Hole(_) => '%',
+        })?;
+    }
+    Ok(shown)
+}
+
 fn shown(alloc: Global, test: &Test) -> Result<String, Fail> {
     match test {
         Test::Absent => Ok(format!(in alloc; "absent")?),
         Test::Exists(exists) => Ok(format!(in alloc; "exists {exists}")?),
         Test::Equals(number) => Ok(format!(in alloc; "= {number}")?),
         Test::Fits { pattern, cased } => {
-            if !pattern.is_written() {
-                return Ok(String::new(alloc));
-            }
-            let text = pattern.write_sigma(alloc)?;
+            let text = shown_pattern(alloc, pattern)?;
             let end = if *cased { " cased" } else { "" };
             Ok(format!(in alloc; "{}{end}", text.as_str())?)
         }
@@ -126,116 +82,148 @@ fn shown(alloc: Global, test: &Test) -> Result<String, Fail> {
 fn all_shown(alloc: Global, tests: &Tests) -> Result<String, Fail> {
     let mut all = String::new(alloc);
     for test in tests.as_slice() {
+        if !all.is_empty() {
+            all.push_str(", ")?;
+        }
         all.push_str(&shown(alloc, test)?)?;
     }
     Ok(all)
 }
 
-/// The tests that the words make of a value, or what refuses it.
-fn resolved(
-    alloc: Global,
-    limits: &Limits,
-    words: &[&str],
-    keyword: bool,
-    written: &str,
-) -> Result<String, Fail> {
-    let chain = chain(alloc, words, keyword)??;
-    match crate::resolve(alloc, limits, &chain, &value(alloc, written)?) {
+/// The tests that a chain makes of a value, or what refuses it.
+fn resolved(alloc: Global, limits: &Limits, chain: &Chain, value: &Node) -> Result<String, Fail> {
+    match crate::resolve(alloc, limits, chain, value) {
         Ok(tests) => all_shown(alloc, &tests.try_copy(alloc)?),
-        Err(Fault::Refused(refusal)) => refused(alloc, &refusal, VALUE),
+        Err(Fault::Refused(refusal)) => refused(alloc, &refusal),
         Err(Fault::Memory) => Ok(String::new(alloc)),
     }
+}
+
+/// What is made of `chain~value`.
+fn told_value(alloc: Global, limits: &Limits, given: &str) -> Result<String, Fail> {
+    let Some((words, written)) = given.split_once('~') else {
+        return Ok(String::from_str(alloc, "no value")?);
+    };
+    let chain = chain(alloc, words)??;
+    resolved(alloc, limits, &chain, &value(alloc, written)?)
+}
+
+/// The first row, `tests~chain~value`, that is told otherwise.
+fn wrong_value(alloc: Global, limits: &Limits, table: &str) -> Result<String, Fail> {
+    for row in table.lines() {
+        let Some((want, given)) = row.split_once('~') else {
+            return Ok(String::from_str(alloc, row)?);
+        };
+        if told_value(alloc, limits, given)?.as_str() != want {
+            return Ok(String::from_str(alloc, row)?);
+        }
+    }
+    Ok(String::new(alloc))
 }
 
 #[test]
 fn texts_become_patterns(rt: HostRuntime) -> Result<(), Fail> {
     let alloc = rt.alloc();
-    let limits = Limits::standard();
-    for (words, keyword, text, want) in [
-        ([].as_slice(), false, r"a\b", r"a\\b"),
-        (["contains"].as_slice(), false, "100%_x", "*100%_x*"),
-        (["startswith", "all"].as_slice(), false, "100%_x", "100%_x*"),
-        (
-            ["endswith", "cased"].as_slice(),
-            false,
-            "*.exe",
-            "*.exe cased",
-        ),
-        (["all"].as_slice(), false, "a", "a"),
-        ([].as_slice(), true, "a", "*a*"),
-        (["cased"].as_slice(), true, "*a", "*a* cased"),
-        (["startswith"].as_slice(), true, "a", "a*"),
-    ] {
-        assert_eq!(rt;
-            resolved(alloc, &limits, words, keyword, text)?.as_str(),
-            want,
-            "{text}"
-        );
-    }
+    let table = r"a\b~field~a\b
+*100%_x*~field|contains~100%_x
+100%_x*~field|startswith|all~100%_x
+*.exe cased~field|endswith|cased~*.exe
+a~field|all~a
+*a*~keyword~a
+*a* cased~keyword|cased~*a
+a*~keyword|startswith~a";
+    assert_eq!(rt;
+        wrong_value(alloc, &Limits::standard(), table)?.as_str(),
+        ""
+    );
     Ok(())
 }
 
 #[test]
 fn other_values_by_their_chains(rt: HostRuntime) -> Result<(), Fail> {
     let alloc = rt.alloc();
-    let limits = Limits::standard();
-    for (words, keyword, wants) in [
-        (
-            [].as_slice(),
-            false,
-            ["absent", "true", "= -7", "= -9223372036854775808", "42"],
-        ),
-        (
-            ["exists"].as_slice(),
-            false,
-            ["42", "exists true", "42", "42", "42"],
-        ),
-        (
-            ["contains"].as_slice(),
-            false,
-            ["42", "*true*", "*-7*", "*-9223372036854775808*", "42"],
-        ),
-        (
-            ["all", "cased"].as_slice(),
-            false,
-            [
-                "absent",
-                "true cased",
-                "-7 cased",
-                "-9223372036854775808 cased",
-                "42",
-            ],
-        ),
-        (
-            ["cased", "endswith"].as_slice(),
-            false,
-            [
-                "42",
-                "*true cased",
-                "*-7 cased",
-                "*-9223372036854775808 cased",
-                "42",
-            ],
-        ),
-        (
-            [].as_slice(),
-            true,
-            ["42", "*true*", "*-7*", "*-9223372036854775808*", "42"],
-        ),
-        (
-            ["all"].as_slice(),
-            true,
-            ["42", "*true*", "*-7*", "*-9223372036854775808*", "42"],
-        ),
-    ] {
-        for (written, want) in ["null", "true", "-7", "least", "list"].iter().zip(&wants) {
-            assert_eq!(rt;
-                resolved(alloc, &limits, words, keyword, written)?.as_str(),
-                *want,
-                "{written}"
-            );
-        }
-    }
+    let table = "absent~field~null
+true~field~true
+= -7~field~-7
+= -9223372036854775808~field~least
+42~field~list
+42~field|exists~null
+exists true~field|exists~true
+42~field|exists~-7
+42~field|exists~least
+42~field|exists~list
+42~field|contains~null
+*true*~field|contains~true
+*-7*~field|contains~-7
+*-9223372036854775808*~field|contains~least
+42~field|contains~list
+absent~field|all|cased~null
+true cased~field|all|cased~true
+-7 cased~field|all|cased~-7
+-9223372036854775808 cased~field|all|cased~least
+42~field|all|cased~list
+42~field|cased|endswith~null
+*true cased~field|cased|endswith~true
+*-7 cased~field|cased|endswith~-7
+*-9223372036854775808 cased~field|cased|endswith~least
+42~field|cased|endswith~list
+42~keyword~null
+*true*~keyword~true
+*-7*~keyword~-7
+*-9223372036854775808*~keyword~least
+42~keyword~list
+42~keyword|all~null
+*true*~keyword|all~true
+*-7*~keyword|all~-7
+*-9223372036854775808*~keyword|all~least
+42~keyword|all~list";
+    assert_eq!(rt;
+        wrong_value(alloc, &Limits::standard(), table)?.as_str(),
+        ""
+    );
+    Ok(())
+}
+
+#[test]
+fn windash_marks_dashes(rt: HostRuntime) -> Result<(), Fail> {
+    let alloc = rt.alloc();
+    let table = "* _a _b*~field|windash|contains~ -a /b
+* _a _b*~field|contains|windash~ -a /b
+a-b~field|windash~a-b
+_7~field|windash~-7
+*_c* cased~keyword|windash|cased~-c
+_a _b _c _d~field|windash~-a /b -c /d
+46~field|windash~-a /b -c /d -e
+-a /b -c /d -e~field~-a /b -c /d -e
+42~field|windash~null";
+    assert_eq!(rt;
+        wrong_value(alloc, &Limits::standard(), table)?.as_str(),
+        ""
+    );
+    Ok(())
+}
+
+#[test]
+fn texts_are_encoded(rt: HostRuntime) -> Result<(), Fail> {
+    let alloc = rt.alloc();
+    let table = "YwBtAGQA~field|wide|base64~cmd
+AGE=~field|utf16be|base64~a
+//5hAA==~field|utf16|base64~a
+dHJ1ZQ==~field|base64~true
+LTc=~field|base64~-7
+*eA==*~keyword|base64~x
+~field|base64~
+L2Jpbi9iYXNo, 9iaW4vYmFza, vYmluL2Jhc2~field|base64offset~/bin/bash
+*L2Jpbi9iYXNo* cased, *9iaW4vYmFza* cased, *vYmluL2Jhc2* cased~field|cased|base64offset|contains~/bin/bash
+43~field|base64~c*
+43~field|base64offset~?
+42~field|base64offset~x
+42~field|base64~null
+42~field|wide|base64~list";
+    assert_eq!(rt;
+        wrong_value(alloc, &Limits::standard(), table)?.as_str(),
+        ""
+    );
     Ok(())
 }
 
@@ -244,25 +232,21 @@ fn the_first_cause_is_told(rt: HostRuntime) -> Result<(), Fail> {
     let alloc = rt.alloc();
     let mut limits = Limits::standard();
     limits.value_chars = 3;
-    for (words, written, want) in [
-        (["contains"].as_slice(), "abc", "*abc*"),
-        (["contains"].as_slice(), "\u{e9}\u{e9}\u{e9}\u{e9}", "49"),
-        (["contains"].as_slice(), "a\0", "50"),
-        (["contains"].as_slice(), "ab\0d", "49"),
-        (["exists"].as_slice(), "ab\0d", "42"),
-        (["exists"].as_slice(), "false", "exists false"),
-        (["contains"].as_slice(), "false", "49"),
-        ([].as_slice(), "false", "49"),
-        (["cased"].as_slice(), "1234", "49"),
-        ([].as_slice(), "1234", "= 1234"),
-        (["contains"].as_slice(), "map", "42"),
-        ([].as_slice(), "", ""),
-    ] {
-        assert_eq!(rt;
-            resolved(alloc, &limits, words, false, written)?.as_str(),
-            want,
-            "{written}"
-        );
-    }
+    let table = "*abc*~field|contains~abc
+49~field|contains~\u{e9}\u{e9}\u{e9}\u{e9}
+50~field|contains~a\0
+49~field|contains~ab\0d
+42~field|exists~ab\0d
+exists false~field|exists~false
+49~field|contains~false
+49~field~false
+49~field|cased~1234
+= 1234~field~1234
+42~field|contains~map
+49~field|base64~****
+50~field|base64~*\0
+YWJj~field|base64~abc
+~field~";
+    assert_eq!(rt; wrong_value(alloc, &limits, table)?.as_str(), "");
     Ok(())
 }

@@ -47,139 +47,180 @@ fn fits(alloc: Global, text: &str, cased: bool) -> Result<Test, Fail> {
     Ok(Test::Fits { pattern, cased })
 }
 
+/// The test of `absent`, `exists`, `exists not`, `= NUMBER`, `cased PATTERN` or else `PATTERN`.
+fn test_of(alloc: Global, written: &str) -> Result<Test, Fail> {
+    match written {
+        "absent" => return Ok(Test::Absent),
+        "exists" => return Ok(Test::Exists(true)),
+        "exists not" => return Ok(Test::Exists(false)),
+        _ => (),
+    }
+    if let Some(number) = written.strip_prefix("= ") {
+        return Ok(Test::Equals(number.parse::<i64>()?));
+    }
+    match written.strip_prefix("cased ") {
+        Some(pattern) => fits(alloc, pattern, true),
+        None => fits(alloc, written, false),
+    }
+}
+
+/// Whether the test of `field~test` holds, as `yes` or `no`.
+fn told(alloc: Global, event: &Event, given: &str) -> Result<&'static str, Fail> {
+    let Some((name, written)) = given.split_once('~') else {
+        return Ok("no test");
+    };
+    let test = test_of(alloc, written)?;
+    if test.holds(&schema(alloc)?, name, event) {
+        return Ok("yes");
+    }
+    Ok("no")
+}
+
+/// The first row, `answer~field~test`, that is told otherwise.
+fn wrong_test(alloc: Global, event: &Event, table: &str) -> Result<String, Fail> {
+    for row in table.lines() {
+        let Some((want, given)) = row.split_once('~') else {
+            return Ok(String::from_str(alloc, row)?);
+        };
+        if told(alloc, event, given)? != want {
+            return Ok(String::from_str(alloc, row)?);
+        }
+    }
+    Ok(String::new(alloc))
+}
+
 #[test]
 fn tests_of_values(rt: HostRuntime) -> Result<(), Fail> {
     let alloc = rt.alloc();
-    let schema = schema(alloc)?;
     let event = event(alloc, r"C:\Cmd.exe", -7)?;
-    for (test, name, want) in [
-        (Test::Absent, "Image", false),
-        (Test::Exists(true), "Image", true),
-        (Test::Exists(false), "Size", false),
-        (fits(alloc, r"*\cmd.exe", false)?, "Image", true),
-        (fits(alloc, r"*\cmd.exe", true)?, "Image", false),
-        (fits(alloc, r"*\Cmd.exe", true)?, "Image", true),
-        (fits(alloc, "-?", false)?, "Size", true),
-        (fits(alloc, "7", false)?, "Size", false),
-        (Test::Equals(-7), "Size", true),
-        (Test::Equals(7), "Size", false),
-        (Test::Equals(-7), "Image", false),
-        (fits(alloc, "10.0.0.*", false)?, "Ip", true),
-        (fits(alloc, "10.0.0.?0", false)?, "Ip", false),
-        (Test::Absent, "image", true),
-    ] {
-        assert_eq!(rt; test.holds(&schema, name, &event), want, "{test:?}");
-    }
+    let table = r"no~Image~absent
+yes~Image~exists
+no~Size~exists not
+yes~Image~*\cmd.exe
+no~Image~cased *\cmd.exe
+yes~Image~cased *\Cmd.exe
+yes~Size~-?
+no~Size~7
+yes~Size~= -7
+no~Size~= 7
+no~Image~= -7
+yes~Ip~10.0.0.*
+no~Ip~10.0.0.?0
+yes~image~absent";
+    assert_eq!(rt; wrong_test(alloc, &event, table)?.as_str(), "");
     Ok(())
 }
 
 #[test]
 fn tests_without_values(rt: HostRuntime) -> Result<(), Fail> {
     let alloc = rt.alloc();
-    let schema = schema(alloc)?;
     let mut values = Vec::new(alloc);
     for _ in 0..3 {
         values.push(FieldValues::none())?;
     }
-    let event = Event::new(values, None);
-    for (test, want) in [
-        (Test::Absent, true),
-        (Test::Exists(true), false),
-        (Test::Exists(false), true),
-        (fits(alloc, "*", false)?, false),
-        (Test::Equals(0), false),
-    ] {
-        for name in ["Image", "Size", "Ip"] {
-            assert_eq!(rt;
-                test.holds(&schema, name, &event),
-                want,
-                "{test:?} of {name}"
-            );
+    let table = "yes~Image~absent
+yes~Size~absent
+yes~Ip~absent
+no~Image~exists
+no~Size~exists
+no~Ip~exists
+yes~Image~exists not
+yes~Size~exists not
+yes~Ip~exists not
+no~Image~*
+no~Size~*
+no~Ip~*
+no~Image~= 0
+no~Size~= 0
+no~Ip~= 0";
+    assert_eq!(rt;
+        wrong_test(alloc, &Event::new(values, None), table)?.as_str(),
+        ""
+    );
+    Ok(())
+}
+
+/// The first row, `answer~text`, that is told otherwise of whether the text is the number 7.
+fn wrong_text(alloc: Global, table: &str) -> Result<String, Fail> {
+    for row in table.lines() {
+        let Some((want, text)) = row.split_once('~') else {
+            return Ok(String::from_str(alloc, row)?);
+        };
+        if told(alloc, &event(alloc, text, 0)?, "Image~= 7")? != want {
+            return Ok(String::from_str(alloc, row)?);
         }
     }
-    Ok(())
+    Ok(String::new(alloc))
 }
 
 #[test]
 fn numbers_in_texts(rt: HostRuntime) -> Result<(), Fail> {
-    let alloc = rt.alloc();
-    let schema = schema(alloc)?;
-    for (text, want) in [("7", true), ("07", false), ("+7", false), ("7 ", false)] {
-        let event = event(alloc, text, 0)?;
-        assert_eq!(rt;
-            Test::Equals(7).holds(&schema, "Image", &event),
-            want,
-            "{text}"
-        );
-    }
+    let table = "yes~7
+no~07
+no~+7
+no~7 ";
+    assert_eq!(rt; wrong_text(rt.alloc(), table)?.as_str(), "");
     Ok(())
+}
+
+fn texts(alloc: Global, several: &str) -> Result<FieldValues, Fail> {
+    let mut values = Vec::new(alloc);
+    for text in several.split(' ') {
+        values.push(Value::Text(Text::copy(alloc, text)?))?;
+    }
+    Ok(FieldValues::from_vec(values))
 }
 
 /// Three texts, three numbers and three addresses.
 fn several(alloc: Global) -> Result<Event, Fail> {
-    let mut images = Vec::new(alloc);
-    for image in ["a.exe", "B.exe", "7"] {
-        images.push(Value::Text(Text::copy(alloc, image)?))?;
-    }
     let mut sizes = Vec::new(alloc);
     for size in [1, -20, 300] {
         sizes.push(Value::Whole(size))?;
     }
-    let mut addresses = Vec::new(alloc);
-    for address in ["10.0.0.1", "host", "192.168.0.7"] {
-        addresses.push(Value::Text(Text::copy(alloc, address)?))?;
-    }
     let mut values = Vec::new(alloc);
-    values.push(FieldValues::from_vec(images))?;
+    values.push(texts(alloc, "a.exe B.exe 7")?)?;
     values.push(FieldValues::from_vec(sizes))?;
-    values.push(FieldValues::from_vec(addresses))?;
+    values.push(texts(alloc, "10.0.0.1 host 192.168.0.7")?)?;
     Ok(Event::new(values, None))
 }
 
 #[test]
 fn tests_of_several_values(rt: HostRuntime) -> Result<(), Fail> {
     let alloc = rt.alloc();
-    let schema = schema(alloc)?;
-    let event = several(alloc)?;
-    for (test, name, want) in [
-        (Test::Absent, "Image", false),
-        (Test::Exists(true), "Image", true),
-        (Test::Exists(false), "Image", false),
-        (fits(alloc, "a.exe", false)?, "Image", true),
-        (fits(alloc, "b.exe", false)?, "Image", true),
-        (fits(alloc, "b.exe", true)?, "Image", false),
-        (fits(alloc, "?", true)?, "Image", true),
-        (fits(alloc, "c.exe", false)?, "Image", false),
-        (Test::Equals(7), "Image", true),
-        (Test::Equals(8), "Image", false),
-        (Test::Equals(1), "Size", true),
-        (Test::Equals(-20), "Size", true),
-        (fits(alloc, "30?", false)?, "Size", true),
-        (fits(alloc, "3?", false)?, "Size", false),
-        (Test::Exists(false), "Ip", false),
-        (fits(alloc, "192.168.*", false)?, "Ip", true),
-        (fits(alloc, "HOST", false)?, "Ip", true),
-        (fits(alloc, "192.168.0.?0", false)?, "Ip", false),
-    ] {
-        assert_eq!(rt; test.holds(&schema, name, &event), want, "{test:?}");
-    }
+    let table = "no~Image~absent
+yes~Image~exists
+no~Image~exists not
+yes~Image~a.exe
+yes~Image~b.exe
+no~Image~cased b.exe
+yes~Image~cased ?
+no~Image~c.exe
+yes~Image~= 7
+no~Image~= 8
+yes~Size~= 1
+yes~Size~= -20
+yes~Size~30?
+no~Size~3?
+no~Ip~exists not
+yes~Ip~192.168.*
+yes~Ip~HOST
+no~Ip~192.168.0.?0";
+    assert_eq!(rt; wrong_test(alloc, &several(alloc)?, table)?.as_str(), "");
     Ok(())
 }
 
 #[test]
 fn a_list_without_values(rt: HostRuntime) -> Result<(), Fail> {
     let alloc = rt.alloc();
-    let schema = schema(alloc)?;
     let mut values = Vec::new(alloc);
     values.push(FieldValues::none())?;
     values.push(FieldValues::from_vec(Vec::new(alloc)))?;
-    let event = Event::new(values, None);
-    for (test, want) in [
-        (Test::Absent, true),
-        (Test::Exists(true), false),
-        (Test::Exists(false), true),
-    ] {
-        assert_eq!(rt; test.holds(&schema, "Size", &event), want, "{test:?}");
-    }
+    let table = "yes~Size~absent
+no~Size~exists
+yes~Size~exists not";
+    assert_eq!(rt;
+        wrong_test(alloc, &Event::new(values, None), table)?.as_str(),
+        ""
+    );
     Ok(())
 }

@@ -1,30 +1,25 @@
 //! The tests that a chain makes of a value.
 
-ghost use Rattle.std.specs.Prelude.{◌≡◌, ◌∷◌, [], false, IfOk, IfErr};
+ghost use Rattle.std.specs.Prelude.{◌≡◌, ◌∷◌, [], map, IfOk, IfErr};
 ghost use Rattle.std.specs.Str.{chars};
 ghost use Rattle.sig_base.specs.Judged.{Judged};
-ghost use Rattle.sig_modifiers.specs.PlainTests.{IsPlainPattern, ArePlainTests};
+ghost use Rattle.value_patterns.specs.Uses.{pattern};
+ghost use Rattle.sig_modifiers.specs.PlainTests.{ArePlainTests};
 ghost use Rattle.sig_modifiers.specs.Resolved.{UseJudged, ScalarJudged};
 ghost use Rattle.sig_modifiers.specs.TestsOf as uses;
-ghost use Rattle.sig_strings.specs.Spells.{Spells};
+ghost use Rattle.sig_modifiers.specs.declared.test.Test.TheVariants.{Fits};
 ghost use Rattle.yaml_tree.specs.Tree.{null, truth, whole, text};
 ghost use Rattle.yaml_tree.specs.View.{node_view};
 
-use crate::chain::Chain;
-use crate::form::ChainForm;
 use crate::test::{Test, Tests};
 use event_schema::decimal_in;
 use itoa::Buffer;
+use modifier_chains::{Chain, ChainForm};
 use sig_base::{Code, Fault, Limits, Place, Text, refused};
-use sig_strings::{Pattern, SharedPattern};
+use sig_strings::SharedPattern;
 use std::alloc::Global;
+use value_patterns::read_patterns;
 use yaml_tree::{Kind, Node};
-
-fn has_nul(text: &str) -> bool
-    ensures { result ≡ uses.has_nul (chars text.now) }
-{
-    text.chars().any(|c| c == '\0')
-}
 
 fn one_test(alloc: Global, test: Test) -> Result<Tests, Fault>
     ensures ok { IfOk result (λ tests. tests ≡ test ∷ []) }
@@ -42,19 +37,23 @@ fn truth_text(value: bool) -> &'static str
     if value { "true" } else { "false" }
 }
 
-/// The pattern of a text, as it is written.
-fn read_pattern(alloc: Global, limits: &Limits, text: &str, place: Place) -> Result<Pattern, Fault>
-    ensures judged { Judged (λ p. Spells false (chars text.now) p) (uses.text_refusal limits.now.value_chars place (chars text.now)) result }
-    ensures plain { IfOk result IsPlainPattern }
+/// A test for each pattern.
+fn fits_tests(alloc: Global, patterns: &[SharedPattern], cased: bool) -> Result<Tests, Fault>
+    ensures ok { IfOk result (λ tests. tests ≡ map (λ parts. Fits parts cased) patterns.now) }
+    ensures err { IfErr result (λ e. e ≡ Fault.Memory) }
 {
-    let pattern = Pattern::read(alloc, limits, text, false, place)?;
-    if has_nul(text) {
-        return Err(refused(Code::NUL_IN_VALUE, place));
+    let mut tests = Tests::with_capacity(alloc, patterns.len())?;
+    for pattern in patterns {
+        let copy = pattern.copy()?;
+        tests.push(Test::Fits {
+            pattern: copy,
+            cased,
+        })?;
     }
-    Ok(pattern)
+    Ok(tests)
 }
 
-/// The test that a text fits the pattern which this text spells.
+/// The tests that a text fits the patterns which this text stands for.
 fn resolve_text(
     alloc: Global,
     limits: &Limits,
@@ -62,31 +61,22 @@ fn resolve_text(
     text: &str,
     place: Place,
 ) -> Result<Tests, Fault>
-    ensures judged { UseJudged chain.now limits.now.value_chars place (uses.pattern (chars text.now)) result }
+    ensures judged { UseJudged chain.now limits.now place (pattern (chars text.now)) result }
     ensures plain { IfOk result ArePlainTests }
 {
-    let pattern = read_pattern(alloc, limits, text, place)?;
-    let pattern = chain.pattern_of(pattern)?;
-    let pattern = SharedPattern::share(alloc, pattern)?;
-    one_test(
-        alloc,
-        Test::Fits {
-            pattern,
-            cased: chain.is_cased(),
-        },
-    )
+    let patterns = read_patterns(alloc, limits, chain, text, place)?;
+    fits_tests(alloc, &patterns, chain.is_cased())
 }
 
 fn resolve_null(alloc: Global, limits: &Limits, chain: &Chain, place: Place) -> Result<Tests, Fault>
-    ensures judged { ScalarJudged chain.now limits.now.value_chars place null result }
+    ensures judged { ScalarJudged chain.now limits.now place null result }
     ensures plain { IfOk result ArePlainTests }
 {
     match chain.form() {
         ChainForm::Bare | ChainForm::Texts { nulls: true } => one_test(alloc, Test::Absent),
-        ChainForm::Presence | ChainForm::Texts { nulls: false } => Err(refused(
-            Code::VALUE_NOT_ALLOWED,
-            place,
-        )),
+        ChainForm::Presence | ChainForm::Networks | ChainForm::Texts { nulls: false } => Err(
+            refused(Code::VALUE_NOT_ALLOWED, place),
+        ),
     }
 }
 
@@ -97,11 +87,12 @@ fn resolve_truth(
     value: bool,
     place: Place,
 ) -> Result<Tests, Fault>
-    ensures judged { ScalarJudged chain.now limits.now.value_chars place (truth value) result }
+    ensures judged { ScalarJudged chain.now limits.now place (truth value) result }
     ensures plain { IfOk result ArePlainTests }
 {
     match chain.form() {
         ChainForm::Presence => one_test(alloc, Test::Exists(value)),
+        ChainForm::Networks => Err(refused(Code::VALUE_NOT_ALLOWED, place)),
         ChainForm::Bare | ChainForm::Texts { .. } => {
             resolve_text(alloc, limits, chain, truth_text(value), place)
         }
@@ -115,12 +106,14 @@ fn resolve_whole(
     value: &i64,
     place: Place,
 ) -> Result<Tests, Fault>
-    ensures judged { ScalarJudged chain.now limits.now.value_chars place (whole value.now) result }
+    ensures judged { ScalarJudged chain.now limits.now place (whole value.now) result }
     ensures plain { IfOk result ArePlainTests }
 {
     match chain.form() {
         ChainForm::Bare => one_test(alloc, Test::Equals(*value)),
-        ChainForm::Presence => Err(refused(Code::VALUE_NOT_ALLOWED, place)),
+        ChainForm::Presence | ChainForm::Networks => {
+            Err(refused(Code::VALUE_NOT_ALLOWED, place))
+        }
         ChainForm::Texts { .. } => {
             let mut buffer = Buffer::new();
             let text = decimal_in(&mut buffer, *value);
@@ -136,11 +129,13 @@ fn resolve_string(
     value: &Text,
     place: Place,
 ) -> Result<Tests, Fault>
-    ensures judged { ScalarJudged chain.now limits.now.value_chars place (text value.now) result }
+    ensures judged { ScalarJudged chain.now limits.now place (text value.now) result }
     ensures plain { IfOk result ArePlainTests }
 {
     match chain.form() {
-        ChainForm::Presence => Err(refused(Code::VALUE_NOT_ALLOWED, place)),
+        ChainForm::Presence | ChainForm::Networks => {
+            Err(refused(Code::VALUE_NOT_ALLOWED, place))
+        }
         ChainForm::Bare | ChainForm::Texts { .. } => {
             resolve_text(alloc, limits, chain, value.as_str(), place)
         }
@@ -148,10 +143,11 @@ fn resolve_string(
 }
 
 /// The tests that a chain makes of a value, which are its alternatives. At the value's place, a value that the chain
-/// doesn't take is refused 42, a text of more characters than `value_chars` 49, and one with U+0000 50.
+/// doesn't take is refused 42, a text of more characters than `value_chars` 49, one with U+0000 50, a wildcard in what is
+/// encoded 43, one byte under `base64offset` 42, and more dash places than `dashes` 46, the first of these in this order.
 pub fn resolve(alloc: Global, limits: &Limits, chain: &Chain, value: &Node) -> Result<Tests, Fault>
     ensures judged { Judged (λ tests. uses.TestsOf chain.now (node_view value.now) tests)
-        (uses.value_refusal limits.now.value_chars chain.now (node_view value.now)) result }
+        (uses.value_refusal limits.now.value_chars limits.now.dashes chain.now (node_view value.now)) result }
     ensures plain { IfOk result ArePlainTests }
 {
     match &value.kind {

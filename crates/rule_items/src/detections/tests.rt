@@ -1,7 +1,8 @@
 use super::*;
 use crate::item::Fields;
+use modifier_chains::Joined;
 use sig_base::Detail;
-use sig_modifiers::{Joined, Test};
+use sig_modifiers::Test;
 use std::test::Fail;
 use yaml_tree::Kind;
 

@@ -1,6 +1,6 @@
 use Rattle.std.proofs.Common.{◌∙◌, ap}
 use Rattle.backend_core.specs.View.{tree_view}
-use Rattle.sig_modifiers.specs.declared.modifier.Joined.TheVariants.{All}
+use Rattle.modifier_chains.specs.declared.modifier.Joined.TheVariants.{All}
 use Rattle.rule_lowering.specs.Joining.{parts_of}
 use Rattle.rule_lowering.proofs.ViewLemmas.{moves_over, parts-All}
 use Rattle.rule_lowering.proofs.joining.add_to_all.Goals as goal

@@ -1,6 +1,6 @@
 use Rattle.std.proofs.Common.{◌∙◌, ap}
 use Rattle.backend_core.specs.View.{tree_view}
-use Rattle.sig_modifiers.specs.declared.modifier.Joined.TheVariants.{Any}
+use Rattle.modifier_chains.specs.declared.modifier.Joined.TheVariants.{Any}
 use Rattle.rule_lowering.specs.Joining.{parts_of}
 use Rattle.rule_lowering.proofs.ViewLemmas.{moves_over, parts-Any}
 use Rattle.rule_lowering.proofs.joining.add_to_any.Goals as goal

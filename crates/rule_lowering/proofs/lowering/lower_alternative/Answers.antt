@@ -1,4 +1,4 @@
-use Rattle.sig_modifiers.specs.declared.modifier.Joined.TheVariants.{All}
+use Rattle.modifier_chains.specs.declared.modifier.Joined.TheVariants.{All}
 use Rattle.rule_lowering.specs.TreeOf.{item_tree}
 use Rattle.rule_lowering.proofs.Ones.{level_one, item_closed}
 use Rattle.rule_lowering.proofs.lowering.lower_alternative.Goals as goal

@@ -1,7 +1,7 @@
 use Rattle.std.proofs.Common.{◌≡◌, ◌++◌, map, drop}
 use Rattle.std.specs.List.{flat_map}
 use Rattle.backend_core.specs.View.{tree_view}
-use Rattle.sig_modifiers.specs.declared.modifier.Joined.TheVariants.{All}
+use Rattle.modifier_chains.specs.declared.modifier.Joined.TheVariants.{All}
 use Rattle.rule_lowering.specs.Joining.{parts_of}
 use Rattle.rule_lowering.specs.TreeOf.{item_tree}
 use Rattle.rule_lowering.proofs.lowering.lower_alternative.Given as goal

@@ -1,6 +1,6 @@
 use Rattle.std.proofs.Common.{List, ℕ, map}
 use Rattle.backend_core.specs.View.{tree_view}
-use Rattle.sig_modifiers.specs.declared.modifier.Joined.TheVariants.{Any}
+use Rattle.modifier_chains.specs.declared.modifier.Joined.TheVariants.{Any}
 use Rattle.rule_lowering.specs.TreeOf.{number_tree}
 use Rattle.field_numbers.specs.Numbers.{number_of}
 use Rattle.rule_lowering.proofs.Ones.{level_one, number_closed}

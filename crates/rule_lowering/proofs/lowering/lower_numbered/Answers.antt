@@ -2,7 +2,7 @@ use Rattle.std.proofs.Common.{◌∙◌, ◌≡◌, ap, subst, sym, map, List, I
 use Rattle.backend_core.specs.Trees.{Plain}
 use Rattle.backend_core.specs.View.{tree_view}
 use Rattle.backend_core.specs.declared.tree.Tree.{Tree}
-use Rattle.sig_modifiers.specs.declared.modifier.Joined.TheVariants.{Any}
+use Rattle.modifier_chains.specs.declared.modifier.Joined.TheVariants.{Any}
 use Rattle.rule_lowering.specs.Joining.{closed}
 use Rattle.rule_lowering.proofs.Levels.{numbered_at, numbered_past}
 use Rattle.rule_lowering.proofs.lowering.lower_numbered.Goals as goal

@@ -1,9 +1,9 @@
-use Rattle.sig_modifiers.specs.declared.modifier.Joined.TheVariants.{Any}
+use Rattle.modifier_chains.specs.declared.modifier.Joined.TheVariants.{Any}
 use Rattle.rule_lowering.specs.TreeOf.{test_tree}
 use Rattle.rule_lowering.proofs.Ones.{level_one, test_closed}
 use Rattle.rule_lowering.proofs.lowering.lower_value.Goals as goal
 
 pub returns-in-len1-clause-ok : goal.returns-in-len1-clause-ok
 returns-in-len1-clause-ok c =
-    level_one c.lower_leaf.result Any (test_tree c.args.place c.args.kind c.args.field) c.args.tests.now c.test-item.result c.in-len1.len_at_least c.in-len1.len_below c.test-item.is
-    (test_closed c.args.place c.args.kind c.args.field c.test-item.result) c.lower_leaf.ensures.ok
+    level_one c.lower_test.result Any (test_tree c.args.place c.args.kind c.args.field) c.args.tests.now c.test-item.result c.in-len1.len_at_least c.in-len1.len_below c.test-item.is
+    (test_closed c.args.place c.args.kind c.args.field c.test-item.result) c.lower_test.ensures.ok

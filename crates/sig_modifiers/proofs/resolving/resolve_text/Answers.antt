@@ -1,14 +1,21 @@
-use Rattle.std.proofs.Common.{List, sym, ◌∙◌, subst}
 use Rattle.std.proofs.lemmas.Result.{IfOk-weaker}
-use Rattle.sig_strings.specs.declared.part.Part.{Part}
-use Rattle.sig_modifiers.specs.PlainTests.{IsPlainPattern, ArePlainTests}
-use Rattle.sig_modifiers.specs.declared.test.Test.{Test}
-use Rattle.sig_modifiers.proofs.PlainLemmas.{plain_pattern_of}
+use Rattle.std.specs.Str.{chars}
+use Rattle.sig_modifiers.specs.PlainTests.{ArePlainTests}
+use Rattle.sig_modifiers.specs.TestsOf.{AreFits}
+use Rattle.sig_modifiers.proofs.PatternLemmas.{fits_plain, are_fits, judged_so}
 use Rattle.sig_modifiers.proofs.resolving.resolve_text.Goals as goal
 
 pub returns-clause-plain : goal.returns-clause-plain
 returns-clause-plain c =
-    let edited : IsPlainPattern c.in_ok-pattern-3.pattern =
-    subst (λ (parts : List Part). IsPlainPattern parts) (sym (c.in_ok-pattern-3.ensures.ok ∙ c.in_ok-pattern-2.ensures.ok)) (plain_pattern_of c.args.chain.now c.in_ok-pattern.pattern c.in_ok-pattern.ensures.plain) in
-    IfOk-weaker c.one_test.result _ ArePlainTests
-    (λ tests is. subst (λ (ts : List Test). ArePlainTests ts) (sym is) (edited, tt)) c.one_test.ensures.ok
+    IfOk-weaker c.fits_tests.result _ ArePlainTests
+    (λ ts is. fits_plain c.is_cased.result c.deref.result.now c.in_ok-patterns.patterns.items ts c.deref.ensures.value c.in_ok-patterns.ensures.plain is)
+    c.fits_tests.ensures.ok
+
+pub returns-clause-judged : goal.returns-clause-judged
+returns-clause-judged c =
+    let fits = AreFits c.args.chain.now (chars c.args.text.now) in
+    judged_so fits _ c.fits_tests.result c.in_ok-patterns.ensures.judged.0
+    (IfOk-weaker c.fits_tests.result _ fits
+    (λ ts is. are_fits c.args.chain.now (chars c.args.text.now) c.is_cased.result c.deref.result.now c.in_ok-patterns.patterns.items ts
+    c.deref.ensures.value c.is_cased.ensures c.in_ok-patterns.ensures.judged.1 is) c.fits_tests.ensures.ok)
+    c.fits_tests.ensures.err

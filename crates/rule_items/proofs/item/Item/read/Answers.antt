@@ -5,9 +5,9 @@ use Rattle.std.specs.Str.{all_scalars}
 use Rattle.sig_base.specs.declared.limits.Limits.{Limits}
 use Rattle.sig_base.specs.declared.refusal.Fault.{Fault}
 use Rattle.sig_base.specs.declared.refusal.Place.{Place}
-use Rattle.sig_modifiers.specs.Chains.{chain_of, chain_refusal, joined_of}
+use Rattle.modifier_chains.specs.Chains.{chain_of, chain_refusal, joined_of}
 use Rattle.sig_base.specs.Judged.{Judged, must}
-use Rattle.sig_modifiers.specs.Written.{Written}
+use Rattle.modifier_chains.specs.Written.{Written}
 use Rattle.sig_modifiers.specs.TestsOf.{TestsOf}
 use Rattle.yaml_tree.specs.Tree.{Member}
 use Rattle.yaml_tree.specs.View.{node_view, entry_view}
@@ -101,6 +101,6 @@ pub returns-clause-whole : goal.returns-clause-whole
 returns-clause-whole c =
     let entry = c.args.entry.now in
     let judged = returns-clause-judged c in
-    whole_item c.args.limits.now (entry_view entry) _ judged.0 judged.1
+    whole_item c.some_test.ensures c.keyword_tests.ensures c.args.limits.now (entry_view entry) _ judged.0 judged.1
     (ap (λ (e : Member). all_scalars (name_in e.key)) (view-Entry entry) ∙ (ap all_scalars (sym c.in_ok-key.ensures.judged.1.name) ∙ c.in_ok-key.ensures.scalars))
     c.in_ok-tests.ensures.plain

@@ -1,0 +1,13 @@
+use Rattle.std.proofs.Common.{◌≡◌, ◌-◌, ◌++◌, length, map, drop}
+use Rattle.backend_core.specs.View.{tree_view}
+use Rattle.dash_choices.specs.Choices.{choices}
+use Rattle.rule_lowering.proofs.ChoiceLemmas.{choice_tree}
+use Rattle.rule_lowering.proofs.lowering.lower_choices.Given as goal
+
+abbrev pub invariant-loop-parts : goal.invariant-loop-parts
+invariant-loop-parts l =
+    map tree_view l.parts.items ++ map (choice_tree l.place l.kind l.field l.cased) (drop (length l.parts.items) (choices l.pattern))
+    ≡ map (choice_tree l.place l.kind l.field l.cased) (choices l.pattern)
+
+abbrev pub decreases-loop-parts : goal.decreases-loop-parts
+decreases-loop-parts l = length (choices l.pattern) - length l.parts.items
