@@ -1,8 +1,8 @@
 //! Items of detections whose names are numbers.
 
+use modifier_chains::Joined;
 use rule_items::Values;
 use sig_base::Sequence;
-use modifier_chains::Joined;
 
 /// The numbers of an item's fields; none for a name that no field has.
 pub type FieldPlaces = Sequence<Option<u32>>;

@@ -2,12 +2,12 @@
 
 use crate::Ready;
 use event_schema::{Event, Field, FieldKind, FieldList, FieldValues, Schema, Value};
+use modifier_chains::Joined;
 use rule_head::{Head, LogSource};
 use rule_items::{Alternative, Alternatives, Detection, Detections, Fields, Item, Values};
 use rule_model::Rule;
 use sig_base::{Limits, Place, Text, Texts};
 use sig_conditions::{DetectionNumbers, Formula};
-use modifier_chains::Joined;
 use sig_modifiers::{Test, Tests};
 use sig_strings::{Pattern, SharedPattern};
 use std::alloc::Global;

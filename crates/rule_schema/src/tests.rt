@@ -2,11 +2,11 @@
 
 use crate::{fit_schema, infer_schema};
 use event_schema::{Field, FieldKind, Schema};
+use modifier_chains::Joined;
 use rule_head::{Head, LogSource};
 use rule_items::{Alternative, Alternatives, Detection, Detections, Fields, Item, Values};
 use rule_model::Rule;
 use sig_base::{Fault, Place, Refusal, Text, Texts};
-use modifier_chains::Joined;
 use std::alloc::Global;
 use std::test::Fail;
 
