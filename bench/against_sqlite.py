@@ -25,6 +25,7 @@ has to be read, and to select the same events. With --lucene the same is tried o
 their case in a twin; those for which Lucene lacks something (111) or that have too many clauses (113) are counted apart.
 """
 import argparse
+import base64
 import json
 import os
 import random
@@ -37,12 +38,16 @@ import tempfile
 FIELDS = ["Image", "User", "Cmd", "a b"]
 SIGNS = list("aAbB*?\\%_[]-/'\" .éÉ1")
 CHAINS = [[], [], ["contains"], ["startswith"], ["endswith"], ["contains", "all"], ["cased"], ["cased", "contains"], ["all"],
-          ["endswith", "cased"]]
+          ["endswith", "cased"], ["windash"], ["windash", "contains"], ["cased", "windash", "startswith"], ["base64"], ["base64", "contains"], ["base64offset", "contains"],
+          ["wide", "base64offset", "contains"], ["utf16be", "base64", "all", "contains"], ["utf16", "base64"], ["cased", "base64offset", "contains"], ["utf16le", "base64offset"]]
 PLACES = {"contains", "startswith", "endswith"}
+ENCODINGS = {"base64", "base64offset"}
+UNITS = {"wide": "utf-16-le", "utf16le": "utf-16-le", "utf16be": "utf-16-be"}
+DASHES = "-/\u2013\u2014\u2015"
 NAMES = ["sel", "sel_a", "sel_b", "filter", "_h"]
 WHOLE, SEARCHED = [], []  # the fields of whole numbers and those that keywords search: none without a schema
 NUMBERS = ["007", "+5", "-0", "1e1", "5 ", "9223372036854775808", "-9223372036854775808", "9223372036854775807", "-9223372036854775807", "*", "?", "1*", "-*", "*0", "?1"]
-RUN, ONE = "run", "one"
+RUN, ONE, DASH = "run", "one", "dash"
 
 # ---- what is made
 
@@ -57,15 +62,26 @@ def some_number(rng):
 
 def some_value(rng, chain, whole=False):
     kind = rng.randrange(10)
+    if ENCODINGS & set(chain):
+        # neither a wildcard nor fewer than two bytes
+        return rng.choice(["ab", "-enc", "\u00e9x", "a/b", some_text(rng).replace("*", "").replace("?", "") + "aB"])
+    if "windash" in chain and kind < 6:
+        return rng.choice(["-a", "/b", " -a /b", "a-b", "--a", "-1", "a -B"])
     if whole and kind > 1:
         return rng.choice([some_number(rng), str(some_number(rng)), rng.choice(NUMBERS)])
-    if kind == 0 and not PLACES & set(chain):
+    if kind == 0 and not set(chain) - {"all", "cased"}:
         return None
     if kind == 1:
         return rng.randrange(-20, 20)
     if kind == 2:
         return rng.choice([True, False])
     return some_text(rng)
+
+
+def some_encoded(rng):
+    """Data in base64 that has a value of the rules somewhere, perhaps."""
+    value = rng.choice(["ab", "-enc", "\u00e9x", "a/b", some_text(rng)]).encode(rng.choice(["utf-8", "utf-16-le", "utf-16-be", "utf-16"]))
+    return base64.b64encode(bytes(rng.randrange(256) for _ in range(rng.randrange(4))) * rng.randrange(2) + value + b"x" * rng.choice([0, 0, 1, 2])).decode()
 
 
 def some_item(rng):
@@ -97,9 +113,13 @@ def some_condition(rng, names, depth):
 
 def some_event(rng):
     def value():
-        kind = rng.randrange(6)
+        kind = rng.randrange(8)
         if kind == 0:
             return None
+        if kind == 6:
+            return some_encoded(rng)
+        if kind == 7:
+            return rng.choice(["a", "", " "]) + rng.choice(DASHES) + rng.choice(["a", "b", "a /b", "a \u2014B", "1"])
         if kind == 1:
             return str(rng.randrange(-20, 20))
         return rng.choice(["true", "False", ""]) if kind == 2 else some_text(rng)
@@ -174,7 +194,7 @@ def some_rule(rng):
 
 def some_long_rule(rng):
     """A rule of one list of 1,000 to 4,096 values, each with letters of its own."""
-    chain = rng.choice(CHAINS)
+    chain = rng.choice([chain for chain in CHAINS if not {"windash", *ENCODINGS} & set(chain)])
     values = [some_text(rng) + str(rng.randrange(10 ** 6)) + some_text(rng) for _ in range(rng.randrange(1000, 4097))]
     item = (rng.choice(FIELDS), chain, values)
     condition = rng.choice(["sel", "not sel", "1 of sel*", "not 1 of them"])
@@ -203,14 +223,37 @@ def parts_of(text):
 
 def fits(parts, text, cased):
     """Whether the parts take the text; `ends` are the places up to which those so far may take it."""
+    takes = lambda part, found: found in DASHES if part == DASH else part == ONE or found == part[0] or not cased and fold(found) == fold(part[0])
     ends = {0}
     for part in parts:
         if part == RUN:
             ends = set(range(min(ends), len(text) + 1)) if ends else ends
         else:
-            ends = {end + 1 for end in ends if end < len(text) and (part == ONE or text[end] == part[0]
-                                                                   or not cased and fold(text[end]) == fold(part[0]))}
+            ends = {end + 1 for end in ends if end < len(text) and takes(part, text[end])}
     return len(text) in ends
+
+
+def is_word(part):
+    return isinstance(part, tuple) and re.fullmatch("[A-Za-z0-9_]", part[0]) is not None
+
+
+def dashes_in(parts):
+    """The parts with a dash for each `-` and `/` that begins a word."""
+    sign = lambda at: parts[at] in (("-",), ("/",)) and not (at and is_word(parts[at - 1])) and at + 1 < len(parts) and is_word(parts[at + 1])
+    return [DASH if sign(at) else part for at, part in enumerate(parts)]
+
+
+def encoded(chain, text):
+    """The texts that are looked for where a text is encoded."""
+    units = next((UNITS[word] for word in chain if word in UNITS), None)
+    data = b"\xff\xfe" + text.encode("utf-16-le") if "utf16" in chain else text.encode(units or "utf-8")
+    if "base64" in chain:
+        return [base64.b64encode(data).decode()]
+    pieces = []
+    for offset in range(3):
+        whole = base64.b64encode(bytes(offset) + data).decode()
+        pieces.append("".join(sign for at, sign in enumerate(whole) if 8 * offset <= 6 * at and 6 * at + 6 <= 8 * (offset + len(data))))
+    return pieces
 
 
 def satisfied(chain, value, found):
@@ -222,6 +265,13 @@ def satisfied(chain, value, found):
         parts = [(digit,) for digit in str(value)]
     else:
         parts = parts_of({True: "true", False: "false"}.get(value, value) if isinstance(value, bool) else value)
+    if ENCODINGS & set(chain):
+        return any(placed(chain, [(sign,) for sign in text], found) for text in encoded(chain, "".join(part[0] for part in parts)))
+    return placed(chain, dashes_in(parts) if "windash" in chain else parts, found)
+
+
+def placed(chain, parts, found):
+    """Whether a text fits the parts with the runs of the chain."""
     if {"contains", "endswith"} & set(chain) and parts[:1] != [RUN]:
         parts = [RUN] + parts
     if {"contains", "startswith"} & set(chain) and parts[-1:] != [RUN]:

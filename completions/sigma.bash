@@ -1,0 +1,22 @@
+# Completions of sigma for bash: source this file.
+_sigma() {
+    local word=${COMP_WORDS[COMP_CWORD]} before=${COMP_WORDS[COMP_CWORD - 1]} options=''
+    if [ "$COMP_CWORD" -eq 1 ]; then
+        mapfile -t COMPREPLY < <(compgen -W 'check convert run query --help --version' -- "$word")
+        return
+    fi
+    case ${COMP_WORDS[1]} in
+        check) options='' ;;
+        convert) options='--backend --schema' ;;
+        run) options='--schema' ;;
+        query) options='--backend --schema' ;;
+    esac
+    if [ "$before" = --backend ]; then
+        mapfile -t COMPREPLY < <(compgen -W 'sqlite lucene' -- "$word")
+    elif [[ $word == -* && -n $options ]]; then
+        mapfile -t COMPREPLY < <(compgen -W "$options" -- "$word")
+    else
+        mapfile -t COMPREPLY < <(compgen -f -- "$word")
+    fi
+}
+complete -o filenames -F _sigma sigma
