@@ -1,0 +1,6 @@
+pub mod Arrivals
+pub mod Engines
+pub mod Limits
+pub mod Sets
+pub mod Shown
+pub mod Steps

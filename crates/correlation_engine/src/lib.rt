@@ -1,0 +1,21 @@
+//! Correlations of rules over events, from a bounded state.
+#![tactic(auto)]
+
+pub use arrival::Arrival;
+pub use engine::Engine;
+pub use fault::TakeFault;
+pub use matching::matches_in;
+
+mod arrival;
+mod conditions;
+mod counting;
+mod engine;
+mod fault;
+mod matching;
+mod places;
+mod reporting;
+mod steps;
+#[cfg(test)]
+mod tests;
+mod watch;
+mod windows;
