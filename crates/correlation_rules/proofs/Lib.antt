@@ -1,0 +1,7 @@
+mod Spans
+mod Entered
+mod Repeats
+mod Known
+mod Positions
+mod Groups
+mod Bounds

@@ -1,0 +1,6 @@
+pub mod Timespans
+pub mod Words
+pub mod Checks
+pub mod Correlations
+pub mod Binding
+pub mod Sources

@@ -1,0 +1,14 @@
+//! Correlations of rules: how their documents are read, and how they are bound to rules and to the fields of a schema.
+#![tactic(auto)]
+
+pub use correlation::{Alias, AliasField, Correlation};
+pub use timespan::span_of;
+
+mod binding;
+mod checks;
+mod correlation;
+mod reading;
+#[cfg(test)]
+mod tests;
+mod timespan;
+mod words;
