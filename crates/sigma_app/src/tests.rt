@@ -2,7 +2,6 @@
 
 mod cuts;
 mod faults;
-mod modifiers;
 mod query_faults;
 mod querying;
 mod rules;
