@@ -128,6 +128,6 @@ fn words_make_chains(rt: HostRuntime) -> Result<(), Fail> {
             "{row}"
         );
     }
-    assert_eq!(rt; ROWS.lines().count(), 49);
+    assert_eq!(rt; ROWS.lines().count(), 45);
     Ok(())
 }
