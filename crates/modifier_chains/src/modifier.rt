@@ -43,7 +43,7 @@ pub enum Modifier {
     Encoding(Encoding),
     /// whether there is a value
     Exists,
-    /// that the value is an address of a network; no word asks for it yet
+    /// that the value is an address of a network
     Cidr,
 }
 
@@ -55,7 +55,7 @@ pub enum Joined {
 }
 
 /// Each word, and what it asks for.
-const WORDS: [(&str, Modifier); 13] = [
+const WORDS: [(&str, Modifier); 14] = [
     ("contains", Modifier::Position(Position::Around)),
     ("startswith", Modifier::Position(Position::After)),
     ("endswith", Modifier::Position(Position::Before)),
@@ -69,6 +69,7 @@ const WORDS: [(&str, Modifier); 13] = [
     ("base64", Modifier::Encoding(Encoding::Base64)),
     ("base64offset", Modifier::Encoding(Encoding::Base64Offset)),
     ("exists", Modifier::Exists),
+    ("cidr", Modifier::Cidr),
 ];
 
 /// The modifier that a word names in these rows.

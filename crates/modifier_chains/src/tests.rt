@@ -28,8 +28,15 @@ exists|all~41~41
 cased|exists~41~41
 exists|exists~41~41
 exists|near~40 near~40 near
-cidr~40 cidr~40 cidr
-all|cidr~40 cidr~40 cidr
+cidr~networks any~41
+cidr|all~networks all~41
+all|cidr~41~41
+cidr|cidr~41~41
+cidr|contains~41~41
+cased|cidr~41~41
+cidr|all|all~41~41
+exists|cidr~41~41
+CIDR~40 CIDR~40 CIDR
 windash~texts any~texts any
 windash|contains|all~texts all~texts all
 contains|windash~texts any~texts any
@@ -128,6 +135,6 @@ fn words_make_chains(rt: HostRuntime) -> Result<(), Fail> {
             "{row}"
         );
     }
-    assert_eq!(rt; ROWS.lines().count(), 45);
+    assert_eq!(rt; ROWS.lines().count(), 52);
     Ok(())
 }
