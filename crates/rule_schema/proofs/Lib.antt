@@ -1,3 +1,4 @@
+mod Asked
 pub mod FirstRefused
 pub mod Gathered
 pub mod Gathering

@@ -9,10 +9,10 @@ use Rattle.sig_base.specs.declared.refusal.Place.{Place}
 use Rattle.sig_base.specs.declared.refusal.Refusal.{Refusal}
 use Rattle.sig_base.specs.Judged.{refusal}
 use Rattle.event_schema.specs.Names.{IsName}
-use Rattle.event_schema.specs.Inferred.{text_field}
 use Rattle.event_schema.specs.Schemas.{IsOther, AreApart, twin, IsField, names_of, IsSchema}
 use Rattle.event_schema.specs.declared.schema.Field.{Field}
-use Rattle.rule_schema.specs.Inferred.{Use, clashes, clash_behind, distinct, uses_of, items_of, names_in, rule_names, inferred_schema, schema_refusal}
+use Rattle.rule_schema.specs.Inferred.{Use, clashes, clash_behind, distinct, uses_of, items_of, rule_names, inferred_schema, schema_refusal, made_field}
+use Rattle.rule_schema.specs.Kinds.{address_names, names_in}
 use Rattle.event_schema.specs.Lists.{EachOf}
 use Rattle.rule_model.specs.Plain.{PlainRule}
 use Rattle.rule_model.specs.Whole.{IsWhole}
@@ -195,34 +195,35 @@ rule_apart rule e = distinct_apart [] (uses_of (items_of rule.detections)) e
 
 -- ---- schemas
 
-pub fields_kept : (names : List (List ℕ)) → EachOf IsName names → EachOf IsField (map text_field names)
-fields_kept [] each = tt
-fields_kept (name ∷ names) each = (record { name = each.0; at = tt; search = λ e. absurd (false_true e); cased = λ e. absurd (false_true e) }, fields_kept names each.1) where
+pub fields_kept : (addresses names : List (List ℕ)) → EachOf IsName names → EachOf IsField (map (made_field addresses) names)
+fields_kept addresses [] each = tt
+fields_kept addresses (name ∷ names) each = (record { name = each.0; at = tt; search = λ e. absurd (false_true e); cased = λ e. absurd (false_true e) }, fields_kept addresses names each.1) where
   false_true : false ≡ true → ⊥
   false_true e = cc
 
-pub own_names : (names : List (List ℕ)) → names_of (map text_field names) ≡ names
-own_names [] = refl
-own_names (name ∷ names) = ap (λ (ns : List (List ℕ)). name ∷ ns) (own_names names)
+pub own_names : (addresses names : List (List ℕ)) → names_of (map (made_field addresses) names) ≡ names
+own_names addresses [] = refl
+own_names addresses (name ∷ names) = ap (λ (ns : List (List ℕ)). name ∷ ns) (own_names addresses names)
 
 -- no field that is made of a name has a twin
-pub no_twins : (all names : List (List ℕ)) → EachOf (λ field. field.cased ≡ true → IsOther (twin field.name) all) (map text_field names)
-no_twins all [] = tt
-no_twins all (name ∷ names) = ((λ e. absurd (false_true e)), no_twins all names) where
+pub no_twins : (addresses all names : List (List ℕ)) → EachOf (λ field. field.cased ≡ true → IsOther (twin field.name) all) (map (made_field addresses) names)
+no_twins addresses all [] = tt
+no_twins addresses all (name ∷ names) = ((λ e. absurd (false_true e)), no_twins addresses all names) where
   false_true : false ≡ true → ⊥
   false_true e = cc
 
-as_many : (names : List (List ℕ)) → length (map text_field names) ≡ length names
-as_many [] = refl
-as_many (name ∷ names) = ap suc (as_many names)
+as_many : (addresses names : List (List ℕ)) → length (map (made_field addresses) names) ≡ length names
+as_many addresses [] = refl
+as_many addresses (name ∷ names) = ap suc (as_many addresses names)
 
 pub inferred_kept : (rule : PlainRule) → IsWhole rule → schema_refusal rule ≡ None → length (rule_names rule) < 2 ^ 32 → IsSchema (inferred_schema rule)
 inferred_kept rule whole free few =
     let names = rule_names rule in
+    let addresses = address_names (items_of rule.detections) in
     record {
       table = record { legal = refl; scalars = refl };
-      fields = fields_kept names (rule_legal rule whole);
-      apart = subst AreApart (sym (own_names names)) (rule_apart rule free);
-      twins = no_twins (names_of (map text_field names)) names;
-      few = subst (λ (n : ℕ). n < 2 ^ 32) (sym (as_many names)) few;
+      fields = fields_kept addresses names (rule_legal rule whole);
+      apart = subst AreApart (sym (own_names addresses names)) (rule_apart rule free);
+      twins = no_twins addresses (names_of (map (made_field addresses) names)) names;
+      few = subst (λ (n : ℕ). n < 2 ^ 32) (sym (as_many addresses names)) few;
     }

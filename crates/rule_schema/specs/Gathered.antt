@@ -9,7 +9,8 @@ use Rattle.sig_base.specs.declared.refusal.Fault.{Fault}
 use Rattle.sig_base.specs.declared.refusal.Fault.TheVariants.{Memory, Refused}
 use Rattle.sig_base.specs.declared.refusal.Refusal.{Refusal}
 use Rattle.sig_base.specs.Judged.{refusal}
-use Rattle.rule_schema.specs.Inferred.{Use, clashes, names_in}
+use Rattle.rule_schema.specs.Inferred.{Use, clashes}
+use Rattle.rule_schema.specs.Kinds.{names_in}
 use Rattle.event_schema.specs.Lists.{EachOf}
 use Rattle.rule_items.specs.declared.detection.Detection.{Detection}
 use Rattle.rule_items.specs.declared.item.Item.{Item}

@@ -1,10 +1,11 @@
 -- The schema that is made of a rule where none is given, and whether a rule fits a schema.
-use Rattle.std.specs.Prelude.{ℕ, Bool, not, ◌&&◌, if◌then◌else◌, List, [], ◌∷◌, ◌++◌, map, filter, codes, Some, None}
+use Rattle.std.specs.Prelude.{ℕ, Bool, false, not, ◌&&◌, if◌then◌else◌, List, [], ◌∷◌, ◌++◌, map, filter, codes, Some, None}
 use Rattle.std.specs.List.{list_any, list_all, flat_map}
 use Rattle.std.specs.Str.{bytes_eq}
 use Rattle.std.specs.declared.option.Option.{Option}
-use Rattle.event_schema.specs.Inferred.{text_field}
 use Rattle.event_schema.specs.declared.schema.Field.{Field}
+use Rattle.event_schema.specs.declared.schema.FieldKind.{FieldKind}
+use Rattle.event_schema.specs.declared.schema.FieldKind.TheVariants.{Text, Address}
 use Rattle.event_schema.specs.declared.schema.Schema.{Schema}
 use Rattle.sig_base.specs.Folding.{folded}
 use Rattle.sig_base.specs.declared.refusal.Place.{Place}
@@ -15,14 +16,12 @@ use Rattle.rule_items.specs.declared.detection.Detection.{Detection}
 use Rattle.rule_items.specs.declared.item.Fields.{Fields}
 use Rattle.rule_items.specs.declared.item.Fields.TheVariants.{Keyword, Names}
 use Rattle.rule_items.specs.declared.item.Item.{Item}
+use Rattle.rule_schema.specs.Kinds.{names_in, address_names, are_of_kinds}
+use Rattle.sig_modifiers.specs.declared.test.Test.{Test}
 
 -- the items of a rule, in its order
 abbrev pub items_of : List Detection → List Item
 items_of ds = flat_map (λ d. flat_map (λ items. items) d.alternatives) ds
-
-abbrev pub names_in : Fields → List (List ℕ)
-names_in Keyword = []
-names_in (Names names) = names
 
 -- a name with the place of its item
 abbrev pub Use : Type 0
@@ -41,9 +40,22 @@ distinct (name ∷ names) = name ∷ filter (λ other. not (bytes_eq other name)
 abbrev pub rule_names : PlainRule → List (List ℕ)
 rule_names rule = distinct (map (λ u. u.0) (uses_of (items_of rule.detections)))
 
--- the table `events` with a field of texts for each name
+-- a field of addresses where the name is one of these, else of texts
+abbrev pub made_kind : List (List ℕ) → List ℕ → FieldKind
+made_kind addresses name = if list_any (λ other. bytes_eq other name) addresses then Address else Text
+
+-- a field of one value, found under its own name
+abbrev pub made_field : List (List ℕ) → List ℕ → Field
+made_field addresses name =
+    record { name = name; kind = made_kind addresses name; at = name ∷ []; search = false; cased = false; many = false }
+
+-- the table `events` with a field for each name, of addresses where a test of the rule asks for them, else of texts
 abbrev pub inferred_schema : PlainRule → Schema
-inferred_schema rule = record { table = codes "events"; fields = map text_field (rule_names rule); time = None }
+inferred_schema rule = record {
+  table = codes "events";
+  fields = map (made_field (address_names (items_of rule.detections))) (rule_names rule);
+  time = None;
+}
 
 -- two names that differ, but not where letters of either case are taken for equal
 abbrev pub clashes : List ℕ → List ℕ → Bool
@@ -61,14 +73,19 @@ schema_refusal rule = clash_behind [] (uses_of (items_of rule.detections))
 abbrev pub is_field : List Field → List ℕ → Bool
 is_field fields name = list_any (λ field. bytes_eq field.name name) fields
 
--- an item's names are fields of the schema, and a keyword has a field that it searches
-abbrev pub fields_refusal : List Field → Place → Fields → Option Refusal
-fields_refusal fields place Keyword = must 83 place (list_any (λ field. field.search) fields)
-fields_refusal fields place (Names names) = must 81 place (list_all (is_field fields) names)
+-- an item's names are fields of the schema, of the kinds that its tests stand on; and a keyword has a field that it searches
+abbrev pub fields_refusal : List Field → Place → List (List Test) → Fields → Option Refusal
+fields_refusal fields place values Keyword = must 83 place (list_any (λ field. field.search) fields)
+fields_refusal fields place values (Names names) =
+    first (must 81 place (list_all (is_field fields) names) ∷ must 82 place (are_of_kinds fields values names) ∷ [])
 
--- why a rule doesn't fit a schema: the first item that has no field there
+-- why an item doesn't fit the fields of a schema
+abbrev pub item_line : List Field → Item → Option Refusal
+item_line fields i = fields_refusal fields i.place i.tests i.fields
+
+-- why a rule doesn't fit a schema: the first item that doesn't
 abbrev pub fit_refusal : Schema → PlainRule → Option Refusal
-fit_refusal schema rule = first (map (λ i. fields_refusal schema.fields i.place i.fields) (items_of rule.detections))
+fit_refusal schema rule = first (map (item_line schema.fields) (items_of rule.detections))
 
 abbrev pub keyword_at : Place → Fields → Option Refusal
 keyword_at place Keyword = Some (refusal 83 place)

@@ -1,3 +1,4 @@
 pub mod Inferred
+pub mod Kinds
 pub mod Gathered
 pub mod Fitting

@@ -4,14 +4,17 @@ ghost use Rattle.std.specs.Prelude.{◌≡◌, map};
 ghost use Rattle.std.specs.List.{list_any, list_all, flat_map};
 ghost use Rattle.event_schema.specs.declared.schema.Field.{Field};
 ghost use Rattle.sig_base.specs.Judged.{first, must};
+ghost use Rattle.rule_items.specs.declared.item.Fields.TheVariants.{Names};
 ghost use Rattle.rule_model.specs.Plain.{rule_view};
-ghost use Rattle.rule_schema.specs.Fitting.{AnswersRefusal, item_line};
+ghost use Rattle.rule_schema.specs.Fitting.{AnswersRefusal};
 ghost use Rattle.rule_schema.specs.Inferred as spec;
 
+use crate::kinds::are_of_kinds;
 use event_schema::{Field, Schema};
 use rule_items::{Alternative, Detection, Fields, Item};
 use rule_model::Rule;
 use sig_base::{Code, Detail, Place, Refusal, Text};
+use sig_modifiers::Tests;
 
 /// Whether keywords search one of the fields.
 fn has_search(fields: &[Field]) -> bool
@@ -46,22 +49,39 @@ fn unless(code: Code, place: Place, holds: bool) -> Option<Refusal>
     })
 }
 
+/// Why an item with these tests of its values doesn't fit the fields by its names.
+fn names_refusal(
+    fields: &[Field],
+    place: Place,
+    values: &[Tests],
+    names: &[Text],
+) -> Option<Refusal>
+    ensures { result ≡ spec.fields_refusal fields.now place values.now (Names names.now) }
+{
+    let unknown = unless(Code::UNKNOWN_FIELD, place, are_fields(fields, names));
+    if unknown.is_some() {
+        return unknown;
+    }
+    unless(Code::KIND_MISMATCH, place, are_of_kinds(fields, values, names))
+}
+
 fn item_refusal(fields: &[Field], item: &Item) -> Option<Refusal>
-    ensures { result ≡ item_line fields.now item.now }
+    ensures { result ≡ spec.item_line fields.now item.now }
 {
     match &item.fields {
         Fields::Keyword => unless(Code::NO_SEARCH_FIELD, item.place, has_search(fields)),
-        Fields::Names(names) => unless(
-            Code::UNKNOWN_FIELD,
+        Fields::Names(names) => names_refusal(
+            fields,
             item.place,
-            are_fields(fields, names.as_slice()),
+            item.tests.as_slice(),
+            names.as_slice(),
         ),
     }
 }
 
 #[tactic(auto, using(crate::proofs::FirstRefused::line_here, crate::proofs::FirstRefused::line_on))]
 fn items_refusal(fields: &[Field], items: &[Item]) -> Option<Refusal>
-    ensures { result ≡ first (map (item_line fields.now) items.now) }
+    ensures { result ≡ first (map (spec.item_line fields.now) items.now) }
 {
     for item in items {
         if let Some(refusal) = item_refusal(fields, item) {
@@ -73,7 +93,7 @@ fn items_refusal(fields: &[Field], items: &[Item]) -> Option<Refusal>
 
 #[tactic(auto, using(crate::proofs::FirstRefused::part_here, crate::proofs::FirstRefused::part_on))]
 fn alternatives_refusal(fields: &[Field], alternatives: &[Alternative]) -> Option<Refusal>
-    ensures { result ≡ first (map (item_line fields.now) (flat_map (λ items. items) alternatives.now)) }
+    ensures { result ≡ first (map (spec.item_line fields.now) (flat_map (λ items. items) alternatives.now)) }
 {
     for alternative in alternatives {
         if let Some(refusal) = items_refusal(fields, alternative.as_slice()) {
@@ -85,7 +105,7 @@ fn alternatives_refusal(fields: &[Field], alternatives: &[Alternative]) -> Optio
 
 #[tactic(auto, using(crate::proofs::FirstRefused::part_here, crate::proofs::FirstRefused::part_on))]
 fn detections_refusal(fields: &[Field], detections: &[Detection]) -> Option<Refusal>
-    ensures { result ≡ first (map (item_line fields.now) (spec.items_of detections.now)) }
+    ensures { result ≡ first (map (spec.item_line fields.now) (spec.items_of detections.now)) }
 {
     for detection in detections {
         if let Some(refusal) = alternatives_refusal(fields, detection.alternatives.as_slice()) {
@@ -96,7 +116,8 @@ fn detections_refusal(fields: &[Field], detections: &[Detection]) -> Option<Refu
 }
 
 /// Whether a rule fits a schema. Its first item, in the rule's order, with a name that no field of the schema has exactly is
-/// refused 81, and a keyword where keywords search no field 83.
+/// refused 81, one that asks for an address of a field that isn't one of addresses 82, and a keyword where keywords search
+/// no field 83.
 pub fn fit_schema(rule: &Rule, schema: &Schema) -> Result<(), Refusal>
     ensures { AnswersRefusal (spec.fit_refusal schema.now (rule_view rule.now)) result }
 {

@@ -6,8 +6,10 @@ pub use inferred::fit_inferred;
 pub use law::keywords_alone;
 pub use schema::infer_schema;
 
+mod addresses;
 mod fit;
 mod inferred;
+mod kinds;
 mod law;
 mod names;
 mod schema;

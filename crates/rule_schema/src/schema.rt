@@ -1,30 +1,42 @@
 //! The schema that is made of a rule where none is given.
 
 ghost use Rattle.std.specs.Prelude.{◌≡◌, map, IfOk, IfErr};
-ghost use Rattle.event_schema.specs.Inferred as event;
 ghost use Rattle.event_schema.specs.Schemas.{IsSchema};
 ghost use Rattle.sig_base.specs.Judged.{Judged};
 ghost use Rattle.rule_model.specs.Plain.{rule_view};
 ghost use Rattle.rule_model.specs.Whole.{IsWhole};
 ghost use Rattle.rule_schema.specs.Inferred as spec;
 
+use crate::addresses::address_index;
 use crate::law::inferred_schemas;
 use crate::names::gather;
 use event_schema::{Field, FieldKind, FieldList, Schema};
 use rule_model::Rule;
 use sig_base::{Fault, Text, Texts};
 use std::alloc::Global;
+use text_index::TextIndex;
 
-/// A field of texts, found under its own name.
-fn text_field(alloc: Global, name: Text) -> Result<Field, Fault>
-    ensures ok { IfOk result (λ field. field ≡ event.text_field name) }
+/// The kind of a name's field, where tests for addresses stand on these.
+fn made_kind(addresses: &TextIndex, name: &Text) -> FieldKind
+    ensures { result ≡ spec.made_kind addresses.now name.now }
+{
+    match addresses.find(name) {
+        Some(_) => FieldKind::Address,
+        None => FieldKind::Text,
+    }
+}
+
+/// A field of one value, found under its own name.
+fn made_field(alloc: Global, addresses: &TextIndex, name: Text) -> Result<Field, Fault>
+    ensures ok { IfOk result (λ field. field ≡ spec.made_field addresses.now name) }
     ensures err { IfErr result (λ e. e ≡ Fault.Memory) }
 {
+    let kind = made_kind(addresses, &name);
     let mut at = Texts::new(alloc);
     at.push(Text::copy(alloc, name.as_str())?)?;
     Ok(Field {
         name,
-        kind: FieldKind::Text,
+        kind,
         at,
         search: false,
         cased: false,
@@ -32,20 +44,25 @@ fn text_field(alloc: Global, name: Text) -> Result<Field, Fault>
     })
 }
 
-fn text_fields(alloc: Global, names: Vec<Text>) -> Result<FieldList, Fault>
-    ensures ok { IfOk result (λ fields. fields ≡ map event.text_field names.items) }
+fn made_fields(
+    alloc: Global,
+    addresses: &TextIndex,
+    names: Vec<Text>,
+) -> Result<FieldList, Fault>
+    ensures ok { IfOk result (λ fields. fields ≡ map (spec.made_field addresses.now) names.items) }
     ensures err { IfErr result (λ e. e ≡ Fault.Memory) }
 {
     let mut fields = FieldList::new(alloc);
     for name in names {
-        fields.push(text_field(alloc, name)?)?;
+        fields.push(made_field(alloc, addresses, name)?)?;
     }
     Ok(fields)
 }
 
-/// The schema that is made of a rule where none is given: the table `events`, with a field of texts for each name that the
-/// rule uses, in the order of their first appearance. Two names that differ in the case of A to Z alone are refused 80 at the
-/// item of the later one. More than 2^32 - 1 names can't be numbered, which is want of memory.
+/// The schema that is made of a rule where none is given: the table `events`, with a field for each name that the rule
+/// uses, in the order of their first appearance, of addresses where a test asks for them, else of texts. Two names that
+/// differ in the case of A to Z alone are refused 80 at the item of the later one. More than 2^32 - 1 names can't be
+/// numbered, which is want of memory.
 pub fn infer_schema(alloc: Global, rule: &Rule) -> Result<Schema, Fault>
     ensures made { Judged (λ schema. schema ≡ spec.inferred_schema (rule_view rule.now)) (spec.schema_refusal (rule_view rule.now)) result }
     ensures kept { IsWhole (rule_view rule.now) → IfOk result (λ schema. IsSchema schema) }
@@ -55,7 +72,8 @@ pub fn infer_schema(alloc: Global, rule: &Rule) -> Result<Schema, Fault>
     if names.len() > u32::MAX as usize {
         return Err(Fault::Memory);
     }
-    let fields = text_fields(alloc, names)?;
+    let addresses = address_index(alloc, rule.detections.as_slice())?;
+    let fields = made_fields(alloc, &addresses, names)?;
     let table = Text::copy(alloc, "events")?;
     Ok(Schema {
         table,

@@ -7,6 +7,8 @@ use rule_head::{Head, LogSource};
 use rule_items::{Alternative, Alternatives, Detection, Detections, Fields, Item, Values};
 use rule_model::Rule;
 use sig_base::{Fault, Place, Refusal, Text, Texts};
+use sig_encode::Network;
+use sig_modifiers::{Test, Tests};
 use std::alloc::Global;
 use std::test::Fail;
 
@@ -24,8 +26,24 @@ fn texts(alloc: Global, first: &str, second: &str) -> Result<Texts, Fail> {
     Ok(all)
 }
 
-/// An item over these names, or a keyword where there is none.
-fn item(alloc: Global, line: u32, first: &str, second: &str) -> Result<Item, Fail> {
+/// No values, or one that asks for an address.
+fn values(alloc: Global, asks: bool) -> Result<Values, Fail> {
+    let mut values = Values::new(alloc);
+    if asks {
+        let mut tests = Tests::new(alloc);
+        tests.push(Test::Exists(true))?;
+        tests.push(Test::Inside(Network::read("10.0.0.0/8", TOP)?))?;
+        values.push(tests)?;
+    }
+    Ok(values)
+}
+
+/// An item over these names, or a keyword where there is none; it asks for an address where `@` stands before the first.
+fn item(alloc: Global, line: u32, written: &str, second: &str) -> Result<Item, Fail> {
+    let (asks, first) = match written.strip_prefix('@') {
+        Some(rest) => (true, rest),
+        None => (false, written),
+    };
     let names = texts(alloc, first, second)?;
     let fields = if first == "" {
         Fields::Keyword
@@ -34,7 +52,7 @@ fn item(alloc: Global, line: u32, first: &str, second: &str) -> Result<Item, Fai
     };
     Ok(Item {
         fields,
-        tests: Values::new(alloc),
+        tests: values(alloc, asks)?,
         joined: Joined::Any,
         place: Place { line, column: 1 },
     })
@@ -79,14 +97,18 @@ fn told(alloc: Global, refusal: &Refusal) -> Result<String, Fail> {
     Ok(format!(in alloc; "{code} {line}")?)
 }
 
-/// The table and the fields of the schema that is made of a rule, or what refuses it.
+/// The table and the fields of the schema that is made of a rule, with `@` before those of addresses, or what refuses it.
 fn inferred(alloc: Global, items: &[(&str, &str)]) -> Result<String, Fail> {
     let rule = rule(alloc, items)?;
     match infer_schema(alloc, &rule) {
         Ok(schema) => {
             let mut shown = String::from_str(alloc, schema.table.as_str())?;
             for field in schema.fields.as_slice() {
-                shown.push_str(" ")?;
+                shown.push_str(match field.kind {
+                    FieldKind::Text => " ",
+                    FieldKind::Address => " @",
+                    FieldKind::Whole => " #",
+                })?;
                 shown.push_str(field.name.as_str())?;
             }
             Ok(shown)
@@ -103,21 +125,27 @@ fn names_stand_once_unless_they_clash(rt: HostRuntime) -> Result<(), Fail> {
         ([("", ""), ("y", "x")].as_slice(), "events y x"),
         ([("A", ""), ("b", ""), ("a", "")].as_slice(), "80 3"),
         ([("b", "B")].as_slice(), "80 1"),
+        ([("b", ""), ("@c", "b"), ("c", ""), ("a", "")].as_slice(), "events @b @c a"),
+        ([("@a", ""), ("B", ""), ("b", "")].as_slice(), "80 3"),
     ] {
         assert_eq!(rt; inferred(rt.alloc(), items)?.as_str(), want);
     }
     Ok(())
 }
 
-/// What refuses a rule under a schema of the fields `a` and `b`, both of which keywords search, or none.
+/// What refuses a rule under a schema of the fields `a` and `b`, both of which keywords search, or none, and `ip` of addresses.
 fn misfit(alloc: Global, search: bool, items: &[(&str, &str)]) -> Result<String, Fail> {
     let mut fields = event_schema::FieldList::new(alloc);
-    for name in ["a", "b"] {
+    for (name, kind) in [
+        ("a", FieldKind::Text),
+        ("b", FieldKind::Text),
+        ("ip", FieldKind::Address),
+    ] {
         fields.push(Field {
             name: Text::copy(alloc, name)?,
-            kind: FieldKind::Text,
+            kind,
             at: texts(alloc, name, "")?,
-            search,
+            search: search && name != "ip",
             cased: false,
             many: false,
         })?;
@@ -134,7 +162,7 @@ fn misfit(alloc: Global, search: bool, items: &[(&str, &str)]) -> Result<String,
 }
 
 #[test]
-fn the_first_item_without_a_field_is_refused(rt: HostRuntime) -> Result<(), Fail> {
+fn the_first_item_that_does_not_fit_is_refused(rt: HostRuntime) -> Result<(), Fail> {
     for (search, items, want) in [
         (false, [("a", ""), ("b", "a")].as_slice(), ""),
         (false, [("a", ""), ("a", "c"), ("d", "")].as_slice(), "81 2"),
@@ -142,6 +170,10 @@ fn the_first_item_without_a_field_is_refused(rt: HostRuntime) -> Result<(), Fail
         (true, [("a", ""), ("", "")].as_slice(), ""),
         (false, [("a", ""), ("", ""), ("c", "")].as_slice(), "83 2"),
         (false, [("c", ""), ("", "")].as_slice(), "81 1"),
+        (false, [("ip", "a"), ("@ip", "")].as_slice(), ""),
+        (false, [("a", ""), ("@ip", "a"), ("c", "")].as_slice(), "82 2"),
+        (false, [("@a", "c")].as_slice(), "81 1"),
+        (false, [("@a", ""), ("", "")].as_slice(), "82 1"),
     ] {
         assert_eq!(rt; misfit(rt.alloc(), search, items)?.as_str(), want);
     }

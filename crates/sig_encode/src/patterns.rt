@@ -3,7 +3,7 @@
 ghost use Rattle.std.specs.Prelude.{◌≡◌, ◌++◌, ◌<◌, ◌≤◌, ◌+◌, ◌-◌, ◌*◌, ◌/◌, ◌^◌, map, IfOk, IfErr, OnOk};
 ghost use Rattle.std.specs.Fmt.{decimal};
 ghost use Rattle.std.specs.Str.{chars};
-ghost use Rattle.sig_encode.specs.Networks.{counted, front_text, front_pattern, patterns_of, told_octets};
+ghost use Rattle.sig_encode.specs.Networks.{counted, front_text, front_pattern, pattern_count, patterns_of, told_octets};
 
 use crate::network::Network;
 use itoa::Buffer;
@@ -78,13 +78,20 @@ fn fronts(alloc: Global, octets: u8, start: u64, count: u64) -> Result<Vec<Patte
 }
 
 impl Network {
+    /// How many patterns fit the network's addresses: at most 256.
+    pub fn pattern_count(&self) -> u64
+        ensures { result ≡ pattern_count self.now }
+    {
+        1u64 << (8 * octets_told(self.prefix()) - self.prefix())
+    }
+
     /// The patterns that fit the network's addresses: those of its first octets, in ascending order.
     pub fn patterns(&self, alloc: Global) -> Result<Vec<Pattern>, Fault>
         ensures ok { IfOk result (λ all. all.items ≡ patterns_of self.now) }
         ensures err { IfErr result (λ e. e ≡ Fault.Memory) }
     {
         let octets = octets_told(self.prefix());
-        let count = 1u64 << (8 * octets - self.prefix());
+        let count = self.pattern_count();
         let start = u64::from(self.first()) * count;
         fronts(alloc, octets, start, count)
     }

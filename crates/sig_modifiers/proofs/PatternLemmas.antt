@@ -19,6 +19,7 @@ use Rattle.sig_base.specs.Judged.{must, first, Judged}
 use Rattle.sig_base.specs.declared.refusal.Fault.{Fault}
 use Rattle.sig_base.specs.declared.refusal.Fault.TheVariants.{Memory, Refused}
 use Rattle.sig_base.proofs.TextLemmas.{ascii_scalars}
+use Rattle.sig_encode.specs.Networks.{Net, IsNetwork}
 use Rattle.sig_strings.specs.declared.part.Part.{Part}
 use Rattle.value_patterns.specs.Parts.{has_nul}
 use Rattle.value_patterns.specs.PlainPatterns.{IsDashedPattern}
@@ -26,8 +27,8 @@ use Rattle.value_patterns.specs.Uses.{Use, unused, absent, existing, pattern, ne
 use Rattle.yaml_tree.specs.Nodes.{place_of}
 use Rattle.yaml_tree.specs.Texts.{IsScalarText, HasScalarTexts}
 use Rattle.yaml_tree.specs.Tree.{Scalar, null, truth, whole, text, Tree, scalar, list, map}
-use Rattle.sig_modifiers.specs.PlainTests.{ArePlainTests, IsPatternTest}
-use Rattle.sig_modifiers.specs.TestsOf.{AreFits, UseTests, TestsOf, use_of, form_use, scalar_use, truth_text, fits_of, value_refusal}
+use Rattle.sig_modifiers.specs.PlainTests.{IsPlainNetwork, ArePlainTests, IsPatternTest}
+use Rattle.sig_modifiers.specs.TestsOf.{AreFits, AreInside, UseTests, TestsOf, use_of, form_use, scalar_use, truth_text, fits_of, value_refusal}
 use Rattle.sig_modifiers.specs.declared.test.Test.{Test}
 use Rattle.sig_modifiers.specs.declared.test.Test.TheVariants as tests
 
@@ -98,7 +99,10 @@ scalar_uses Presence null h = tt
 scalar_uses Presence (truth b) h = tt
 scalar_uses Presence (whole n) h = tt
 scalar_uses Presence (text t) h = tt
-scalar_uses Networks s h = tt
+scalar_uses Networks null h = tt
+scalar_uses Networks (truth b) h = tt
+scalar_uses Networks (whole n) h = tt
+scalar_uses Networks (text t) h = tt
 scalar_uses (Texts nulls) null h = null_scalars nulls
 scalar_uses (Texts nulls) (truth b) h = truth_scalars b
 scalar_uses (Texts nulls) (whole n) h = ascii_scalars (signed_decimal n) (decimal_ascii n)
@@ -126,7 +130,8 @@ pub no_nul : (most dashes : ℕ) (chain : Written) (place : Place) (t : List ℕ
 no_nul most dashes chain place t h = first_three (nat_le (length t) most) (has_nul t) place _ h
 
 module _ (dashed : (chain : Written) (t : List ℕ) (patterns : List (List Part))
-    → all_scalars t ≡ true → has_nul t ≡ false → ArePatterns chain t patterns → EachOf IsDashedPattern patterns) where
+    → all_scalars t ≡ true → has_nul t ≡ false → ArePatterns chain t patterns → EachOf IsDashedPattern patterns)
+    (plain_network : (t : List ℕ) (n : Net) → IsNetwork t n → IsPlainNetwork n) where
   use_plain : (most dashes : ℕ) (place : Place) (chain : Written) (u : Use) (ts : List Test) → use_refusal most dashes chain place u ≡ None
       → IsScalarUse u → UseTests chain u ts → ArePlainTests ts
   use_plain most dashes place chain unused ts none scalars h = absurd h
@@ -135,7 +140,7 @@ module _ (dashed : (chain : Written) (t : List ℕ) (patterns : List (List Part)
   use_plain most dashes place chain (pattern t) ts none scalars h =
       subst ArePlainTests (sym h.tests_are)
       (each_plain chain h.patterns (dashed chain t h.patterns scalars (no_nul most dashes chain place t none) h.are_patterns))
-  use_plain most dashes place chain (network t) ts none scalars h = absurd h
+  use_plain most dashes place chain (network t) ts none scalars h = subst ArePlainTests (sym h.2) (plain_network t h.0 h.1, tt)
   use_plain most dashes place chain (number n) ts none scalars h = subst ArePlainTests (sym h) (tt, tt)
 
   pub value_plain : (most dashes : ℕ) (chain : Written) (t : Tree) (ts : List Test) → value_refusal most dashes chain t ≡ None → HasScalarTexts t
@@ -169,3 +174,11 @@ pub judged_so : (Q : List Test → Type 0) (cause : Option Refusal) (r : Result 
 judged_so Q cause (Ok ts) none ok err = (none, ok)
 judged_so Q cause (Err Memory) none ok err = tt
 judged_so Q cause (Err (Refused x)) none ok err = absurd cc
+
+-- ---- what is answered for a network
+
+pub are_inside : (t : List ℕ) (n : Net) (ts : List Test) → IsNetwork t n → ts ≡ tests.Inside n ∷ [] → AreInside t ts
+are_inside t n ts h is = (n, h, is)
+
+pub inside_plain : (t : List ℕ) (n : Net) (ts : List Test) → IsPlainNetwork n → ts ≡ tests.Inside n ∷ [] → ArePlainTests ts
+inside_plain t n ts h is = subst ArePlainTests (sym is) (h, tt)

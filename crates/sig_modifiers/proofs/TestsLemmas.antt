@@ -1,14 +1,12 @@
 -- A value that isn't refused has tests, one list of them, which isn't empty.
 use Rattle.std.proofs.Common.{◌≡◌, ℕ, Bool, true, false, List, [], ◌∷◌, map as list_map, refl, sym, ◌∙◌, ap, subst}
-use Rattle.std.specs.Prelude.{Option, Some, None, length, ⊤}
+use Rattle.std.specs.Prelude.{Option, Some, None, length}
 use Rattle.event_schema.specs.Lists.{HasElement}
-use Rattle.modifier_chains.specs.Chains.{form_of}
 use Rattle.modifier_chains.specs.Written.{Written}
-use Rattle.modifier_chains.specs.declared.form.ChainForm.{ChainForm}
-use Rattle.modifier_chains.specs.declared.form.ChainForm.TheVariants.{Bare, Presence, Networks, Texts}
 use Rattle.modifier_chains.specs.declared.modifier.Encoding.{Encoding}
 use Rattle.modifier_chains.specs.declared.modifier.Encoding.TheVariants.{Base64, Base64Offset}
 use Rattle.sig_base.specs.declared.refusal.Place.{Place}
+use Rattle.sig_encode.specs.Networks.{Net, IsNetwork}
 use Rattle.sig_encode.specs.declared.utf16.Form.{Form}
 use Rattle.sig_strings.specs.Edits.{plain_text}
 use Rattle.sig_strings.specs.declared.part.Part.{Part}
@@ -16,75 +14,47 @@ use Rattle.value_patterns.specs.Edited.{pattern_of}
 use Rattle.value_patterns.specs.Encoded.{encoding_of, units_of, bytes_in, as_pattern, AreTexts, AreAlternatives}
 use Rattle.value_patterns.specs.Uses.{Use, unused, absent, existing, pattern, network, number, use_refusal, ArePatterns}
 use Rattle.yaml_tree.specs.Nodes.{place_of}
-use Rattle.yaml_tree.specs.Tree.{Scalar, null, truth, whole, text, Tree, scalar, list, map}
-use Rattle.sig_modifiers.specs.TestsOf.{UseTests, TestsOf, use_of, form_use, scalar_use, fits_of, value_refusal}
+use Rattle.yaml_tree.specs.Tree.{Tree}
+use Rattle.sig_modifiers.specs.TestsOf.{UseTests, TestsOf, use_of, fits_of, value_refusal}
 use Rattle.sig_modifiers.specs.declared.test.Test.{Test}
 use Rattle.sig_modifiers.specs.declared.test.Test.TheVariants as tests
 
--- where a text stands for one list of patterns at most
-module _ (same : (chain : Written) (t : List ℕ) (patterns others : List (List Part)) → ArePatterns chain t patterns → ArePatterns chain t others → patterns ≡ others) where
+-- where a text stands for one list of patterns at most, and is one network at most
+module _ (same : (chain : Written) (t : List ℕ) (patterns others : List (List Part)) → ArePatterns chain t patterns → ArePatterns chain t others → patterns ≡ others)
+    (same_network : (t : List ℕ) (m n : Net) → IsNetwork t m → IsNetwork t n → m ≡ n) where
   use_one : (chain : Written) (u : Use) (a b : List Test) → UseTests chain u a → UseTests chain u b → a ≡ b
   use_one chain unused a b p q = absurd p
   use_one chain absent a b p q = p ∙ sym q
   use_one chain (existing e) a b p q = p ∙ sym q
   use_one chain (pattern t) a b p q =
       p.tests_are ∙ (ap (λ (all : List (List Part)). list_map (fits_of chain) all) (same chain t p.patterns q.patterns p.are_patterns q.are_patterns) ∙ sym q.tests_are)
-  use_one chain (network t) a b p q = absurd p
+  use_one chain (network t) a b p q = p.2 ∙ (ap (λ (n : Net). tests.Inside n ∷ []) (same_network t p.0 q.0 p.1 q.1) ∙ sym q.2)
   use_one chain (number n) a b p q = p ∙ sym q
 
   pub one_list : (chain : Written) (value : Tree) (a b : List Test) → TestsOf chain value a → TestsOf chain value b → a ≡ b
   one_list chain value a b p q = use_one chain (use_of chain value) a b p q
 
--- no value is taken for a network
-abbrev IsNoNetwork : Use → Type 0
-IsNoNetwork unused = ⊤
-IsNoNetwork absent = ⊤
-IsNoNetwork (existing b) = ⊤
-IsNoNetwork (pattern t) = ⊤
-IsNoNetwork (network t) = ⊥
-IsNoNetwork (number n) = ⊤
-
-no_network_null : (nulls : Bool) → IsNoNetwork (scalar_use (Texts nulls) null)
-no_network_null true = tt
-no_network_null false = tt
-
-no_network_scalar : (form : ChainForm) (s : Scalar) → IsNoNetwork (scalar_use form s)
-no_network_scalar Bare null = tt
-no_network_scalar Bare (truth b) = tt
-no_network_scalar Bare (whole n) = tt
-no_network_scalar Bare (text t) = tt
-no_network_scalar Presence null = tt
-no_network_scalar Presence (truth b) = tt
-no_network_scalar Presence (whole n) = tt
-no_network_scalar Presence (text t) = tt
-no_network_scalar Networks s = tt
-no_network_scalar (Texts nulls) null = no_network_null nulls
-no_network_scalar (Texts nulls) (truth b) = tt
-no_network_scalar (Texts nulls) (whole n) = tt
-no_network_scalar (Texts nulls) (text t) = tt
-
-no_network : (form : ChainForm) (value : Tree) → IsNoNetwork (form_use form value)
-no_network form (scalar at s) = no_network_scalar form s
-no_network form (list at parts) = tt
-no_network form (map at parts) = tt
-
--- where each text stands for some patterns
-module _ (some : (chain : Written) (t : List ℕ) → (patterns : List (List Part)) × ArePatterns chain t patterns) where
-  use_some : (most dashes : ℕ) (chain : Written) (place : Place) (u : Use) → IsNoNetwork u → use_refusal most dashes chain place u ≡ None
+-- where each text stands for some patterns, and is some network unless it's refused
+module _ (some : (chain : Written) (t : List ℕ) → (patterns : List (List Part)) × ArePatterns chain t patterns)
+    (some_network : (most dashes : ℕ) (chain : Written) (place : Place) (t : List ℕ) → use_refusal most dashes chain place (network t) ≡ None
+        → (n : Net) × IsNetwork t n) where
+  use_some : (most dashes : ℕ) (chain : Written) (place : Place) (u : Use) → use_refusal most dashes chain place u ≡ None
       → (ts : List Test) × UseTests chain u ts
-  use_some most dashes chain place unused k h = absurd cc
-  use_some most dashes chain place absent k h = (tests.Absent ∷ [], refl)
-  use_some most dashes chain place (existing e) k h = (tests.Exists e ∷ [], refl)
-  use_some most dashes chain place (pattern t) k h =
+  use_some most dashes chain place unused h = absurd cc
+  use_some most dashes chain place absent h = (tests.Absent ∷ [], refl)
+  use_some most dashes chain place (existing e) h = (tests.Exists e ∷ [], refl)
+  use_some most dashes chain place (pattern t) h =
       let p : (patterns : List (List Part)) × ArePatterns chain t patterns = some chain t in
       (list_map (fits_of chain) p.0, record { patterns = p.0; are_patterns = p.1; tests_are = refl })
-  use_some most dashes chain place (network t) k h = absurd k
-  use_some most dashes chain place (number n) k h = (tests.Equals n ∷ [], refl)
+  use_some most dashes chain place (network t) h =
+      let p : (n : Net) × IsNetwork t n = some_network most dashes chain place t h in
+      (tests.Inside p.0 ∷ [], (p.0, p.1, refl))
+  use_some most dashes chain place (number n) h = (tests.Equals n ∷ [], refl)
 
   pub some_list : (most dashes : ℕ) (chain : Written) (value : Tree) → value_refusal most dashes chain value ≡ None
       → (ts : List Test) × TestsOf chain value ts
   some_list most dashes chain value h =
-      use_some most dashes chain (place_of value) (use_of chain value) (no_network (form_of chain) value) h
+      use_some most dashes chain (place_of value) (use_of chain value) h
 
 -- ---- there's a test
 
@@ -119,7 +89,7 @@ use_has chain absent ts h = subst (λ (us : List Test). HasElement us) (sym h) t
 use_has chain (existing b) ts h = subst (λ (us : List Test). HasElement us) (sym h) tt
 use_has chain (pattern t) ts h =
     subst (λ (us : List Test). HasElement us) (sym h.tests_are) (some_map (fits_of chain) h.patterns (some_pattern chain t h.patterns h.are_patterns))
-use_has chain (network t) ts h = absurd h
+use_has chain (network t) ts h = subst (λ (us : List Test). HasElement us) (sym h.2) tt
 use_has chain (number n) ts h = subst (λ (us : List Test). HasElement us) (sym h) tt
 
 pub has_test : (chain : Written) (value : Tree) (ts : List Test) → TestsOf chain value ts → HasElement ts

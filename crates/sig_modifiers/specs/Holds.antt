@@ -4,6 +4,7 @@ use Rattle.std.specs.Fmt.{signed_decimal}
 use Rattle.event_schema.specs.Lists.{SomeOf, HasElement, HasNoElement}
 use Rattle.event_schema.specs.Rows.{value_text}
 use Rattle.event_schema.specs.declared.value.Value.{Value}
+use Rattle.sig_encode.specs.Networks.{InNetwork}
 use Rattle.sig_strings.specs.Fits.{Fits}
 use Rattle.sig_modifiers.specs.declared.test.Test.{Test}
 use Rattle.sig_modifiers.specs.declared.test.Test.TheVariants as tests
@@ -15,3 +16,4 @@ Holds (tests.Exists true) values = HasElement values
 Holds (tests.Exists false) values = HasNoElement values
 Holds (tests.Fits parts cased) values = SomeOf (λ value. Fits parts (value_text value) cased) values
 Holds (tests.Equals n) values = SomeOf (λ value. value_text value ≡ signed_decimal n) values
+Holds (tests.Inside n) values = SomeOf (λ value. InNetwork n (value_text value)) values

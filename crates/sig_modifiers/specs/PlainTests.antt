@@ -1,15 +1,21 @@
--- Tests whose patterns have no placeholder and no U+0000.
-use Rattle.std.specs.Prelude.{List, ⊤}
+-- Tests whose patterns have no placeholder and no U+0000, and whose networks are of 32 bits.
+use Rattle.std.specs.Prelude.{◌<◌, ◌≤◌, ◌^◌, List, ⊤}
 use Rattle.event_schema.specs.Lists.{EachOf}
+use Rattle.sig_encode.specs.Networks.{Net}
 use Rattle.value_patterns.specs.PlainPatterns.{IsDashedPattern}
 use Rattle.sig_modifiers.specs.declared.test.Test.{Test}
-use Rattle.sig_modifiers.specs.declared.test.Test.TheVariants.{Absent, Exists, Fits, Equals}
+use Rattle.sig_modifiers.specs.declared.test.Test.TheVariants.{Absent, Exists, Fits, Equals, Inside}
+
+-- an address's number, and a prefix of its bits
+abbrev pub IsPlainNetwork : Net → Type 0
+IsPlainNetwork n = (n.bits < 2 ^ 32) × (n.prefix ≤ 32)
 
 abbrev pub IsPlainTest : Test → Type 0
 IsPlainTest Absent = ⊤
 IsPlainTest (Exists there) = ⊤
 IsPlainTest (Fits pattern cased) = IsDashedPattern pattern
 IsPlainTest (Equals n) = ⊤
+IsPlainTest (Inside n) = IsPlainNetwork n
 
 abbrev pub ArePlainTests : List Test → Type 0
 ArePlainTests tests = EachOf IsPlainTest tests
@@ -20,3 +26,4 @@ IsPatternTest Absent = ⊥
 IsPatternTest (Exists there) = ⊥
 IsPatternTest (Fits pattern cased) = ⊤
 IsPatternTest (Equals n) = ⊥
+IsPatternTest (Inside n) = ⊥

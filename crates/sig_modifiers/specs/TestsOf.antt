@@ -8,6 +8,7 @@ use Rattle.modifier_chains.specs.Written.{Written}
 use Rattle.modifier_chains.specs.declared.form.ChainForm.{ChainForm}
 use Rattle.modifier_chains.specs.declared.form.ChainForm.TheVariants.{Bare, Presence, Networks, Texts}
 use Rattle.sig_base.specs.declared.refusal.Refusal.{Refusal}
+use Rattle.sig_encode.specs.Networks.{Net, IsNetwork}
 use Rattle.sig_strings.specs.declared.part.Part.{Part}
 use Rattle.value_patterns.specs.Uses.{Use, unused, absent, existing, pattern, network, number, use_refusal, ArePatterns}
 use Rattle.yaml_tree.specs.Nodes.{place_of}
@@ -30,7 +31,10 @@ scalar_use Presence null = unused
 scalar_use Presence (truth b) = existing b
 scalar_use Presence (whole n) = unused
 scalar_use Presence (text t) = unused
-scalar_use Networks s = unused
+scalar_use Networks null = unused
+scalar_use Networks (truth b) = unused
+scalar_use Networks (whole n) = unused
+scalar_use Networks (text t) = network t
 scalar_use (Texts nulls) null = if nulls then absent else unused
 scalar_use (Texts nulls) (truth b) = pattern (truth_text b)
 scalar_use (Texts nulls) (whole n) = pattern (signed_decimal n)
@@ -59,12 +63,16 @@ pub record AreFits (chain : Written) (t : List ℕ) (ts : List Test) : Type 0 wh
   pub are_patterns : ArePatterns chain t patterns
   pub tests_are : ts ≡ list_map (fits_of chain) patterns
 
+-- the test that a value is an address of the network that a text is
+abbrev pub AreInside : List ℕ → List Test → Type 0
+AreInside t ts = (n : Net) × IsNetwork t n × (ts ≡ tests.Inside n ∷ [])
+
 abbrev pub UseTests : Written → Use → List Test → Type 0
 UseTests chain unused ts = ⊥
 UseTests chain absent ts = ts ≡ tests.Absent ∷ []
 UseTests chain (existing b) ts = ts ≡ tests.Exists b ∷ []
 UseTests chain (pattern t) ts = AreFits chain t ts
-UseTests chain (network t) ts = ⊥
+UseTests chain (network t) ts = AreInside t ts
 UseTests chain (number n) ts = ts ≡ tests.Equals n ∷ []
 
 -- these are the tests that the chain makes of the value

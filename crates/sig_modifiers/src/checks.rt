@@ -71,6 +71,10 @@ fn shown(alloc: Global, test: &Test) -> Result<String, Fail> {
         Test::Absent => Ok(format!(in alloc; "absent")?),
         Test::Exists(exists) => Ok(format!(in alloc; "exists {exists}")?),
         Test::Equals(number) => Ok(format!(in alloc; "= {number}")?),
+        Test::Inside(network) => Ok(format!(in alloc;
+            "inside {}",
+            network.patterns(alloc)?.len()
+        )?),
         Test::Fits { pattern, cased } => {
             let text = shown_pattern(alloc, pattern)?;
             let end = if *cased { " cased" } else { "" };
@@ -228,6 +232,25 @@ L2Jpbi9iYXNo, 9iaW4vYmFza, vYmluL2Jhc2~field|base64offset~/bin/bash
 }
 
 #[test]
+fn texts_are_networks(rt: HostRuntime) -> Result<(), Fail> {
+    let alloc = rt.alloc();
+    let table = "inside 4~field|cidr~192.168.0.0/14
+inside 1~field|cidr|all~10.0.0.1
+44~field|cidr~10.0.0.0/33
+44~field|cidr~10.*
+44~field|cidr~
+42~field|cidr~null
+42~field|cidr~true
+42~field|cidr~1234
+42~field|cidr~list";
+    assert_eq!(rt;
+        wrong_value(alloc, &Limits::standard(), table)?.as_str(),
+        ""
+    );
+    Ok(())
+}
+
+#[test]
 fn the_first_cause_is_told(rt: HostRuntime) -> Result<(), Fail> {
     let alloc = rt.alloc();
     let mut limits = Limits::standard();
@@ -244,6 +267,9 @@ exists false~field|exists~false
 = 1234~field~1234
 42~field|contains~map
 49~field|base64~****
+49~field|cidr~\0\0\0\0
+50~field|cidr~\0
+44~field|cidr~abc
 50~field|base64~*\0
 YWJj~field|base64~abc
 ~field~";

@@ -16,6 +16,7 @@ impl Test {
             Test::Absent => Ok(Test::Absent),
             Test::Exists(exists) => Ok(Test::Exists(*exists)),
             Test::Equals(number) => Ok(Test::Equals(*number)),
+            Test::Inside(network) => Ok(Test::Inside(network.copy())),
             Test::Fits { pattern, cased } => {
                 let pattern = pattern.copy()?;
                 Ok(Test::Fits {

@@ -5,12 +5,14 @@ ghost use Rattle.std.specs.Fmt.{signed_decimal};
 ghost use Rattle.std.specs.Str.{chars};
 ghost use Rattle.event_schema.specs.Lists.{SomeOf, HasNoElement};
 ghost use Rattle.event_schema.specs.Rows.{value_text, values_at};
+ghost use Rattle.sig_encode.specs.Networks.{InNetwork};
 ghost use Rattle.sig_modifiers.specs.Holds.{Holds};
 ghost use Rattle.sig_strings.specs.Fits.{Fits};
 
 use crate::test::Test;
 use event_schema::{Event, Schema, Value, decimal_in};
 use itoa::Buffer;
+use sig_encode::Network;
 use sig_strings::SharedPattern;
 
 fn is_decimal(text: &str, number: i64) -> bool
@@ -45,6 +47,19 @@ fn fits_value(pattern: &SharedPattern, cased: bool, value: &Value) -> bool
     }
 }
 
+/// Whether a value is an address of the network.
+fn is_inside(network: &Network, value: &Value) -> bool
+    ensures { IsTrue result ↔ InNetwork network.now (value_text value.now) }
+{
+    match value {
+        Value::Text(text) => network.holds(text.as_str()),
+        Value::Whole(number) => {
+            let mut buffer = Buffer::new();
+            network.holds(decimal_in(&mut buffer, *number))
+        }
+    }
+}
+
 fn is_none(values: &[Value]) -> bool
     ensures { IsTrue result ↔ HasNoElement values.now }
 {
@@ -73,6 +88,17 @@ fn some_fits(values: &[Value], pattern: &SharedPattern, cased: bool) -> bool
     false
 }
 
+fn some_is_inside(values: &[Value], network: &Network) -> bool
+    ensures { IsTrue result ↔ SomeOf (λ value. InNetwork network.now (value_text value)) values.now }
+{
+    for value in values {
+        if is_inside(network, value) {
+            return true;
+        }
+    }
+    false
+}
+
 impl Test {
     /// Whether the test holds of a field's values, without memory of its own.
     pub fn holds_of(&self, values: &[Value]) -> bool
@@ -83,6 +109,7 @@ impl Test {
             Test::Exists(true) => !is_none(values),
             Test::Fits { pattern, cased } => some_fits(values, pattern, *cased),
             Test::Equals(number) => some_is_number(values, number),
+            Test::Inside(network) => some_is_inside(values, network),
         }
     }
 

@@ -3,6 +3,7 @@
 use crate::Test;
 use event_schema::{Event, Field, FieldKind, FieldList, FieldValues, Schema, Value};
 use sig_base::{Limits, Place, Text, Texts};
+use sig_encode::Network;
 use sig_strings::{Pattern, SharedPattern};
 use std::alloc::Global;
 use std::test::Fail;
@@ -47,13 +48,16 @@ fn fits(alloc: Global, text: &str, cased: bool) -> Result<Test, Fail> {
     Ok(Test::Fits { pattern, cased })
 }
 
-/// The test of `absent`, `exists`, `exists not`, `= NUMBER`, `cased PATTERN` or else `PATTERN`.
+/// The test of `absent`, `exists`, `exists not`, `inside NETWORK`, `= NUMBER`, `cased PATTERN` or else `PATTERN`.
 fn test_of(alloc: Global, written: &str) -> Result<Test, Fail> {
     match written {
         "absent" => return Ok(Test::Absent),
         "exists" => return Ok(Test::Exists(true)),
         "exists not" => return Ok(Test::Exists(false)),
         _ => (),
+    }
+    if let Some(network) = written.strip_prefix("inside ") {
+        return Ok(Test::Inside(Network::read(network, Place::START)?));
     }
     if let Some(number) = written.strip_prefix("= ") {
         return Ok(Test::Equals(number.parse::<i64>()?));
@@ -106,6 +110,10 @@ no~Size~= 7
 no~Image~= -7
 yes~Ip~10.0.0.*
 no~Ip~10.0.0.?0
+yes~Ip~inside 10.0.0.0/31
+no~Ip~inside 10.0.0.2/31
+yes~Ip~inside 0.0.0.0/0
+no~Size~inside 0.0.0.0/0
 yes~image~absent";
     assert_eq!(rt; wrong_test(alloc, &event, table)?.as_str(), "");
     Ok(())
@@ -132,7 +140,8 @@ no~Size~*
 no~Ip~*
 no~Image~= 0
 no~Size~= 0
-no~Ip~= 0";
+no~Ip~= 0
+no~Ip~inside 0.0.0.0/0";
     assert_eq!(rt;
         wrong_test(alloc, &Event::new(values, None), table)?.as_str(),
         ""
@@ -204,7 +213,9 @@ no~Size~3?
 no~Ip~exists not
 yes~Ip~192.168.*
 yes~Ip~HOST
-no~Ip~192.168.0.?0";
+no~Ip~192.168.0.?0
+yes~Ip~inside 192.168.0.0/16
+no~Ip~inside 192.169.0.0/16";
     assert_eq!(rt; wrong_test(alloc, &several(alloc)?, table)?.as_str(), "");
     Ok(())
 }

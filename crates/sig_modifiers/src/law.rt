@@ -10,13 +10,14 @@ ghost use Rattle.sig_modifiers.specs.PlainTests.{ArePlainTests, IsPatternTest};
 ghost use Rattle.sig_modifiers.specs.TestsOf.{TestsOf, value_refusal};
 ghost use Rattle.sig_modifiers.specs.declared.test.Test.{Test};
 
-use value_patterns::{one_list_of_patterns, patterns_are_dashed};
+use value_patterns::{networks_are_bounded, one_list_of_patterns, one_network, patterns_are_dashed};
 
 /// A chain makes one list of tests of a value, at most.
 pub fn one_tests()
     ensures { (chain : Written) (value : Tree) (a b : List Test) → TestsOf chain value a → TestsOf chain value b → a ≡ b }
 {
     one_list_of_patterns();
+    one_network();
 }
 
 /// A chain makes tests of each value that isn't refused.
@@ -25,6 +26,7 @@ pub fn tests_or_refusal()
         → value_refusal most dashes chain value ≡ None → (tests : List Test) × TestsOf chain value tests }
 {
     one_list_of_patterns();
+    one_network();
 }
 
 /// There's a test where there are tests.
@@ -39,10 +41,11 @@ pub fn keyword_tests()
 {}
 
 /// Patterns of values of Unicode scalar values that aren't refused are of characters other than U+0000, of single
-/// characters, runs and dash places.
+/// characters, runs and dash places; networks are of 32 bits.
 pub fn plain_tests()
     ensures { (most dashes : ℕ) (chain : Written) (value : Tree) (tests : List Test)
         → value_refusal most dashes chain value ≡ None → HasScalarTexts value → TestsOf chain value tests → ArePlainTests tests }
 {
     patterns_are_dashed();
+    networks_are_bounded();
 }

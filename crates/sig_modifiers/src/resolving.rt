@@ -3,7 +3,7 @@
 ghost use Rattle.std.specs.Prelude.{◌≡◌, ◌∷◌, [], map, IfOk, IfErr};
 ghost use Rattle.std.specs.Str.{chars};
 ghost use Rattle.sig_base.specs.Judged.{Judged};
-ghost use Rattle.value_patterns.specs.Uses.{pattern};
+ghost use Rattle.value_patterns.specs.Uses.{network, pattern};
 ghost use Rattle.sig_modifiers.specs.PlainTests.{ArePlainTests};
 ghost use Rattle.sig_modifiers.specs.Resolved.{UseJudged, ScalarJudged};
 ghost use Rattle.sig_modifiers.specs.TestsOf as uses;
@@ -18,7 +18,7 @@ use modifier_chains::{Chain, ChainForm};
 use sig_base::{Code, Fault, Limits, Place, Text, refused};
 use sig_strings::SharedPattern;
 use std::alloc::Global;
-use value_patterns::read_patterns;
+use value_patterns::{networks_are_bounded, read_network, read_patterns};
 use yaml_tree::{Kind, Node};
 
 fn one_test(alloc: Global, test: Test) -> Result<Tests, Fault>
@@ -66,6 +66,22 @@ fn resolve_text(
 {
     let patterns = read_patterns(alloc, limits, chain, text, place)?;
     fits_tests(alloc, &patterns, chain.is_cased())
+}
+
+/// The test that a value is an address of the network which this text is.
+fn resolve_network(
+    alloc: Global,
+    limits: &Limits,
+    chain: &Chain,
+    text: &str,
+    place: Place,
+) -> Result<Tests, Fault>
+    ensures judged { UseJudged chain.now limits.now place (network (chars text.now)) result }
+    ensures plain { IfOk result ArePlainTests }
+{
+    networks_are_bounded();
+    let network = read_network(limits, text, place)?;
+    one_test(alloc, Test::Inside(network))
 }
 
 fn resolve_null(alloc: Global, limits: &Limits, chain: &Chain, place: Place) -> Result<Tests, Fault>
@@ -133,9 +149,8 @@ fn resolve_string(
     ensures plain { IfOk result ArePlainTests }
 {
     match chain.form() {
-        ChainForm::Presence | ChainForm::Networks => {
-            Err(refused(Code::VALUE_NOT_ALLOWED, place))
-        }
+        ChainForm::Presence => Err(refused(Code::VALUE_NOT_ALLOWED, place)),
+        ChainForm::Networks => resolve_network(alloc, limits, chain, value.as_str(), place),
         ChainForm::Bare | ChainForm::Texts { .. } => {
             resolve_text(alloc, limits, chain, value.as_str(), place)
         }
@@ -144,7 +159,8 @@ fn resolve_string(
 
 /// The tests that a chain makes of a value, which are its alternatives. At the value's place, a value that the chain
 /// doesn't take is refused 42, a text of more characters than `value_chars` 49, one with U+0000 50, a wildcard in what is
-/// encoded 43, one byte under `base64offset` 42, and more dash places than `dashes` 46, the first of these in this order.
+/// encoded 43, one byte under `base64offset` 42, one that is no network under `cidr` 44, and more dash places than `dashes`
+/// 46, the first of these in this order.
 pub fn resolve(alloc: Global, limits: &Limits, chain: &Chain, value: &Node) -> Result<Tests, Fault>
     ensures judged { Judged (λ tests. uses.TestsOf chain.now (node_view value.now) tests)
         (uses.value_refusal limits.now.value_chars limits.now.dashes chain.now (node_view value.now)) result }

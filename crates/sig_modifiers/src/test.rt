@@ -1,6 +1,7 @@
 //! Tests of a field's values.
 
 use sig_base::Sequence;
+use sig_encode::Network;
 use sig_strings::SharedPattern;
 
 /// What a rule asks of the values of a field.
@@ -15,6 +16,8 @@ pub enum Test {
     Fits { pattern: SharedPattern, cased: bool },
     /// some value's text is the decimal of this number, or the value is this number
     Equals(i64),
+    /// some value's text is an address of the network
+    Inside(Network),
 }
 
 /// Tests in order, which contracts see as a list.

@@ -1,5 +1,5 @@
 use Rattle.std.proofs.Common.{sym}
-use Rattle.rule_schema.specs.Fitting.{item_line}
+use Rattle.rule_schema.specs.Inferred.{item_line}
 use Rattle.rule_schema.proofs.FirstRefused.{part_here}
 use Rattle.rule_schema.proofs.fit.alternatives_refusal.Goals as goal
 

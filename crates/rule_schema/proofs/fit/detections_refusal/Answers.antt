@@ -1,6 +1,6 @@
 use Rattle.std.proofs.Common.{sym}
 use Rattle.std.specs.List.{flat_map}
-use Rattle.rule_schema.specs.Fitting.{item_line}
+use Rattle.rule_schema.specs.Inferred.{item_line}
 use Rattle.rule_schema.proofs.FirstRefused.{part_here}
 use Rattle.rule_schema.proofs.fit.detections_refusal.Goals as goal
 

@@ -1,7 +1,6 @@
 use Rattle.std.proofs.Common.{◌≡◌, drop, map}
 use Rattle.sig_base.specs.Judged.{first}
-use Rattle.rule_schema.specs.Fitting.{item_line}
-use Rattle.rule_schema.specs.Inferred.{items_of}
+use Rattle.rule_schema.specs.Inferred.{items_of, item_line}
 use Rattle.rule_schema.proofs.fit.detections_refusal.Given as goal
 
 abbrev pub invariant-loop-detection : goal.invariant-loop-detection

@@ -1,6 +1,6 @@
 use Rattle.std.proofs.Common.{◌≡◌, drop, map}
 use Rattle.sig_base.specs.Judged.{first}
-use Rattle.rule_schema.specs.Fitting.{item_line}
+use Rattle.rule_schema.specs.Inferred.{item_line}
 use Rattle.rule_schema.proofs.fit.items_refusal.Given as goal
 
 abbrev pub invariant-loop-item : goal.invariant-loop-item

@@ -2,4 +2,6 @@ use Rattle.sig_modifiers.proofs.PatternLemmas.{value_plain}
 use Rattle.sig_modifiers.proofs.law.plain_tests.Goals as goal
 
 pub returns : goal.returns
-returns c = value_plain c.patterns_are_dashed.ensures.scalars
+returns c =
+    value_plain c.patterns_are_dashed.ensures.scalars
+    (λ t n h. (c.networks_are_bounded.ensures.bits t n h, c.networks_are_bounded.ensures.prefix t n h))
