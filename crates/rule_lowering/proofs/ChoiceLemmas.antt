@@ -118,6 +118,12 @@ mapped : (place : Place) (kind : FieldKind) (field : ℕ) (cased : Bool) (patter
 mapped place kind field cased [] = refl
 mapped place kind field cased (p ∷ ps) = ap (λ (us : List Plain). choice_tree place kind field cased p ∷ us) (mapped place kind field cased ps)
 
+parts_are : (place : Place) (kind : FieldKind) (field : ℕ) (cased : Bool) (patterns : List (List Part))
+    → map (choice_tree place kind field cased) patterns
+    ≡ flat_map (parts_of Any) (map (written_tree place kind field) (map (λ chosen. tests.Fits chosen cased) patterns))
+parts_are place kind field cased patterns =
+    sym (mapped place kind field cased patterns) ∙ sym (flat place kind field (map (λ chosen. tests.Fits chosen cased) patterns))
+
 past : (patterns : List (List Part)) (k : ℕ) (found : Option (List Part)) → found ≡ slice_get patterns k → found ≡ None → length patterns ≤ k
 past patterns k found looked none =
     let missing : slice_get patterns k ≡ None = sym looked ∙ none in
@@ -134,6 +140,27 @@ choices_end place kind field cased parts items tree found built looked none is =
     let done : map tree_view items ≡ map (choice_tree place kind field cased) (choices parts) =
     sym (append-nil (map tree_view items))
     ∙ (sym (ap (λ (ps : List (List Part)). map tree_view items ++ map (choice_tree place kind field cased) ps) all_done) ∙ built) in
-    is ∙ ap (closed Any)
-    (done ∙ (sym (mapped place kind field cased (choices parts))
-    ∙ sym (flat place kind field (map (λ chosen. tests.Fits chosen cased) (choices parts)))))
+    is ∙ ap (closed Any) (done ∙ parts_are place kind field cased (choices parts))
+
+-- ---- the trees of a network's patterns
+
+pub patterns_go : (f : List Part → Plain) (items new : List Tree) (part : Tree) (parts shared : List Part) (left rest : List (List Part)) (whole : List Plain)
+    → left ≡ parts ∷ rest → map tree_view items ++ map f left ≡ whole → shared ≡ parts → tree_view part ≡ f shared → new ≡ items ++ part ∷ []
+    → map tree_view new ++ map f rest ≡ whole
+patterns_go f items new part parts shared left rest whole step before same made is =
+    let views : map tree_view new ≡ map tree_view items ++ f parts ∷ [] =
+    ap (λ (ts : List Tree). map tree_view ts) is
+    ∙ (map-append tree_view items (part ∷ []) ∙ ap (λ (t : Plain). map tree_view items ++ t ∷ []) (made ∙ ap f same)) in
+    ap (λ (ts : List Plain). ts ++ map f rest) views
+    ∙ (append_assoc (map tree_view items) (f parts ∷ []) (map f rest)
+    ∙ (sym (ap (λ (ps : List (List Part)). map tree_view items ++ map f ps) step) ∙ before))
+
+pub patterns_end : (place : Place) (kind : FieldKind) (field : ℕ) (cased : Bool) (patterns left : List (List Part)) (items : List Tree) (tree : Tree) (count : ℕ)
+    → count ≡ 0 → count ≡ length left
+    → map tree_view items ++ map (choice_tree place kind field cased) left ≡ map (choice_tree place kind field cased) patterns
+    → tree_view tree ≡ closed Any (map tree_view items)
+    → tree_view tree ≡ join Any (map (written_tree place kind field) (map (λ chosen. tests.Fits chosen cased) patterns))
+unfolding join
+patterns_end place kind field cased patterns [] items tree count none many built is =
+    is ∙ ap (closed Any) (sym (append-nil (map tree_view items)) ∙ (built ∙ parts_are place kind field cased patterns))
+patterns_end place kind field cased patterns (p ∷ left) items tree count none many built is = absurd (omega arith)

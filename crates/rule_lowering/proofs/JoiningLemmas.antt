@@ -3,6 +3,7 @@ use Rattle.std.proofs.Common.{◌↔◌, List, [], ◌∷◌, map, inl, inr}
 use Rattle.std.specs.List.{flat_map}
 use Rattle.backend_core.specs.Holds.{TreeHolds, EachHolds, OneHolds}
 use Rattle.backend_core.specs.Trees.{Plain, all, any, negated, leaf, never, Plains, no_parts, a_part}
+use Rattle.event_schema.specs.Lists.{EachOf}
 use Rattle.event_schema.specs.declared.value.Value.{Value}
 use Rattle.rule_matching.proofs.Iffs.{Over, Both, iff_same, iff_then, iff_back, iff_pair, over_cons, over_empty, over_map, over_flat}
 use Rattle.modifier_chains.specs.declared.modifier.Joined.{Joined}
@@ -66,3 +67,15 @@ module _ (row : List (List Value)) where
   pub join_map : {A : Type 0} (j : Joined) (f : A → Plain) (Q : A → Type 0) → ((x : A) → TreeHolds row (f x) ↔ Q x)
       → (xs : List A) → TreeHolds row (join j (map f xs)) ↔ Over j Q xs
   join_map j f Q same xs = iff_then (join_holds j (map f xs)) (over_map j f (TreeHolds row) Q same xs)
+
+  over_good : {A : Type 0} (j : Joined) (f : A → Plain) (Q Good : A → Type 0) → ((x : A) → Good x → TreeHolds row (f x) ↔ Q x)
+      → (xs : List A) → EachOf Good xs → Over j (TreeHolds row) (map f xs) ↔ Over j Q xs
+  over_good j f Q Good same [] good = over_empty j (TreeHolds row) Q
+  over_good j f Q Good same (x ∷ xs) good =
+      iff_then (over_cons j (TreeHolds row) (f x) (map f xs))
+      (iff_then (iff_pair j (same x good.0) (over_good j f Q Good same xs good.1)) (iff_back (over_cons j Q x xs)))
+
+  -- the same of parts that are known to be good
+  pub join_good : {A : Type 0} (j : Joined) (f : A → Plain) (Q Good : A → Type 0) → ((x : A) → Good x → TreeHolds row (f x) ↔ Q x)
+      → (xs : List A) → EachOf Good xs → TreeHolds row (join j (map f xs)) ↔ Over j Q xs
+  join_good j f Q Good same xs good = iff_then (join_holds j (map f xs)) (over_good j f Q Good same xs good)

@@ -25,6 +25,7 @@ use Rattle.sig_modifiers.specs.declared.test.Test.{Test}
 use Rattle.sig_modifiers.specs.declared.test.Test.TheVariants as tests
 use Rattle.sig_strings.specs.declared.part.Part.{Part}
 use Rattle.dash_choices.specs.Choices.{choices, dash_count}
+use Rattle.sig_encode.specs.Networks.{Net, pattern_count, patterns_of}
 use Rattle.rule_lowering.specs.Counts.{test_count, value_count, values_count, width, item_count, alternative_count, alternatives_count, detection_counts, form_count, forms_count, rule_count}
 use Rattle.rule_lowering.specs.Joining.{plains, listed, parts_of, tree_with, closed, join}
 use Rattle.rule_lowering.specs.Leaves.{leaves, leaves_in}
@@ -120,13 +121,14 @@ one_leaf : (place : Place) (n : ℕ) (test : Option LeafTest) → leaves (leaf_i
 one_leaf place n None = refl
 one_leaf place n (Some test) = refl
 
--- where a pattern has as many choices as its places tell
-module _ (counted : (parts : List Part) → length (choices parts) ≡ 5 ^ dash_count parts) where
+-- where a pattern has as many choices as its places tell, and a network as many patterns as its prefix
+module _ (counted : (parts : List Part) → length (choices parts) ≡ 5 ^ dash_count parts) (networks_counted : (n : Net) → length (patterns_of n) ≡ pattern_count n) where
   written_count : (test : Test) → length (written_tests test) ≡ test_count test
   written_count tests.Absent = refl
   written_count (tests.Exists there) = refl
   written_count (tests.Fits parts cased) = length-map (choices parts) (λ chosen. tests.Fits chosen cased) ∙ counted parts
   written_count (tests.Equals n) = refl
+  written_count (tests.Inside n) = length-map (patterns_of n) (λ pattern. tests.Fits pattern false) ∙ networks_counted n
 
   test_leaves : (place : Place) (kind : FieldKind) (n : ℕ) (test : Test) → leaves (test_tree place kind n test) ≡ test_count test
   test_leaves place kind n test =

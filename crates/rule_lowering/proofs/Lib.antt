@@ -4,6 +4,7 @@ pub mod Written
 pub mod TestMeaning
 pub mod Meaning
 pub mod Found
+pub mod Fitted
 pub mod Soundness
 pub mod ViewLemmas
 pub mod Levels

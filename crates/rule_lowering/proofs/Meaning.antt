@@ -1,18 +1,24 @@
 -- The tree of a rule holds where the rule matches.
-use Rattle.std.proofs.Common.{ℕ, zero, suc, ◌≡◌, ◌↔◌, Bool, true, false, inl, inr, List, [], ◌∷◌, length, map, refl, subst}
+use Rattle.std.proofs.Common.{ℕ, zero, suc, ◌≡◌, ◌<◌, ◌≤◌, ◌^◌, ◌↔◌, Bool, true, false, inl, inr, List, [], ◌∷◌, length, map, refl, subst}
 use Rattle.std.specs.Prelude.{Option, Some, None, unwrap_or}
 use Rattle.backend_core.specs.Holds.{TreeHolds}
 use Rattle.backend_core.specs.Sound.{kind_at}
 use Rattle.backend_core.specs.Trees.{Plain}
+use Rattle.event_schema.specs.Addresses.{IsAddress}
 use Rattle.event_schema.specs.Events.{IsOfKind, IsEvent}
 use Rattle.event_schema.specs.Rows.{field_number, field_values, value_text, values_if_any}
 use Rattle.event_schema.specs.declared.schema.Field.{Field}
 use Rattle.event_schema.specs.declared.schema.FieldKind.{FieldKind}
+use Rattle.event_schema.specs.declared.schema.FieldKind.TheVariants as kinds
 use Rattle.event_schema.specs.declared.schema.Schema.{Schema}
 use Rattle.event_schema.specs.declared.value.Value.{Value}
+use Rattle.event_schema.specs.declared.value.Value.TheVariants as values
 use Rattle.event_schema.specs.Lists.{EachOf, SomeOf}
 use Rattle.rule_matching.specs.Matching.{JoinedHolds, FieldSatisfies, KeywordSatisfied, FieldsHold, ItemHolds, DetectionHolds, NumberHolds, FormHolds, AllFormsHold, SomeFormHolds, Matches}
+use Rattle.rule_items.specs.Whole.{IsWholeValue, AreWholeFields, IsWholeItem, IsWholeAlternative, IsWholeDetection}
 use Rattle.rule_model.specs.Plain.{PlainRule}
+use Rattle.rule_model.specs.Whole.{IsWhole}
+use Rattle.rule_schema.specs.Inferred.{fields_refusal, fit_refusal}
 use Rattle.rule_items.specs.declared.detection.Detection.{Detection}
 use Rattle.rule_items.specs.declared.item.Fields.{Fields}
 use Rattle.rule_items.specs.declared.item.Fields.TheVariants.{Keyword, Names}
@@ -21,12 +27,13 @@ use Rattle.sig_base.specs.Folding.{folded}
 use Rattle.sig_base.specs.declared.refusal.Place.{Place}
 use Rattle.sig_conditions.specs.Formulas.{PlainFormula, FDetection, FNot, FAnd, FOr, PlainFormulas, no_forms, form}
 use Rattle.sig_modifiers.specs.Holds.{Holds}
+use Rattle.sig_modifiers.specs.PlainTests.{IsPlainNetwork, IsPatternTest}
 use Rattle.modifier_chains.specs.declared.modifier.Joined.{Joined}
 use Rattle.modifier_chains.specs.declared.modifier.Joined.TheVariants.{All, Any}
 use Rattle.sig_modifiers.specs.declared.test.Test.{Test}
 use Rattle.sig_modifiers.specs.declared.test.Test.TheVariants as tests
 use Rattle.dash_choices.specs.Choices.{choices}
-use Rattle.sig_encode.specs.Networks.{SomeFits}
+use Rattle.sig_encode.specs.Networks.{Net, InNetwork, SomeFits, patterns_of}
 use Rattle.sig_strings.specs.Edits.{has_wildcard, plain_text}
 use Rattle.sig_strings.specs.Fits.{Fits}
 use Rattle.sig_strings.specs.declared.part.Part.{Part}
@@ -34,8 +41,10 @@ use Rattle.rule_lowering.specs.Joining.{join}
 use Rattle.rule_lowering.specs.TreeOf.{leaf_test, written_tree, written_tests, test_tree, value_tree, keyword_tree, number_tree, fields_tree, item_tree, alternative_tree, detection_tree, numbered_tree, form_tree, form_trees, tree_of}
 use Rattle.field_numbers.specs.Numbers.{number_of, searched}
 use Rattle.rule_matching.proofs.Iffs.{iff_same, iff_then, iff_back, iff_not, iff_both, iff_either, over_map, some_same, some_filtered}
-use Rattle.rule_lowering.proofs.JoiningLemmas.{join_holds, join_map}
-use Rattle.rule_lowering.proofs.TestMeaning.{Passes, leaf_holds, test_means}
+use Rattle.rule_lowering.proofs.JoiningLemmas.{join_holds, join_map, join_good}
+use Rattle.rule_lowering.proofs.Fitted.{IsMet, AreMet, ItemPasses, DetectionPasses, Fine, each_both, patterns_met, names_met, rule_fine}
+use Rattle.rule_lowering.proofs.Found.{must_holds, first_step}
+use Rattle.rule_lowering.proofs.TestMeaning.{IsLeafTest, Passes, leaf_holds, some_each, test_means}
 
 -- where there is no value behind the last field's
 behind_last : (fields : List Field) (row : List (List Value)) → IsEvent fields row → field_values row (length fields) ≡ []
@@ -77,106 +86,162 @@ some_fits : (patterns : List (List Part)) (text : List ℕ) (cased : Bool) → S
 some_fits [] text cased = iff_same
 some_fits (parts ∷ patterns) text cased = iff_either iff_same (some_fits patterns text cased)
 
--- some choice fits some value exactly where the pattern does
-written_hold : ((parts : List Part) (text : List ℕ) (cased : Bool) → Fits parts text cased ↔ SomeFits (choices parts) text cased)
-    → (test : Test) (values : List Value) → SomeOf (λ t. Holds t values) (written_tests test) ↔ Holds test values
-written_hold choices_fit tests.Absent values = some_one (λ t. Holds t values) tests.Absent
-written_hold choices_fit (tests.Exists there) values = some_one (λ t. Holds t values) (tests.Exists there)
-written_hold choices_fit (tests.Equals n) values = some_one (λ t. Holds t values) (tests.Equals n)
-written_hold choices_fit (tests.Fits parts cased) values =
+-- of patterns some fits some value exactly where some value is fitted by some of them
+patterns_turned : (patterns : List (List Part)) (cased : Bool) (values : List Value)
+    → SomeOf (λ t. Holds t values) (map (λ chosen. tests.Fits chosen cased) patterns)
+    ↔ SomeOf (λ value. SomeOf (λ chosen. Fits chosen (value_text value) cased) patterns) values
+patterns_turned patterns cased values =
     let of_values : List Part → Value → Type 0 = λ chosen value. Fits chosen (value_text value) cased in
     iff_then
-    (over_map Any (λ chosen. tests.Fits chosen cased) (λ t. Holds t values) (λ chosen. SomeOf (of_values chosen) values) (λ chosen. iff_same) (choices parts))
-    (iff_then (turned of_values (choices parts) values, turned (λ value chosen. of_values chosen value) values (choices parts))
-    (some_same (λ value. SomeOf (λ chosen. of_values chosen value) (choices parts)) (of_values parts)
-    (λ value. iff_back (iff_then (choices_fit parts (value_text value) cased) (some_fits (choices parts) (value_text value) cased))) values))
+    (over_map Any (λ chosen. tests.Fits chosen cased) (λ t. Holds t values) (λ chosen. SomeOf (of_values chosen) values) (λ chosen. iff_same) patterns)
+    (turned of_values patterns values, turned (λ value chosen. of_values chosen value) values patterns)
+
+abbrev ChoicesFit : Type 0
+ChoicesFit = (parts : List Part) (text : List ℕ) (cased : Bool) → Fits parts text cased ↔ SomeFits (choices parts) text cased
+
+abbrev NetworksFit : Type 0
+NetworksFit = (n : Net) (text : List ℕ) (cased : Bool) → n.bits < 2 ^ 32 → n.prefix ≤ 32 → IsAddress text → SomeFits (patterns_of n) text cased ↔ InNetwork n text
+
+-- an address is of a network exactly where some of the network's patterns fits it
+address_fits : NetworksFit → (n : Net) → IsPlainNetwork n → (value : Value) → IsOfKind kinds.Address value
+    → SomeOf (λ parts. Fits parts (value_text value) false) (patterns_of n) ↔ InNetwork n (value_text value)
+address_fits networks_fit n plain (values.Text text) known =
+    iff_then (iff_back (some_fits (patterns_of n) text false)) (networks_fit n text false plain.0 plain.1 known.1)
+address_fits networks_fit n plain (values.Whole m) known = absurd known
+
+-- what stands for a test holds exactly where the test does, on a field of a kind that takes it
+written_hold : ChoicesFit → NetworksFit → (kind : FieldKind) (test : Test) → IsMet kind test → (all : List Value) → EachOf (IsOfKind kind) all
+    → SomeOf (λ t. Holds t all) (written_tests test) ↔ Holds test all
+written_hold choices_fit networks_fit kind tests.Absent met all known = some_one (λ t. Holds t all) tests.Absent
+written_hold choices_fit networks_fit kind (tests.Exists there) met all known = some_one (λ t. Holds t all) (tests.Exists there)
+written_hold choices_fit networks_fit kind (tests.Equals n) met all known = some_one (λ t. Holds t all) (tests.Equals n)
+written_hold choices_fit networks_fit kind (tests.Fits parts cased) met all known =
+    iff_then (patterns_turned (choices parts) cased all)
+    (some_same (λ value. SomeOf (λ chosen. Fits chosen (value_text value) cased) (choices parts)) (λ value. Fits parts (value_text value) cased)
+    (λ value. iff_back (iff_then (choices_fit parts (value_text value) cased) (some_fits (choices parts) (value_text value) cased))) all)
+written_hold choices_fit networks_fit kind (tests.Inside n) met all known =
+    iff_then (patterns_turned (patterns_of n) false all)
+    (some_each (IsOfKind kinds.Address) (λ value. SomeOf (λ parts. Fits parts (value_text value) false) (patterns_of n)) (λ value. InNetwork n (value_text value))
+    (address_fits networks_fit n met.0) all (subst (λ (k : FieldKind). EachOf (IsOfKind k) all) met.1 known))
+
+each_fits : (patterns : List (List Part)) (cased : Bool) → EachOf IsLeafTest (map (λ chosen. tests.Fits chosen cased) patterns)
+each_fits [] cased = tt
+each_fits (parts ∷ patterns) cased = (tt, each_fits patterns cased)
+
+-- and a leaf can ask each of them
+each_leaf : (test : Test) → EachOf IsLeafTest (written_tests test)
+each_leaf tests.Absent = (tt, tt)
+each_leaf (tests.Exists there) = (tt, tt)
+each_leaf (tests.Fits parts cased) = each_fits (choices parts) cased
+each_leaf (tests.Equals n) = (tt, tt)
+each_leaf (tests.Inside n) = each_fits (patterns_of n) false
 
 -- patterns of characters alone fit their own text, exactly or after folding
 module _
     (plain_cased : (parts : List Part) (text : List ℕ) → has_wildcard parts ≡ false → Fits parts text true ↔ (text ≡ plain_text parts))
     (plain_folded : (parts : List Part) (text : List ℕ) → has_wildcard parts ≡ false → Fits parts text false ↔ (folded text ≡ folded (plain_text parts)))
-    (choices_fit : (parts : List Part) (text : List ℕ) (cased : Bool) → Fits parts text cased ↔ SomeFits (choices parts) text cased) where
+    (choices_fit : ChoicesFit) (networks_fit : NetworksFit) where
   module _ (fields : List Field) (row : List (List Value)) (event : IsEvent fields row) where
     abbrev kind : ℕ → FieldKind
     kind n = kind_at fields n
 
-    written_means : (place : Place) (name : List ℕ) (test : Test)
-        → TreeHolds row (written_tree place (kind (number_of fields name)) (number_of fields name) test) ↔ Holds test (values_if_any row (field_number fields name))
-    written_means place name test =
+    -- the kind of a name's field, and the values that it has
+    abbrev named_kind : List ℕ → FieldKind
+    named_kind name = kind (number_of fields name)
+
+    abbrev named_values : List ℕ → List Value
+    named_values name = values_if_any row (field_number fields name)
+
+    named_known : (name : List ℕ) → EachOf (IsOfKind (named_kind name)) (named_values name)
+    named_known name =
+        subst (λ (all : List Value). EachOf (IsOfKind (named_kind name)) all) (numbered_values fields row event (field_number fields name))
+        (values_of_kind fields row event (number_of fields name))
+
+    written_means : (place : Place) (name : List ℕ) (test : Test) → IsLeafTest test
+        → TreeHolds row (written_tree place (named_kind name) (number_of fields name) test) ↔ Holds test (named_values name)
+    written_means place name test plain =
         let n = number_of fields name in
-        let there : Passes (leaf_test (kind n) test) (field_values row n) ↔ Holds test (values_if_any row (field_number fields name)) =
-        subst (λ (values : List Value). Passes (leaf_test (kind n) test) (field_values row n) ↔ Holds test values)
+        let there : Passes (leaf_test (kind n) test) (field_values row n) ↔ Holds test (named_values name) =
+        subst (λ (all : List Value). Passes (leaf_test (kind n) test) (field_values row n) ↔ Holds test all)
         (numbered_values fields row event (field_number fields name))
-        (test_means plain_cased plain_folded (kind n) test (field_values row n) (values_of_kind fields row event n)) in
+        (test_means plain_cased plain_folded (kind n) test (field_values row n) plain (values_of_kind fields row event n)) in
         iff_then (leaf_holds row place n (leaf_test (kind n) test)) there
 
-    one_means : (place : Place) (name : List ℕ) (test : Test)
-        → TreeHolds row (test_tree place (kind (number_of fields name)) (number_of fields name) test) ↔ Holds test (values_if_any row (field_number fields name))
-    one_means place name test =
+    one_means : (place : Place) (name : List ℕ) (test : Test) → IsMet (named_kind name) test
+        → TreeHolds row (test_tree place (named_kind name) (number_of fields name) test) ↔ Holds test (named_values name)
+    one_means place name test met =
         iff_then
-        (join_map row Any (written_tree place (kind (number_of fields name)) (number_of fields name))
-        (λ t. Holds t (values_if_any row (field_number fields name))) (written_means place name) (written_tests test))
-        (written_hold choices_fit test (values_if_any row (field_number fields name)))
+        (join_good row Any (written_tree place (named_kind name) (number_of fields name)) (λ t. Holds t (named_values name)) IsLeafTest
+        (written_means place name) (written_tests test) (each_leaf test))
+        (written_hold choices_fit networks_fit (named_kind name) test met (named_values name) (named_known name))
 
-    value_means : (place : Place) (name : List ℕ) (ts : List Test)
-        → TreeHolds row (value_tree place (kind (number_of fields name)) (number_of fields name) ts) ↔ FieldSatisfies fields row name ts
-    value_means place name ts =
-        join_map row Any (test_tree place (kind (number_of fields name)) (number_of fields name))
-        (λ t. Holds t (values_if_any row (field_number fields name))) (one_means place name) ts
+    value_means : (place : Place) (name : List ℕ) (ts : List Test) → AreMet (named_kind name) ts
+        → TreeHolds row (value_tree place (named_kind name) (number_of fields name) ts) ↔ FieldSatisfies fields row name ts
+    value_means place name ts met =
+        join_good row Any (test_tree place (named_kind name) (number_of fields name)) (λ t. Holds t (named_values name)) (IsMet (named_kind name))
+        (one_means place name) ts met
 
-    joined_means : (j : Joined) (f : List Test → Plain) (Q : List Test → Type 0) → ((ts : List Test) → TreeHolds row (f ts) ↔ Q ts)
-        → (values : List (List Test)) → TreeHolds row (join j (map f values)) ↔ JoinedHolds j Q values
-    joined_means All f Q same values = join_map row All f Q same values
-    joined_means Any f Q same values = join_map row Any f Q same values
+    joined_means : (j : Joined) (f : List Test → Plain) (Q Good : List Test → Type 0) → ((ts : List Test) → Good ts → TreeHolds row (f ts) ↔ Q ts)
+        → (values : List (List Test)) → EachOf Good values → TreeHolds row (join j (map f values)) ↔ JoinedHolds j Q values
+    joined_means All f Q Good same values good = join_good row All f Q Good same values good
+    joined_means Any f Q Good same values good = join_good row Any f Q Good same values good
 
-    keyword_means : (place : Place) (ts : List Test) → TreeHolds row (keyword_tree fields place ts) ↔ KeywordSatisfied fields row ts
-    keyword_means place ts =
+    keyword_means : (place : Place) (ts : List Test) → EachOf IsPatternTest ts → TreeHolds row (keyword_tree fields place ts) ↔ KeywordSatisfied fields row ts
+    keyword_means place ts patterns =
         iff_then
         (join_map row Any (λ n. value_tree place (kind n) n ts) (λ n. TreeHolds row (value_tree place (kind n) n ts)) (λ n. iff_same) (searched fields))
         (some_filtered (λ f. f.search) (λ f. number_of fields f.name) (λ n. TreeHolds row (value_tree place (kind n) n ts))
-        (λ f. FieldSatisfies fields row f.name ts) (λ f. value_means place f.name ts) fields)
+        (λ f. FieldSatisfies fields row f.name ts) (λ f. value_means place f.name ts (patterns_met (named_kind f.name) ts patterns)) fields)
 
-    fields_mean : (place : Place) (j : Joined) (values : List (List Test)) (fs : Fields)
-        → TreeHolds row (fields_tree fields place j values fs) ↔ FieldsHold fields row j values fs
-    fields_mean place j values Keyword =
-        joined_means j (keyword_tree fields place) (KeywordSatisfied fields row) (keyword_means place) values
-    fields_mean place j values (Names names) =
-        join_map row Any (λ name. number_tree fields place j values (number_of fields name)) (λ name. JoinedHolds j (FieldSatisfies fields row name) values)
-        (λ name. joined_means j (value_tree place (kind (number_of fields name)) (number_of fields name)) (FieldSatisfies fields row name) (value_means place name) values)
-        names
+    fields_mean : (place : Place) (j : Joined) (values : List (List Test)) (fs : Fields) → AreWholeFields fs values → EachOf IsWholeValue values
+        → fields_refusal fields place values fs ≡ None → TreeHolds row (fields_tree fields place j values fs) ↔ FieldsHold fields row j values fs
+    fields_mean place j values Keyword patterns whole fits =
+        joined_means j (keyword_tree fields place) (KeywordSatisfied fields row) (λ ts. EachOf IsPatternTest ts) (keyword_means place) values patterns
+    fields_mean place j values (Names names) patterns whole fits =
+        join_good row Any (λ name. number_tree fields place j values (number_of fields name)) (λ name. JoinedHolds j (FieldSatisfies fields row name) values)
+        (λ name. EachOf (AreMet (named_kind name)) values)
+        (λ name met. joined_means j (value_tree place (named_kind name) (number_of fields name)) (FieldSatisfies fields row name) (AreMet (named_kind name))
+        (value_means place name) values met)
+        names (names_met fields values names whole (must_holds 82 place _ (first_step _ _ (first_step _ _ fits).1).0))
 
-    item_means : (i : Item) → TreeHolds row (item_tree fields i) ↔ ItemHolds fields row i
-    item_means i = fields_mean i.place i.joined i.tests i.fields
+    item_means : (i : Item) → IsWholeItem i × ItemPasses fields i → TreeHolds row (item_tree fields i) ↔ ItemHolds fields row i
+    item_means i h = fields_mean i.place i.joined i.tests i.fields h.0.fields h.0.each h.1
 
-    alternative_means : (items : List Item) → TreeHolds row (alternative_tree fields items) ↔ EachOf (ItemHolds fields row) items
-    alternative_means items = join_map row All (item_tree fields) (ItemHolds fields row) item_means items
+    alternative_means : (items : List Item) → IsWholeAlternative items × EachOf (ItemPasses fields) items
+        → TreeHolds row (alternative_tree fields items) ↔ EachOf (ItemHolds fields row) items
+    alternative_means items h =
+        join_good row All (item_tree fields) (ItemHolds fields row) (λ i. IsWholeItem i × ItemPasses fields i) item_means items
+        (each_both IsWholeItem (ItemPasses fields) items h.0.each h.1)
 
-    detection_means : (d : Detection) → TreeHolds row (detection_tree fields d) ↔ DetectionHolds fields row d
-    detection_means d =
-        join_map row Any (alternative_tree fields) (λ items. EachOf (ItemHolds fields row) items) alternative_means d.alternatives
+    detection_means : (d : Detection) → IsWholeDetection d × DetectionPasses fields d → TreeHolds row (detection_tree fields d) ↔ DetectionHolds fields row d
+    detection_means d h =
+        join_good row Any (alternative_tree fields) (λ items. EachOf (ItemHolds fields row) items) (λ items. IsWholeAlternative items × EachOf (ItemPasses fields) items)
+        alternative_means d.alternatives (each_both IsWholeAlternative (λ items. EachOf (ItemPasses fields) items) d.alternatives h.0.each h.1)
 
-    numbered_means : (ds : List Detection) (n : ℕ) → TreeHolds row (numbered_tree fields ds n) ↔ NumberHolds fields row ds n
-    numbered_means [] n = iff_same
-    numbered_means (d ∷ ds) zero = detection_means d
-    numbered_means (d ∷ ds) (suc n) = numbered_means ds n
+    numbered_means : (ds : List Detection) → Fine fields ds → (n : ℕ) → TreeHolds row (numbered_tree fields ds n) ↔ NumberHolds fields row ds n
+    numbered_means [] fine n = iff_same
+    numbered_means (d ∷ ds) fine zero = detection_means d fine.0
+    numbered_means (d ∷ ds) fine (suc n) = numbered_means ds fine.1 n
 
     mutual
-      form_means : (ds : List Detection) (f : PlainFormula) → TreeHolds row (form_tree fields ds f) ↔ FormHolds fields row ds f
-      form_means ds (FDetection n) = numbered_means ds n
-      form_means ds (FNot f) = iff_not (form_means ds f)
-      form_means ds (FAnd fs) = iff_then (join_holds row All (form_trees fields ds fs)) (all_forms_mean ds fs)
-      form_means ds (FOr fs) = iff_then (join_holds row Any (form_trees fields ds fs)) (some_forms_mean ds fs)
+      form_means : (ds : List Detection) → Fine fields ds → (f : PlainFormula) → TreeHolds row (form_tree fields ds f) ↔ FormHolds fields row ds f
+      form_means ds fine (FDetection n) = numbered_means ds fine n
+      form_means ds fine (FNot f) = iff_not (form_means ds fine f)
+      form_means ds fine (FAnd fs) = iff_then (join_holds row All (form_trees fields ds fs)) (all_forms_mean ds fine fs)
+      form_means ds fine (FOr fs) = iff_then (join_holds row Any (form_trees fields ds fs)) (some_forms_mean ds fine fs)
 
-      all_forms_mean : (ds : List Detection) (fs : PlainFormulas) → EachOf (TreeHolds row) (form_trees fields ds fs) ↔ AllFormsHold fields row ds fs
-      all_forms_mean ds no_forms = iff_same
-      all_forms_mean ds (form f fs) = iff_both (form_means ds f) (all_forms_mean ds fs)
+      all_forms_mean : (ds : List Detection) → Fine fields ds → (fs : PlainFormulas)
+          → EachOf (TreeHolds row) (form_trees fields ds fs) ↔ AllFormsHold fields row ds fs
+      all_forms_mean ds fine no_forms = iff_same
+      all_forms_mean ds fine (form f fs) = iff_both (form_means ds fine f) (all_forms_mean ds fine fs)
 
-      some_forms_mean : (ds : List Detection) (fs : PlainFormulas) → SomeOf (TreeHolds row) (form_trees fields ds fs) ↔ SomeFormHolds fields row ds fs
-      some_forms_mean ds no_forms = iff_same
-      some_forms_mean ds (form f fs) = iff_either (form_means ds f) (some_forms_mean ds fs)
+      some_forms_mean : (ds : List Detection) → Fine fields ds → (fs : PlainFormulas)
+          → SomeOf (TreeHolds row) (form_trees fields ds fs) ↔ SomeFormHolds fields row ds fs
+      some_forms_mean ds fine no_forms = iff_same
+      some_forms_mean ds fine (form f fs) = iff_either (form_means ds fine f) (some_forms_mean ds fine fs)
 
-  pub tree_means : (schema : Schema) (rule : PlainRule) (row : List (List Value)) → IsEvent schema.fields row
+  pub tree_means : (schema : Schema) (rule : PlainRule) (row : List (List Value)) → IsWhole rule → fit_refusal schema rule ≡ None → IsEvent schema.fields row
       → TreeHolds row (tree_of schema rule) ↔ Matches schema.fields row rule
-  tree_means schema rule row event =
+  tree_means schema rule row whole fits event =
       join_map row Any (form_tree schema.fields rule.detections) (FormHolds schema.fields row rule.detections)
-      (form_means schema.fields row event rule.detections) rule.conditions
+      (form_means schema.fields row event rule.detections (rule_fine schema rule whole fits)) rule.conditions

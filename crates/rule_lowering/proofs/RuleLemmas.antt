@@ -19,6 +19,7 @@ use Rattle.sig_conditions.specs.declared.formula.Formula.{Formula}
 use Rattle.sig_base.specs.Judged.{Judged}
 use Rattle.sig_strings.specs.declared.part.Part.{Part}
 use Rattle.dash_choices.specs.Choices.{choices, dash_count}
+use Rattle.sig_encode.specs.Networks.{Net, pattern_count, patterns_of}
 use Rattle.modifier_chains.specs.declared.modifier.Joined.TheVariants.{Any}
 use Rattle.rule_lowering.specs.Counts.{rule_count}
 use Rattle.rule_lowering.specs.Joining.{join}
@@ -47,10 +48,10 @@ passes place count limit least small h is = fewer (nat_le count limit) count lim
 
 -- ---- the count and the tree
 
-pub count_is : (counted : (parts : List Part) → length (choices parts) ≡ 5 ^ dash_count parts) (most n wide : ℕ) (schema : Schema) (rule : PlainRule) (found : List ℕ) (fields : List Field) → n ≡ rule_count most wide rule → wide ≡ length found
+pub count_is : (counted : (parts : List Part) → length (choices parts) ≡ 5 ^ dash_count parts) (networks_counted : (n : Net) → length (patterns_of n) ≡ pattern_count n) (most n wide : ℕ) (schema : Schema) (rule : PlainRule) (found : List ℕ) (fields : List Field) → n ≡ rule_count most wide rule → wide ≡ length found
     → found ≡ searched fields → fields ≡ schema.fields → n ≡ min (leaves (tree_of schema rule)) most
-count_is counted most n wide schema rule found fields is w f e =
-    is ∙ (ap (λ k. rule_count most k rule) (w ∙ ap (λ (ns : List ℕ). length ns) (f ∙ ap searched e)) ∙ rule_leaves counted most schema rule)
+count_is counted networks_counted most n wide schema rule found fields is w f e =
+    is ∙ (ap (λ k. rule_count most k rule) (w ∙ ap (λ (ns : List ℕ). length ns) (f ∙ ap searched e)) ∙ rule_leaves counted networks_counted most schema rule)
 
 pub tree_is : (schema : Schema) (rule : Rule) (fields : List Field) (ds : List Detection) (formulas : List Formula)
     → fields ≡ schema.fields → ds ≡ rule.detections → formulas ≡ rule.conditions.items

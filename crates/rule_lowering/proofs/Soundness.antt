@@ -1,5 +1,5 @@
 -- The tree of a whole rule that fits the schema is sound.
-use Rattle.std.proofs.Common.{ℕ, zero, suc, ◌≡◌, ◌<◌, ℤ, Bool, true, false, if◌then◌else◌, List, [], ◌∷◌, ◌++◌, length, map, refl, sym, subst, arith}
+use Rattle.std.proofs.Common.{ℕ, zero, suc, ◌≡◌, ◌<◌, ◌≤◌, ◌-◌, ◌*◌, ◌^◌, ℤ, Bool, true, false, if◌then◌else◌, List, [], ◌∷◌, ◌++◌, length, map, refl, sym, subst, arith}
 use Rattle.std.specs.Prelude.{Option, Some, None, option_map, ⊤}
 use Rattle.std.specs.Fmt.{signed_decimal}
 use Rattle.std.specs.List.{flat_map}
@@ -12,7 +12,7 @@ use Rattle.event_schema.specs.declared.schema.Field.{Field}
 use Rattle.event_schema.specs.declared.schema.FieldKind.{FieldKind}
 use Rattle.event_schema.specs.declared.schema.FieldKind.TheVariants as kinds
 use Rattle.event_schema.specs.declared.schema.Schema.{Schema}
-use Rattle.rule_schema.specs.Inferred.{fields_refusal, fit_refusal, items_of}
+use Rattle.rule_schema.specs.Inferred.{fields_refusal, fit_refusal}
 use Rattle.event_schema.specs.Lists.{EachOf, HasElement}
 use Rattle.rule_model.specs.Plain.{PlainRule}
 use Rattle.sig_modifiers.specs.PlainTests.{IsPlainTest}
@@ -31,6 +31,8 @@ use Rattle.sig_modifiers.specs.declared.test.Test.{Test}
 use Rattle.sig_modifiers.specs.declared.test.Test.TheVariants as tests
 use Rattle.sig_strings.specs.Edits.{has_wildcard, plain_text}
 use Rattle.dash_choices.specs.Choices.{choices, before_each}
+use Rattle.sig_encode.specs.Networks.{Net, pattern_count, patterns_of, told_octets}
+use Rattle.std.proofs.Math.Nat.{pow-suc}
 use Rattle.sig_strings.specs.declared.part.Part.{Part}
 use Rattle.sig_strings.specs.declared.part.Part.TheVariants.{Char, One, Run, Dash, Hole}
 use Rattle.rule_lowering.specs.Joining.{plains, listed, parts_of, tree_with, closed, join}
@@ -39,8 +41,9 @@ use Rattle.field_numbers.specs.Numbers.{number_of, searched}
 use Rattle.rule_lowering.specs.WholeNumbers.{is_whole, written_number}
 use Rattle.rule_lowering.proofs.Decimals.{characters, own_text, characters_written, low_decimal, low_plain}
 use Rattle.field_numbers.proofs.Found.{field_within, searched_within}
-use Rattle.rule_lowering.proofs.Found.{some_searched, must_holds, each_name, each_passes}
-use Rattle.rule_matching.proofs.Iffs.{each_append, over_flat, iff_same}
+use Rattle.rule_lowering.proofs.Fitted.{each_both, ItemPasses, DetectionPasses, Fine, rule_fine}
+use Rattle.rule_lowering.proofs.Found.{some_searched, must_holds, each_name, first_step}
+use Rattle.rule_matching.proofs.Iffs.{each_append}
 use Rattle.rule_lowering.proofs.Written.{whole_holds, written_is}
 
 -- ---- lists
@@ -48,10 +51,6 @@ use Rattle.rule_lowering.proofs.Written.{whole_holds, written_is}
 each_with : {A B : Type 0} (P : A → Type 0) (Q : B → Type 0) (f : A → B) → ((x : A) → P x → Q (f x)) → (xs : List A) → EachOf P xs → EachOf Q (map f xs)
 each_with P Q f holds [] h = tt
 each_with P Q f holds (x ∷ xs) h = (holds x h.0, each_with P Q f holds xs h.1)
-
-each_both : {A : Type 0} (P Q : A → Type 0) (xs : List A) → EachOf P xs → EachOf Q xs → EachOf (λ x. P x × Q x) xs
-each_both P Q [] p q = tt
-each_both P Q (x ∷ xs) p q = ((p.0, q.0), each_both P Q xs p.1 q.1)
 
 some_map : {A B : Type 0} (f : A → B) (xs : List A) → HasElement xs → HasElement (map f xs)
 some_map f [] h = absurd h
@@ -77,8 +76,23 @@ all_sound : (patterns : List (List Part)) → EachOf IsPlainPattern patterns →
 all_sound [] h = tt
 all_sound (parts ∷ patterns) h = (record { written = h.0.written; plain = h.0.plain }, all_sound patterns h.1)
 
--- where the choices of a pattern without placeholders can be written
-module _ (choices_plain : (parts : List Part) → IsDashedPattern parts → EachOf IsPlainPattern (choices parts)) where
+-- ---- patterns of networks
+
+some_of_many : {A : Type 0} (xs : List A) → 1 ≤ length xs → HasElement xs
+some_of_many [] h = absurd (omega arith)
+some_of_many (x ∷ xs) h = tt
+
+two_power : (k : ℕ) → 1 ≤ 2 ^ k
+two_power zero = omega arith
+two_power (suc k) = omega (arith, two_power k, pow-suc 2 k)
+
+-- where the choices of a pattern without placeholders can be written, and so can the patterns of networks, which are counted
+module _ (choices_plain : (parts : List Part) → IsDashedPattern parts → EachOf IsPlainPattern (choices parts))
+    (networks_plain : (n : Net) → n.bits < 2 ^ 32 → n.prefix ≤ 32 → EachOf IsPlainPattern (patterns_of n))
+    (networks_counted : (n : Net) → length (patterns_of n) ≡ pattern_count n) where
+  some_network : (n : Net) → HasElement (patterns_of n)
+  some_network n = some_of_many (patterns_of n) (omega (arith, networks_counted n, two_power (8 * told_octets n.prefix - n.prefix)))
+
   choices_sound : (parts : List Part) → IsDashedPattern parts → EachOf IsSoundPattern (choices parts)
   choices_sound parts h = all_sound (choices parts) (choices_plain parts h)
 
@@ -143,22 +157,24 @@ module _ (choices_plain : (parts : List Part) → IsDashedPattern parts → Each
     IsWrittenTest (tests.Exists there) = ⊤
     IsWrittenTest (tests.Fits parts cased) = IsSoundPattern parts
     IsWrittenTest (tests.Equals n) = ⊤
+    IsWrittenTest (tests.Inside n) = ⊤
 
     decimal_sound : (low : List ℕ) → IsPlainText low → IsSoundPattern (characters low)
     decimal_sound low h = record { written = characters_written low; plain = subst IsPlainText (sym (own_text low)) h }
 
+    abbrev IsSoundIfAny : FieldKind → Option LeafTest → Type 0
+    IsSoundIfAny kind None = ⊤
+    IsSoundIfAny kind (Some test) = IsSoundTest kind test
+
     -- of a field that isn't one of whole numbers
-    text_sound : (kind : FieldKind) → (kind ≡ kinds.Whole → ⊥) → (test : Test) → IsWrittenTest test → IsSoundTest kind (text_test test)
+    text_sound : (kind : FieldKind) → (kind ≡ kinds.Whole → ⊥) → (test : Test) → IsWrittenTest test → IsSoundIfAny kind (text_test test)
     text_sound kind other tests.Absent h = tt
     text_sound kind other (tests.Exists true) h = tt
     text_sound kind other (tests.Exists false) h = tt
     text_sound kind other (tests.Fits parts cased) h = (h, (λ is. absurd (other is)))
     text_sound kind other (tests.Equals n) h =
         (decimal_sound (signed_decimal n) (low_plain (signed_decimal n) (low_decimal n)), (λ is. absurd (other is)))
-
-    abbrev IsSoundIfAny : FieldKind → Option LeafTest → Type 0
-    IsSoundIfAny kind None = ⊤
-    IsSoundIfAny kind (Some test) = IsSoundTest kind test
+    text_sound kind other (tests.Inside n) h = tt
 
     written_sound : (number : Option ℤ) → ((n : ℤ) → number ≡ Some n → IsWholeNumber n) → IsSoundIfAny kinds.Whole (option_map leaf_tests.Equals number)
     written_sound None whole = tt
@@ -183,6 +199,7 @@ module _ (choices_plain : (parts : List Part) → IsDashedPattern parts → Each
     whole_sound (tests.Exists false) h = tt
     whole_sound (tests.Fits parts cased) h = pattern_sound parts cased h
     whole_sound (tests.Equals n) h = number_sound n
+    whole_sound (tests.Inside n) h = tt
 
     kind_sound : (kind : FieldKind) (test : Test) → IsWrittenTest test → IsSoundIfAny kind (leaf_test kind test)
     kind_sound kinds.Text test h = text_sound kinds.Text (λ is. absurd (cc)) test h
@@ -205,6 +222,7 @@ module _ (choices_plain : (parts : List Part) → IsDashedPattern parts → Each
     some_written (tests.Exists there) = tt
     some_written (tests.Fits parts cased) = some_map (λ chosen. tests.Fits chosen cased) (choices parts) (some_choice parts)
     some_written (tests.Equals n) = tt
+    some_written (tests.Inside n) = some_map (λ pattern. tests.Fits pattern false) (patterns_of n) (some_network n)
 
     each_written : (test : Test) → IsPlainTest test → EachOf IsWrittenTest (written_tests test)
     each_written tests.Absent h = (tt, tt)
@@ -212,6 +230,9 @@ module _ (choices_plain : (parts : List Part) → IsDashedPattern parts → Each
     each_written (tests.Fits parts cased) h =
         each_with IsSoundPattern IsWrittenTest (λ chosen. tests.Fits chosen cased) (λ chosen sound. sound) (choices parts) (choices_sound parts h)
     each_written (tests.Equals n) h = (tt, tt)
+    each_written (tests.Inside n) h =
+        each_with IsSoundPattern IsWrittenTest (λ pattern. tests.Fits pattern false) (λ pattern sound. sound) (patterns_of n)
+        (all_sound (patterns_of n) (networks_plain n h.0 h.1))
 
     test_sound : (place : Place) (n : ℕ) → n < length fields → (test : Test) → IsPlainTest test → IsSound fields (test_tree place (kind n) n test)
     test_sound place n within test h =
@@ -235,59 +256,45 @@ module _ (choices_plain : (parts : List Part) → IsDashedPattern parts → Each
     -- ---- items
 
     fields_sound : (place : Place) (j : Joined) (values : List (List Test)) (fs : Fields) → AreWholeFields fs values → HasElement values → EachOf IsWholeValue values
-        → fields_refusal fields place fs ≡ None → IsSound fields (fields_tree fields place j values fs)
+        → fields_refusal fields place values fs ≡ None → IsSound fields (fields_tree fields place j values fs)
     fields_sound place j values Keyword w s h fits =
         join_map_sound IsWholeValue j (keyword_tree fields place) (keyword_sound place (some_searched fields (must_holds 83 place _ fits))) values s h
     fields_sound place j values (Names names) w s h fits =
         join_map_sound (λ name. number_of fields name < length fields) Any (λ name. number_tree fields place j values (number_of fields name))
         (λ name within. values_sound place j values s h (number_of fields name) within)
-        names w.0 (each_name _ (field_within fields) names (must_holds 81 place _ fits))
+        names w.0 (each_name _ (field_within fields) names (must_holds 81 place _ (first_step _ _ fits).0))
 
-    abbrev Passes : Item → Type 0
-    Passes i = fields_refusal fields i.place i.fields ≡ None
-
-    item_sound : (i : Item) → IsWholeItem i × Passes i → IsSound fields (item_tree fields i)
+    item_sound : (i : Item) → IsWholeItem i × ItemPasses fields i → IsSound fields (item_tree fields i)
     item_sound i h = fields_sound i.place i.joined i.tests i.fields h.0.fields h.0.some h.0.each h.1
 
-    alternative_sound : (items : List Item) → IsWholeAlternative items × EachOf Passes items → IsSound fields (alternative_tree fields items)
+    alternative_sound : (items : List Item) → IsWholeAlternative items × EachOf (ItemPasses fields) items → IsSound fields (alternative_tree fields items)
     alternative_sound items h =
-        join_map_sound (λ i. IsWholeItem i × Passes i) All (item_tree fields) item_sound items h.0.some (each_both IsWholeItem Passes items h.0.each h.1)
+        join_map_sound (λ i. IsWholeItem i × ItemPasses fields i) All (item_tree fields) item_sound items h.0.some (each_both IsWholeItem (ItemPasses fields) items h.0.each h.1)
 
-    abbrev DetectionPasses : Detection → Type 0
-    DetectionPasses d = EachOf (λ items. EachOf Passes items) d.alternatives
-
-    detection_sound : (d : Detection) → IsWholeDetection d × DetectionPasses d → IsSound fields (detection_tree fields d)
+    detection_sound : (d : Detection) → IsWholeDetection d × DetectionPasses fields d → IsSound fields (detection_tree fields d)
     detection_sound d h =
-        join_map_sound (λ items. IsWholeAlternative items × EachOf Passes items) Any (alternative_tree fields) alternative_sound d.alternatives h.0.some
-        (each_both IsWholeAlternative (λ items. EachOf Passes items) d.alternatives h.0.each h.1)
-
-    items_pass : (ds : List Detection) → EachOf Passes (items_of ds) → EachOf DetectionPasses ds
-    items_pass ds h =
-        (over_flat All (λ d. flat_map (λ items. items) d.alternatives) Passes DetectionPasses
-        (λ d. over_flat All (λ items. items) Passes (λ items. EachOf Passes items) (λ items. iff_same) d.alternatives) ds).0 h
+        join_map_sound (λ items. IsWholeAlternative items × EachOf (ItemPasses fields) items) Any (alternative_tree fields) alternative_sound d.alternatives h.0.some
+        (each_both IsWholeAlternative (λ items. EachOf (ItemPasses fields) items) d.alternatives h.0.each h.1)
 
     -- ---- conditions
 
-    abbrev Fine : List Detection → Type 0
-    Fine ds = EachOf (λ d. IsWholeDetection d × DetectionPasses d) ds
-
-    numbered_sound : (ds : List Detection) → Fine ds → (n : ℕ) → n < length ds → IsSound fields (numbered_tree fields ds n)
+    numbered_sound : (ds : List Detection) → Fine fields ds → (n : ℕ) → n < length ds → IsSound fields (numbered_tree fields ds n)
     numbered_sound [] h n within = absurd (omega arith)
     numbered_sound (d ∷ ds) h zero within = detection_sound d h.0
     numbered_sound (d ∷ ds) h (suc n) within = numbered_sound ds h.1 n (omega arith)
 
     mutual
-      form_sound : (ds : List Detection) → Fine ds → (f : PlainFormula) → IsWholeForm (length ds) f → IsSound fields (form_tree fields ds f)
+      form_sound : (ds : List Detection) → Fine fields ds → (f : PlainFormula) → IsWholeForm (length ds) f → IsSound fields (form_tree fields ds f)
       form_sound ds h (FDetection n) w = numbered_sound ds h n w
       form_sound ds h (FNot f) w = form_sound ds h f w
       form_sound ds h (FAnd fs) w = join_sound All (form_trees fields ds fs) (some_forms ds fs w) (some_forms_sound ds h fs w)
       form_sound ds h (FOr fs) w = join_sound Any (form_trees fields ds fs) (some_forms ds fs w) (some_forms_sound ds h fs w)
 
-      some_forms_sound : (ds : List Detection) → Fine ds → (fs : PlainFormulas) → AreSomeForms (length ds) fs → EachOf (IsSound fields) (form_trees fields ds fs)
+      some_forms_sound : (ds : List Detection) → Fine fields ds → (fs : PlainFormulas) → AreSomeForms (length ds) fs → EachOf (IsSound fields) (form_trees fields ds fs)
       some_forms_sound ds h no_forms w = tt
       some_forms_sound ds h (form f fs) w = (form_sound ds h f w.0, forms_sound ds h fs w.1)
 
-      forms_sound : (ds : List Detection) → Fine ds → (fs : PlainFormulas) → AreWholeForms (length ds) fs → EachOf (IsSound fields) (form_trees fields ds fs)
+      forms_sound : (ds : List Detection) → Fine fields ds → (fs : PlainFormulas) → AreWholeForms (length ds) fs → EachOf (IsSound fields) (form_trees fields ds fs)
       forms_sound ds h no_forms w = tt
       forms_sound ds h (form f fs) w = (form_sound ds h f w.0, forms_sound ds h fs w.1)
 
@@ -299,7 +306,5 @@ module _ (choices_plain : (parts : List Part) → IsDashedPattern parts → Each
   tree_sound schema rule w fits =
       let fields = schema.fields in
       let ds = rule.detections in
-      let pass : EachOf (DetectionPasses fields) ds =
-      items_pass fields ds (each_passes (λ (i : Item). fields_refusal fields i.place i.fields) (items_of ds) fits) in
-      let fine : Fine fields ds = each_both IsWholeDetection (DetectionPasses fields) ds w.detections pass in
+      let fine : Fine fields ds = rule_fine schema rule w fits in
       join_map_sound fields (IsWholeForm (length ds)) Any (form_tree fields ds) (form_sound fields ds fine) rule.conditions w.some w.conditions

@@ -1,6 +1,6 @@
 -- What a leaf asks of a field holds where the test does, for each kind of field.
 use Rattle.std.proofs.Common.{ℕ, ◌≡◌, ◌↔◌, ℤ, Bool, true, false, if◌then◌else◌, List, [], ◌∷◌, inl, inr, refl, sym, ap, ◌∙◌}
-use Rattle.std.specs.Prelude.{Option, Some, None, option_map}
+use Rattle.std.specs.Prelude.{Option, Some, None, option_map, ⊤}
 use Rattle.std.specs.Fmt.{signed_decimal}
 use Rattle.std.specs.List.{list_all}
 use Rattle.backend_core.specs.Holds.{TestHolds, TreeHolds}
@@ -29,7 +29,7 @@ use Rattle.rule_lowering.proofs.Written.{whole_tests, same_number, written_is, w
 
 -- ---- lists whose elements are known
 
-some_each : {A : Type 0} (K P Q : A → Type 0) → ((x : A) → K x → P x ↔ Q x) → (xs : List A) → EachOf K xs → SomeOf P xs ↔ SomeOf Q xs
+pub some_each : {A : Type 0} (K P Q : A → Type 0) → ((x : A) → K x → P x ↔ Q x) → (xs : List A) → EachOf K xs → SomeOf P xs ↔ SomeOf Q xs
 some_each K P Q same [] known = iff_same
 some_each K P Q same (x ∷ xs) known = iff_either (same x known.0) (some_each K P Q same xs known.1)
 
@@ -39,6 +39,16 @@ none_of K P no_such (x ∷ xs) known h = elim h [ inl e ↦ no_such x known.0 e 
 
 nothing : {A : Type 0} → (A → ⊥) → ⊥ ↔ A
 nothing h = ((λ e. absurd e), h)
+
+-- ---- tests that a leaf can ask
+
+-- a network stands in no leaf
+abbrev pub IsLeafTest : Test → Type 0
+IsLeafTest tests.Absent = ⊤
+IsLeafTest (tests.Exists there) = ⊤
+IsLeafTest (tests.Fits parts cased) = ⊤
+IsLeafTest (tests.Equals n) = ⊤
+IsLeafTest (tests.Inside n) = ⊥
 
 -- ---- a leaf that may be missing
 
@@ -64,12 +74,13 @@ module _
         (λ h. own.1 (ap folded h ∙ ap folded (sym (own_text low)))),
       )
 
-  text_means : (test : Test) (all : List Value) → TestHolds (text_test test) all ↔ Holds test all
-  text_means tests.Absent all = iff_same
-  text_means (tests.Exists true) all = iff_same
-  text_means (tests.Exists false) all = iff_same
-  text_means (tests.Fits parts cased) all = iff_same
-  text_means (tests.Equals n) all =
+  text_means : (test : Test) (all : List Value) → IsLeafTest test → Passes (text_test test) all ↔ Holds test all
+  text_means tests.Absent all plain = iff_same
+  text_means (tests.Exists true) all plain = iff_same
+  text_means (tests.Exists false) all plain = iff_same
+  text_means (tests.Fits parts cased) all plain = iff_same
+  text_means (tests.Inside n) all plain = absurd plain
+  text_means (tests.Equals n) all plain =
       some_same (λ v. Fits (characters (signed_decimal n)) (value_text v) false) (λ v. value_text v ≡ signed_decimal n)
       (λ v. decimal_means (signed_decimal n) (value_text v) (low_decimal n)) all
 
@@ -130,14 +141,16 @@ module _
     by true is = iff_same
     by false is = nothing (none_of (IsOfKind kinds.Whole) (λ v. value_text v ≡ signed_decimal n) (no_value_is n is) all whole)
 
-  whole_means : (test : Test) (all : List Value) → AreWhole all → Passes (whole_test test) all ↔ Holds test all
-  whole_means tests.Absent all whole = iff_same
-  whole_means (tests.Exists true) all whole = iff_same
-  whole_means (tests.Exists false) all whole = iff_same
-  whole_means (tests.Fits parts cased) all whole = fits_means parts cased all whole
-  whole_means (tests.Equals n) all whole = equals_means n all whole
+  whole_means : (test : Test) (all : List Value) → IsLeafTest test → AreWhole all → Passes (whole_test test) all ↔ Holds test all
+  whole_means tests.Absent all plain whole = iff_same
+  whole_means (tests.Exists true) all plain whole = iff_same
+  whole_means (tests.Exists false) all plain whole = iff_same
+  whole_means (tests.Fits parts cased) all plain whole = fits_means parts cased all whole
+  whole_means (tests.Equals n) all plain whole = equals_means n all whole
+  whole_means (tests.Inside n) all plain whole = absurd plain
 
-  pub test_means : (kind : FieldKind) (test : Test) (all : List Value) → EachOf (IsOfKind kind) all → Passes (leaf_test kind test) all ↔ Holds test all
-  test_means kinds.Text test all known = text_means test all
-  test_means kinds.Whole test all known = whole_means test all known
-  test_means kinds.Address test all known = text_means test all
+  pub test_means : (kind : FieldKind) (test : Test) (all : List Value) → IsLeafTest test → EachOf (IsOfKind kind) all
+      → Passes (leaf_test kind test) all ↔ Holds test all
+  test_means kinds.Text test all plain known = text_means test all plain
+  test_means kinds.Whole test all plain known = whole_means test all plain known
+  test_means kinds.Address test all plain known = text_means test all plain

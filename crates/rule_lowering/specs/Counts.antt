@@ -7,15 +7,17 @@ use Rattle.rule_items.specs.declared.item.Fields.{Fields}
 use Rattle.rule_items.specs.declared.item.Fields.TheVariants.{Keyword, Names}
 use Rattle.rule_items.specs.declared.item.Item.{Item}
 use Rattle.sig_conditions.specs.Formulas.{PlainFormula, FDetection, FNot, FAnd, FOr, PlainFormulas, no_forms, form, forms_of}
+use Rattle.sig_encode.specs.Networks.{pattern_count}
 use Rattle.sig_modifiers.specs.declared.test.Test.{Test}
 use Rattle.sig_modifiers.specs.declared.test.Test.TheVariants as tests
 
--- five dashes at each place
+-- five dashes at each place, and a network's patterns
 abbrev pub test_count : Test → ℕ
 test_count tests.Absent = 1
 test_count (tests.Exists there) = 1
 test_count (tests.Fits pattern cased) = 5 ^ dash_count pattern
 test_count (tests.Equals n) = 1
+test_count (tests.Inside n) = pattern_count n
 
 abbrev pub value_count : List Test → ℕ
 value_count value = sum_by test_count value

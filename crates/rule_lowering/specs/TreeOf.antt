@@ -1,5 +1,6 @@
 -- The tree of tests that a rule is under a schema (Sigma specification 2.0, detection and condition). What a test asks goes by
--- the kind of its field, and a pattern with dash places (modifier `windash`) is each of its choices of dashes.
+-- the kind of its field, a pattern with dash places (modifier `windash`) is each of its choices of dashes, and a network
+-- (modifier `cidr`) each of its patterns.
 use Rattle.std.specs.Prelude.{ℕ, zero, suc, true, false, if◌then◌else◌, List, [], ◌∷◌, map, Option, Some, None, option_map}
 use Rattle.std.specs.Fmt.{signed_decimal}
 use Rattle.backend_core.specs.Sound.{kind_at}
@@ -21,6 +22,7 @@ use Rattle.sig_base.specs.declared.refusal.Place.{Place}
 use Rattle.sig_conditions.specs.Formulas.{PlainFormula, FDetection, FNot, FAnd, FOr, PlainFormulas, no_forms, form}
 use Rattle.modifier_chains.specs.declared.modifier.Joined.{Joined}
 use Rattle.modifier_chains.specs.declared.modifier.Joined.TheVariants.{All, Any}
+use Rattle.sig_encode.specs.Networks.{patterns_of}
 use Rattle.sig_modifiers.specs.declared.test.Test.{Test}
 use Rattle.sig_modifiers.specs.declared.test.Test.TheVariants as tests
 use Rattle.sig_strings.specs.Edits.{has_wildcard, plain_text}
@@ -28,13 +30,15 @@ use Rattle.sig_strings.specs.declared.part.Part.TheVariants.{Char}
 use Rattle.rule_lowering.specs.Joining.{join}
 use Rattle.rule_lowering.specs.WholeNumbers.{if_whole, written_number}
 
--- what a leaf asks of a field of texts or addresses: a value, none, or a text; a number's text is its decimal
-abbrev pub text_test : Test → LeafTest
-text_test tests.Absent = leaf_tests.Absent
-text_test (tests.Exists true) = leaf_tests.Has
-text_test (tests.Exists false) = leaf_tests.Absent
-text_test (tests.Fits pattern cased) = leaf_tests.Fits pattern cased
-text_test (tests.Equals n) = leaf_tests.Fits (map Char (signed_decimal n)) false
+-- What a leaf asks of a field of texts or addresses: a value, none, or a text; a number's text is its decimal. No leaf asks
+-- for a network, which patterns stand for.
+abbrev pub text_test : Test → Option LeafTest
+text_test tests.Absent = Some leaf_tests.Absent
+text_test (tests.Exists true) = Some leaf_tests.Has
+text_test (tests.Exists false) = Some leaf_tests.Absent
+text_test (tests.Fits pattern cased) = Some (leaf_tests.Fits pattern cased)
+text_test (tests.Equals n) = Some (leaf_tests.Fits (map Char (signed_decimal n)) false)
+text_test (tests.Inside n) = None
 
 -- What a leaf asks of a field of whole numbers, if a value can pass the test: a value, none, a number, or that a number's
 -- decimal fits a pattern with a wildcard. A pattern without one asks for the number whose decimal it is.
@@ -45,11 +49,12 @@ whole_test (tests.Exists false) = Some leaf_tests.Absent
 whole_test (tests.Fits pattern cased) =
     if has_wildcard pattern then Some (leaf_tests.Fits pattern cased) else option_map leaf_tests.Equals (written_number (plain_text pattern))
 whole_test (tests.Equals n) = option_map leaf_tests.Equals (if_whole n)
+whole_test (tests.Inside n) = None
 
 abbrev pub leaf_test : FieldKind → Test → Option LeafTest
-leaf_test kinds.Text test = Some (text_test test)
+leaf_test kinds.Text test = text_test test
 leaf_test kinds.Whole test = whole_test test
-leaf_test kinds.Address test = Some (text_test test)
+leaf_test kinds.Address test = text_test test
 
 -- where no value can pass, what never holds
 abbrev pub leaf_if_any : Place → ℕ → Option LeafTest → Plain
@@ -60,12 +65,14 @@ leaf_if_any place field (Some test) = leaf (record { field = field; test = test;
 abbrev pub written_tree : Place → FieldKind → ℕ → Test → Plain
 written_tree place kind field test = leaf_if_any place field (leaf_test kind test)
 
--- the tests that stand for a test where a language has no place for any dash: for a pattern one for each choice of dashes
+-- the tests that stand for a test where a language has neither a place for any dash nor networks: for a pattern one for
+-- each choice of dashes, and for a network one for each of its patterns
 abbrev pub written_tests : Test → List Test
 written_tests tests.Absent = tests.Absent ∷ []
 written_tests (tests.Exists there) = tests.Exists there ∷ []
 written_tests (tests.Fits pattern cased) = map (λ chosen. tests.Fits chosen cased) (choices pattern)
 written_tests (tests.Equals n) = tests.Equals n ∷ []
+written_tests (tests.Inside n) = map (λ pattern. tests.Fits pattern false) (patterns_of n)
 
 -- a test is any of those that stand for it
 abbrev pub test_tree : Place → FieldKind → ℕ → Test → Plain

@@ -46,6 +46,7 @@ fn count_test(test: &Test) -> u128
 {
     match test {
         Test::Fits { pattern, .. } => count_choices(dash_count(pattern)),
+        Test::Inside(network) => u128::from(network.pattern_count()),
         Test::Absent | Test::Exists(_) | Test::Equals(_) => 1,
     }
 }

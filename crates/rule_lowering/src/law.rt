@@ -13,16 +13,19 @@ ghost use Rattle.rule_model.specs.Whole.{IsWhole};
 ghost use Rattle.rule_lowering.specs.TreeOf.{tree_of};
 
 use dash_choices::choices_fit;
+use sig_encode::patterns_fit;
 use sig_strings::plain_fits;
-use value_patterns::choices_are_plain;
+use value_patterns::{choices_are_plain, network_patterns_are_plain};
 
-/// The tree of a rule holds of an event exactly where the rule matches it.
+/// The tree of a whole rule that fits the schema holds of an event exactly where the rule matches it.
 pub fn tree_means_rule()
     ensures { (schema : Schema) (rule : PlainRule) (row : List (List Value))
-        → IsEvent schema.fields row → TreeHolds row (tree_of schema rule) ↔ Matches schema.fields row rule }
+        → IsWhole rule → fit_refusal schema rule ≡ None → IsEvent schema.fields row
+        → TreeHolds row (tree_of schema rule) ↔ Matches schema.fields row rule }
 {
     plain_fits();
     choices_fit();
+    patterns_fit();
 }
 
 /// The tree of a whole rule that fits the schema is sound.
@@ -31,4 +34,5 @@ pub fn tree_is_sound()
         → IsWhole rule → fit_refusal schema rule ≡ None → IsSound schema.fields (tree_of schema rule) }
 {
     choices_are_plain();
+    network_patterns_are_plain();
 }

@@ -32,28 +32,29 @@ fn decimal_pattern(alloc: Global, number: i64) -> Result<SharedPattern, Fault>
     SharedPattern::share(alloc, Pattern::of_parts(parts))
 }
 
-/// What a leaf asks of a field of texts or addresses.
-fn text_test(alloc: Global, test: &Test) -> Result<LeafTest, Fault>
+/// What a leaf asks of a field of texts or addresses, if one can ask it.
+fn text_test(alloc: Global, test: &Test) -> Result<Option<LeafTest>, Fault>
     ensures ok { IfOk result (λ t. t ≡ spec.text_test test.now) }
     ensures err { IfErr result (λ e. e ≡ Fault.Memory) }
 {
     match test {
-        Test::Absent | Test::Exists(false) => Ok(LeafTest::Absent),
-        Test::Exists(true) => Ok(LeafTest::Has),
+        Test::Absent | Test::Exists(false) => Ok(Some(LeafTest::Absent)),
+        Test::Exists(true) => Ok(Some(LeafTest::Has)),
         Test::Fits { pattern, cased } => {
             let pattern = pattern.copy()?;
-            Ok(LeafTest::Fits {
+            Ok(Some(LeafTest::Fits {
                 pattern,
                 cased: *cased,
-            })
+            }))
         }
         Test::Equals(number) => {
             let pattern = decimal_pattern(alloc, *number)?;
-            Ok(LeafTest::Fits {
+            Ok(Some(LeafTest::Fits {
                 pattern,
                 cased: false,
-            })
+            }))
         }
+        Test::Inside(_) => Ok(None),
     }
 }
 
@@ -93,6 +94,7 @@ fn whole_test(alloc: Global, test: &Test) -> Result<Option<LeafTest>, Fault>
         Test::Exists(true) => Ok(Some(LeafTest::Has)),
         Test::Fits { pattern, cased } => whole_pattern(alloc, pattern, *cased),
         Test::Equals(number) => Ok(equals(whole_number(*number))),
+        Test::Inside(_) => Ok(None),
     }
 }
 
@@ -102,7 +104,7 @@ pub fn leaf_test(alloc: Global, kind: FieldKind, test: &Test) -> Result<Option<L
     ensures err { IfErr result (λ e. e ≡ Fault.Memory) }
 {
     match kind {
-        FieldKind::Text | FieldKind::Address => Ok(Some(text_test(alloc, test)?)),
+        FieldKind::Text | FieldKind::Address => text_test(alloc, test),
         FieldKind::Whole => whole_test(alloc, test),
     }
 }

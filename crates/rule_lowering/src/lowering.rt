@@ -10,7 +10,7 @@ ghost use Rattle.field_numbers.specs.Numbers.{number_of};
 ghost use Rattle.rule_lowering.specs.TreeOf as spec;
 ghost use Rattle.rule_items.specs.declared.item.Fields.TheVariants.{Keyword, Names};
 ghost use Rattle.modifier_chains.specs.declared.modifier.Joined.TheVariants.{Any};
-ghost use Rattle.sig_modifiers.specs.declared.test.Test.TheVariants.{Fits};
+ghost use Rattle.sig_modifiers.specs.declared.test.Test.TheVariants.{Fits, Inside};
 
 use crate::field_kind::kind_of;
 use crate::joining::{add_part, close_parts};
@@ -22,6 +22,7 @@ use field_numbers::FieldNumbers;
 use modifier_chains::Joined;
 use rule_items::{Detection, Fields, Item};
 use sig_base::{Fault, Place, Text};
+use sig_encode::Network;
 use sig_modifiers::{Test, Tests};
 use sig_strings::SharedPattern;
 use std::alloc::Global;
@@ -86,6 +87,27 @@ fn lower_choices(
     Ok(close_parts(Joined::Any, parts))
 }
 
+/// A network's patterns.
+fn lower_network(
+    alloc: Global,
+    place: Place,
+    kind: FieldKind,
+    field: u32,
+    network: &Network,
+) -> Result<Tree, Fault>
+    ensures ok { IfOk result (λ t. tree_view t ≡ spec.test_tree place kind field (Inside network.now)) }
+    ensures err { IfErr result (λ e. e ≡ Fault.Memory) }
+{
+    let patterns = network.patterns(alloc)?;
+    let mut parts = Vec::new(alloc);
+    for pattern in patterns {
+        let pattern = SharedPattern::share(alloc, pattern)?;
+        let part = lower_choice(alloc, place, kind, field, pattern, false)?;
+        parts.push(part)?;
+    }
+    Ok(close_parts(Joined::Any, parts))
+}
+
 /// A test at a field of this kind.
 fn lower_test(
     alloc: Global,
@@ -104,6 +126,7 @@ fn lower_test(
             }
             lower_choices(alloc, place, kind, field, pattern, *cased)
         }
+        Test::Inside(network) => lower_network(alloc, place, kind, field, network),
         Test::Absent | Test::Exists(_) | Test::Equals(_) => {
             lower_written(alloc, place, kind, field, test)
         }

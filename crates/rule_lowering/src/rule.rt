@@ -25,6 +25,7 @@ use modifier_chains::Joined;
 use rule_model::Rule;
 use sig_base::{Code, Detail, Fault, Limits, Place, Refusal};
 use std::alloc::Global;
+use value_patterns::network_patterns_are_plain;
 
 fn too_many(place: Place, count: u128, limit: usize) -> Fault
     requires { count ≤ 2 ^ 127 - 1 }
@@ -37,7 +38,7 @@ fn too_many(place: Place, count: u128, limit: usize) -> Fault
     })
 }
 
-/// The tree of a rule, which holds of an event exactly where the rule matches it. A rule whose tree would have more than
+/// The tree of a rule, which holds of an event exactly where the rule matches it, if it fits the schema. A rule whose tree would have more than
 /// `leaves` tests is refused at its place (110), with their number, or 2^127 - 1 where there are more, and the limit. They
 /// are counted before the tree is made, so a refused rule costs little. More than 2^32 - 1 fields can't be numbered, which
 /// is want of memory.
@@ -45,12 +46,14 @@ pub fn lower(alloc: Global, limits: &Limits, rule: &Rule, schema: &Schema) -> Re
     ensures tree { Judged (λ t. tree_view t ≡ tree_of schema.now (rule_view rule.now)) (leaves_refusal limits.now schema.now (rule_view rule.now)) result }
     ensures sound { IsWhole (rule_view rule.now) → fit_refusal schema.now (rule_view rule.now) ≡ None
         → IfOk result (λ t. IsSound schema.now.fields (tree_view t)) }
-    ensures means { IfOk result (λ t. (row : List (List Value))
+    ensures means { IsWhole (rule_view rule.now) → fit_refusal schema.now (rule_view rule.now) ≡ None
+        → IfOk result (λ t. (row : List (List Value))
         → IsEvent schema.now.fields row → TreeHolds row (tree_view t) ↔ Matches schema.now.fields row (rule_view rule.now)) }
 {
     tree_means_rule();
     tree_is_sound();
     choices_are_counted();
+    network_patterns_are_plain();
     let fields = schema.fields.as_slice();
     let numbers = FieldNumbers::of(alloc, fields)?;
     let count = count_rule(alloc, numbers.searched().len(), rule)?;

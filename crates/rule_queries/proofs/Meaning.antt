@@ -11,7 +11,6 @@ use Rattle.backend_core.specs.Writing.{write_refusal}
 use Rattle.backend_core.specs.declared.lack.Lack.{Lack}
 use Rattle.backend_core.specs.declared.tree.Leaf.{Leaf}
 use Rattle.event_schema.specs.Events.{IsEvent}
-use Rattle.event_schema.specs.Inferred.{text_field}
 use Rattle.event_schema.specs.Schemas.{AreApart, IsSchema, names_of}
 use Rattle.event_schema.specs.declared.schema.Schema.{Schema}
 use Rattle.event_schema.specs.declared.value.Value.{Value}
@@ -24,7 +23,8 @@ use Rattle.rule_queries.specs.Queries.{rule_tree, query_under, query_of, Convert
 use Rattle.rule_queries.specs.Verdicts.{IsConverted}
 use Rattle.rule_queries.proofs.Judging.{no_line}
 use Rattle.rule_schema.proofs.NamesApart.{rule_legal, rule_apart, fields_kept, own_names, no_twins}
-use Rattle.rule_schema.specs.Inferred.{fit_refusal, rule_names, schema_for, made_refusal}
+use Rattle.rule_schema.specs.Inferred.{fit_refusal, items_of, rule_names, made_field, schema_for, made_refusal}
+use Rattle.rule_schema.specs.Kinds.{address_names}
 use Rattle.sig_base.specs.declared.limits.Limits.{Limits}
 use Rattle.sig_base.specs.declared.refusal.Place.{Place}
 use Rattle.sig_base.specs.declared.refusal.Refusal.{Refusal}
@@ -35,7 +35,8 @@ abbrev WholeRules : Type 0
 WholeRules = (limits : Limits) (t : Tree) (rule : PlainRule) → rule_refusal limits t ≡ None → IsRule t rule → HasScalarTexts t → IsWhole rule
 
 abbrev TreesMean : Type 0
-TreesMean = (schema : Schema) (rule : PlainRule) (row : List (List Value)) → IsEvent schema.fields row → TreeHolds row (tree_of schema rule) ↔ Matches schema.fields row rule
+TreesMean = (schema : Schema) (rule : PlainRule) (row : List (List Value)) → IsWhole rule → fit_refusal schema rule ≡ None → IsEvent schema.fields row
+    → TreeHolds row (tree_of schema rule) ↔ Matches schema.fields row rule
 
 abbrev TreesSound : Type 0
 TreesSound = (schema : Schema) (rule : PlainRule) → IsWhole rule → fit_refusal schema rule ≡ None → IsSound schema.fields (tree_of schema rule)
@@ -47,11 +48,12 @@ both_ways f g = ((λ a. g.0 (f.0 a)), (λ c. f.1 (g.1 c)))
 schema_named : (given : Option Schema) (rule : PlainRule) → IfSome given IsSchema → IsWhole rule → made_refusal given rule ≡ None → IsNamed (schema_for given rule)
 schema_named None rule is whole made =
     let names = rule_names rule in
+    let addresses = address_names (items_of rule.detections) in
     record {
       table = record { legal = refl; scalars = refl };
-      fields = fields_kept names (rule_legal rule whole);
-      apart = subst AreApart (sym (own_names names)) (rule_apart rule made);
-      twins = no_twins (names_of (map text_field names)) names;
+      fields = fields_kept addresses names (rule_legal rule whole);
+      apart = subst AreApart (sym (own_names addresses names)) (rule_apart rule made);
+      twins = no_twins addresses (names_of (map (made_field addresses) names)) names;
     }
 schema_named (Some schema) rule is whole made = record { table = is.table; fields = is.fields; apart = is.apart; twins = is.twins }
 
@@ -79,5 +81,5 @@ module _ (missing : Schema → Leaf → Option Lack) (text : Schema → Plain �
         reads = query.reads;
         within = query.within;
         only = query.only;
-        selects = λ row event. both_ways (query.selects row event) (means schema rule row event);
+        selects = λ row event. both_ways (query.selects row event) (means schema rule row whole lines.fits event);
       }

@@ -9,7 +9,7 @@ ghost use Rattle.event_schema.specs.Lists.{EachOf};
 ghost use Rattle.modifier_chains.specs.Kinds.{is_windash};
 ghost use Rattle.modifier_chains.specs.Written.{Written};
 ghost use Rattle.sig_base.specs.declared.refusal.Place.{Place};
-ghost use Rattle.sig_encode.specs.Networks.{Net, InNetwork, IsNetwork, SomeFits, patterns_of, told_octets};
+ghost use Rattle.sig_encode.specs.Networks.{Net, InNetwork, IsNetwork, SomeFits, pattern_count, patterns_of};
 ghost use Rattle.sig_strings.specs.Edits.{dashes_of};
 ghost use Rattle.sig_strings.specs.Spells.{Spells};
 ghost use Rattle.sig_strings.specs.declared.part.Part.{Part};
@@ -74,5 +74,5 @@ pub fn network_patterns_fit()
 pub fn network_patterns_are_plain()
     ensures tests { (n : Net) → n.bits < 2 ^ 32 → n.prefix ≤ 32 → list_all is_plain (patterns_of n) ≡ true }
     ensures scalars { (n : Net) → n.bits < 2 ^ 32 → n.prefix ≤ 32 → EachOf IsPlainPattern (patterns_of n) }
-    ensures counted { (n : Net) → length (patterns_of n) ≡ 2 ^ (8 * told_octets n.prefix - n.prefix) }
+    ensures counted { (n : Net) → length (patterns_of n) ≡ pattern_count n }
 {}

@@ -18,7 +18,7 @@ returns-then-count-limits-clause-tree c =
     let rule = rule_view c.args.rule.now in
     let limit = c.args.limits.now.leaves in
     let count : c.in_ok-count.count ≡ min (leaves (tree_of schema rule)) (2 ^ 127 - 1) =
-    count_is c.choices_are_counted.ensures (2 ^ 127 - 1) c.in_ok-count.count (length c.searched.result.now) schema rule c.searched.result.now c.as_slice-fields.result.now
+    count_is c.choices_are_counted.ensures c.network_patterns_are_plain.ensures.counted (2 ^ 127 - 1) c.in_ok-count.count (length c.searched.result.now) schema rule c.searched.result.now c.as_slice-fields.result.now
     c.in_ok-count.ensures.ok refl (c.searched.ensures ∙ c.in_ok-numbers.ensures.ok.searched) c.as_slice-fields.ensures in
     refused_so (λ t. tree_view t ≡ tree_of schema rule) _ c.too_many.result (told rule.head.place c.in_ok-count.count limit) c.too_many.ensures
     (refuses rule.head.place (leaves (tree_of schema rule)) limit c.in_ok-count.count c.if-count-limits.true count)
@@ -29,7 +29,7 @@ returns-clause-tree c =
     let rule = rule_view c.args.rule.now in
     let limit = c.args.limits.now.leaves in
     let count : c.in_ok-count.count ≡ min (leaves (tree_of schema rule)) (2 ^ 127 - 1) =
-    count_is c.choices_are_counted.ensures (2 ^ 127 - 1) c.in_ok-count.count (length c.searched.result.now) schema rule c.searched.result.now c.as_slice-fields.result.now
+    count_is c.choices_are_counted.ensures c.network_patterns_are_plain.ensures.counted (2 ^ 127 - 1) c.in_ok-count.count (length c.searched.result.now) schema rule c.searched.result.now c.as_slice-fields.result.now
     c.in_ok-count.ensures.ok refl (c.searched.ensures ∙ c.in_ok-numbers.ensures.ok.searched) c.as_slice-fields.ensures in
     judged _ _ (tree_of schema rule) c.lower_formulas.result
     (passes rule.head.place (leaves (tree_of schema rule)) limit c.in_ok-count.count c.args.limits.now.leaves_in.1 c.if-count-limits.false count)
@@ -45,9 +45,9 @@ returns-clause-sound c = λ whole fits.
     (c.tree_is_sound.ensures schema rule whole fits) c.lower_formulas.ensures.ok
 
 pub returns-clause-means : goal.returns-clause-means
-returns-clause-means c =
+returns-clause-means c = λ whole fits.
     let schema = c.args.schema.now in
     let rule = rule_view c.args.rule.now in
     kept (λ t. (row : List (List Value)) → IsEvent schema.fields row → TreeHolds row t ↔ Matches schema.fields row rule) _ (tree_of schema rule) c.lower_formulas.result
     (tree_is schema c.args.rule.now c.as_slice-fields.result.now c.as_slice.result.now c.deref.result.now c.as_slice-fields.ensures c.as_slice.ensures c.deref.ensures.value)
-    (λ row event. c.tree_means_rule.ensures schema rule row event) c.lower_formulas.ensures.ok
+    (λ row event. c.tree_means_rule.ensures schema rule row whole fits event) c.lower_formulas.ensures.ok
