@@ -23,6 +23,7 @@ use Rattle.modifier_chains.specs.declared.modifier.Joined.{Joined}
 use Rattle.modifier_chains.specs.declared.modifier.Joined.TheVariants.{All, Any}
 use Rattle.sig_modifiers.specs.declared.test.Test.{Test}
 use Rattle.sig_modifiers.specs.declared.test.Test.TheVariants as tests
+use Rattle.detection_eval.proofs.Networks.{inside_decided}
 use Rattle.sig_strings.specs.Fits.{Fits, same_char}
 use Rattle.sig_strings.specs.declared.part.Part.{Part}
 use Rattle.sig_strings.specs.declared.part.Part.TheVariants.{Char, One, Run, Dash, Hole}
@@ -116,6 +117,7 @@ holds values tests.Absent = no_value values
 holds values (tests.Exists true) = some_value values
 holds values (tests.Exists false) = no_value values
 holds values (tests.Fits parts cased) = some _ (λ (value : Value). fits parts cased (value_text value)) values
+holds values (tests.Inside n) = some _ (λ (value : Value). inside_decided n (value_text value)) values
 holds values (tests.Equals n) = some _ (λ (value : Value). same_texts (value_text value) (signed_decimal n)) values
 
 -- ---- rules

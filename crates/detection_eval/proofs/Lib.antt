@@ -1,4 +1,5 @@
 mod Decided
 mod Going
 mod Meaning
+mod Networks
 mod Truths
