@@ -1,3 +1,4 @@
+mod Inside
 pub mod PatternLemmas
 mod TestsLemmas
 mod ViewLemmas
