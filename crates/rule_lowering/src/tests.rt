@@ -11,6 +11,7 @@ use rule_items::{Alternative, Alternatives, Detection, Detections, Fields, Item,
 use rule_model::Rule;
 use sig_base::{Code, Detail, Fault, Limits, Place, Text, Texts};
 use sig_conditions::{DetectionNumbers, Formula};
+use sig_encode::Network;
 use sig_modifiers::{Test, Tests};
 use sig_strings::{Pattern, SharedPattern};
 use std::alloc::Global;
@@ -308,6 +309,18 @@ fn dashed(alloc: Global, text: &str) -> Result<Tests, Fail> {
     Ok(tests)
 }
 
+/// A row's kind of a field, its text, and the tree that is wanted.
+fn row(line: &str) -> Option<(FieldKind, &str, &str)> {
+    let (kind, rest) = line.split_once('=')?;
+    let (text, want) = rest.split_once('=')?;
+    let kind = match kind {
+        "whole" => FieldKind::Whole,
+        "address" => FieldKind::Address,
+        _ => FieldKind::Text,
+    };
+    Some((kind, text, want))
+}
+
 /// The kind of a field, `=`, a text, `=`, and the tree that its pattern with dash places gives.
 const DASHED: &str = "text=*-a=(0=*-a|0=*/a|0=*–a|0=*—a|0=*―a|)
 text=a-b=0=a-b
@@ -318,20 +331,46 @@ whole=/5*=(0=-5*|0=/5*|0=–5*|0=—5*|0=―5*|)";
 fn each_choice_of_dashes(rt: HostRuntime) -> Result<(), Fail> {
     let alloc = rt.alloc();
     for line in DASHED.lines() {
-        let Some((kind, rest)) = line.split_once('=') else {
-            continue;
-        };
-        let Some((text, want)) = rest.split_once('=') else {
-            continue;
-        };
-        let kind = if kind == "whole" {
-            FieldKind::Whole
-        } else {
-            FieldKind::Text
+        let Some((kind, text, want)) = row(line) else {
+            panic!(rt; "{line}");
         };
         let tree = shown_value(alloc, kind, dashed(alloc, text)?)?;
         assert_eq!(rt; tree.as_str(), want);
     }
+    Ok(())
+}
+
+/// The kind of a field, `=`, a network, `=`, and the tree that it gives.
+const NETWORKS: &str = "address=10.0.0.0/8=0~10.*
+address=192.168.0.0/15=(0~192.168.*|0~192.169.*|)
+address=10.1.2.3=0~10.1.2.3
+address=10.1.2.3/31=(0~10.1.2.2|0~10.1.2.3|)
+text=11.0.0.0/7=(0~10.*|0~11.*|)
+whole=10.0.0.0/8=0~10.*
+whole=10.1.2.3=never";
+
+#[test]
+fn networks_are_their_patterns(rt: HostRuntime) -> Result<(), Fail> {
+    let alloc = rt.alloc();
+    for line in NETWORKS.lines() {
+        let Some((kind, text, want)) = row(line) else {
+            panic!(rt; "{line}");
+        };
+        let network = Network::read(text, KEY)?;
+        let tree = shown_test(alloc, kind, Test::Inside(network))?;
+        assert_eq!(rt; tree.as_str(), want);
+    }
+    Ok(())
+}
+
+#[test]
+fn networks_are_counted(rt: HostRuntime) -> Result<(), Fail> {
+    let alloc = rt.alloc();
+    let mut all = item(alloc, ["A", "B"].as_slice(), Joined::Any, ["c"].as_slice())?;
+    let mut tests = Tests::new(alloc);
+    tests.push(Test::Inside(Network::read("10.0.0.0/9", KEY)?))?;
+    all.tests.push(tests)?;
+    assert_eq!(rt; refused_leaves(alloc, all, 257)?, 258);
     Ok(())
 }
 

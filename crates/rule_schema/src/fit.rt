@@ -62,7 +62,11 @@ fn names_refusal(
     if unknown.is_some() {
         return unknown;
     }
-    unless(Code::KIND_MISMATCH, place, are_of_kinds(fields, values, names))
+    unless(
+        Code::KIND_MISMATCH,
+        place,
+        are_of_kinds(fields, values, names),
+    )
 }
 
 fn item_refusal(fields: &[Field], item: &Item) -> Option<Refusal>

@@ -44,11 +44,7 @@ fn made_field(alloc: Global, addresses: &TextIndex, name: Text) -> Result<Field,
     })
 }
 
-fn made_fields(
-    alloc: Global,
-    addresses: &TextIndex,
-    names: Vec<Text>,
-) -> Result<FieldList, Fault>
+fn made_fields(alloc: Global, addresses: &TextIndex, names: Vec<Text>) -> Result<FieldList, Fault>
     ensures ok { IfOk result (λ fields. fields ≡ map (spec.made_field addresses.now) names.items) }
     ensures err { IfErr result (λ e. e ≡ Fault.Memory) }
 {

@@ -125,7 +125,10 @@ fn names_stand_once_unless_they_clash(rt: HostRuntime) -> Result<(), Fail> {
         ([("", ""), ("y", "x")].as_slice(), "events y x"),
         ([("A", ""), ("b", ""), ("a", "")].as_slice(), "80 3"),
         ([("b", "B")].as_slice(), "80 1"),
-        ([("b", ""), ("@c", "b"), ("c", ""), ("a", "")].as_slice(), "events @b @c a"),
+        (
+            [("b", ""), ("@c", "b"), ("c", ""), ("a", "")].as_slice(),
+            "events @b @c a",
+        ),
         ([("@a", ""), ("B", ""), ("b", "")].as_slice(), "80 3"),
     ] {
         assert_eq!(rt; inferred(rt.alloc(), items)?.as_str(), want);
@@ -171,7 +174,11 @@ fn the_first_item_that_does_not_fit_is_refused(rt: HostRuntime) -> Result<(), Fa
         (false, [("a", ""), ("", ""), ("c", "")].as_slice(), "83 2"),
         (false, [("c", ""), ("", "")].as_slice(), "81 1"),
         (false, [("ip", "a"), ("@ip", "")].as_slice(), ""),
-        (false, [("a", ""), ("@ip", "a"), ("c", "")].as_slice(), "82 2"),
+        (
+            false,
+            [("a", ""), ("@ip", "a"), ("c", "")].as_slice(),
+            "82 2",
+        ),
         (false, [("@a", "c")].as_slice(), "81 1"),
         (false, [("@a", ""), ("", "")].as_slice(), "82 1"),
     ] {

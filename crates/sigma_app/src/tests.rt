@@ -2,6 +2,7 @@
 
 mod cuts;
 mod faults;
+mod modifiers;
 mod query_faults;
 mod querying;
 mod rules;

@@ -1,0 +1,179 @@
+//! Rules with values that are encoded, with dashes, and with networks.
+
+use crate::tests::{Ran, check, run_over, still};
+use sig_base::Limits;
+use std::alloc::Global;
+use std::test::Fail;
+
+const TO_SQLITE: [&str; 4] = ["convert", "--backend", "sqlite", "r.yml"];
+
+const TO_LUCENE: [&str; 4] = ["convert", "--backend", "lucene", "r.yml"];
+
+/// A rule whose one item is this line.
+fn rule_of(alloc: Global, line: &str) -> Result<String, Fail> {
+    Ok(format!(in alloc;
+        "title: T\nlogsource:\n  category: c\ndetection:\n  s:\n    {line}\n  condition: s\n"
+    )?)
+}
+
+/// What is written of the rule `r.yml`.
+fn converted(alloc: Global, words: &[&str], rule: &str) -> Result<Ran, Fail> {
+    let files: [(&str, &[u8]); 1] = [("r.yml", rule.as_bytes())];
+    run_over(alloc, words, &Limits::standard(), still(&files))
+}
+
+/// Runs the rule `r.yml` over events.
+fn run_rule(alloc: Global, rule: &str, events: &'static str) -> Result<Ran, Fail> {
+    let files: [(&str, &[u8]); 1] = [("r.yml", rule.as_bytes())];
+    let mut world = still(&files);
+    world.events = events;
+    run_over(alloc, &["run", "r.yml"], &Limits::standard(), world)
+}
+
+/// An item, the code of the exit status, and the SQL test or the diagnostic.
+const ROWS: &str = r#"A|wide|base64: cmd~0~"A" = 'YwBtAGQA' COLLATE NOCASE
+A|base64offset|contains: /bin/bash~0~"A" LIKE '%L2Jpbi9iYXNo%' ESCAPE '\' OR "A" LIKE '%9iaW4vYmFza%' ESCAPE '\' OR "A" LIKE '%vYmluL2Jhc2%' ESCAPE '\'
+A|cased|base64: x~0~"A" = 'eA=='
+A|windash: a-b~0~"A" = 'a-b' COLLATE NOCASE
+A|base64: 'c*'~1~6:15: 43 WildcardInEncoding
+A|base64offset: x~1~6:21: 42 ValueNotAllowed
+A|wide: x~1~6:5: 41 ChainNotAllowed
+A|windash: -a -b -c -d -e~1~6:16: 46 TooManyDashes
+A|cidr: 192.168.0.0/14~0~"A" LIKE '192.168.%' ESCAPE '\' OR "A" LIKE '192.169.%' ESCAPE '\' OR "A" LIKE '192.170.%' ESCAPE '\' OR "A" LIKE '192.171.%' ESCAPE '\'
+A|cidr: 10.0.0.1/32~0~"A" = '10.0.0.1' COLLATE NOCASE
+A|cidr: 10.0.0.0/33~1~6:13: 44 BadNetwork
+A|cidr: ::1/128~1~6:13: 44 BadNetwork
+A|contains|cidr: 10.0.0.0/8~1~6:5: 41 ChainNotAllowed"#;
+
+#[test]
+fn values_are_encoded(rt: HostRuntime) -> Result<(), Fail> {
+    let alloc = rt.alloc();
+    for row in ROWS.lines() {
+        let Some((line, rest)) = row.split_once('~') else {
+            panic!(rt; "{row}");
+        };
+        let Some((code, want)) = rest.split_once('~') else {
+            panic!(rt; "{row}");
+        };
+        let rule = rule_of(alloc, line)?;
+        let ran = converted(alloc, &TO_SQLITE, rule.as_str())?;
+        if code == "0" {
+            let query = format!(in alloc; "SELECT * FROM \"events\" WHERE {want}\n")?;
+            check(&rt, &ran, 0, query.as_str(), "");
+        } else {
+            let diagnostic = format!(in alloc; "r.yml:{want}\n")?;
+            check(&rt, &ran, 1, "", diagnostic.as_str());
+        }
+    }
+    Ok(())
+}
+
+const DASHES: &str = "-/–—―";
+
+/// Each two dashes, the first of them varying slowest.
+#[test]
+fn dashes_are_chosen(rt: HostRuntime) -> Result<(), Fail> {
+    let alloc = rt.alloc();
+    let mut sql = String::new(alloc);
+    for first in DASHES.chars() {
+        for second in DASHES.chars() {
+            let start = if sql.is_empty() {
+                "SELECT * FROM \"events\" WHERE "
+            } else {
+                " OR "
+            };
+            sql.push_str(&format!(in alloc;
+                "{start}\"A\" LIKE '% {first}a {second}b%' ESCAPE '\\'"
+            )?)?;
+        }
+    }
+    sql.push('\n')?;
+    let rule = rule_of(alloc, "A|windash|contains: ' -a /b'")?;
+    let ran = converted(alloc, &TO_SQLITE, rule.as_str())?;
+    check(&rt, &ran, 0, sql.as_str(), "");
+    let rule = rule_of(alloc, "A|windash: -a")?;
+    let ran = converted(alloc, &TO_LUCENE, rule.as_str())?;
+    check(
+        &rt,
+        &ran,
+        0,
+        "A:\\-a OR A:\\/a OR A:–a OR A:—a OR A:―a\n",
+        "",
+    );
+    Ok(())
+}
+
+const EVENTS: &str = r#"{"A":"x –A /B"}
+{"A":"x -a b"}
+{"A":"x-a -b"}
+{"A":" /a ―b "}
+"#;
+
+#[test]
+fn dashes_are_matched(rt: HostRuntime) -> Result<(), Fail> {
+    let rule = rule_of(rt.alloc(), "A|windash|contains: ' -a /b'")?;
+    let ran = run_rule(rt.alloc(), rule.as_str(), EVENTS)?;
+    check(
+        &rt,
+        &ran,
+        0,
+        "{\"A\":\"x –A /B\"}\n{\"A\":\" /a ―b \"}\n",
+        "",
+    );
+    Ok(())
+}
+
+const ADDRESSES: &str = r#"{"A":"10.1.2.3"}
+{"A":"10.evil"}
+{"A":"11.0.0.1"}
+{"A":"host"}
+{"A":null}
+{"A":"10.255.255.255"}
+"#;
+
+/// Without a schema the field is one of addresses, so that what begins as one and is none isn't read.
+#[test]
+fn addresses_are_matched(rt: HostRuntime) -> Result<(), Fail> {
+    let rule = rule_of(rt.alloc(), "A|cidr: 10.0.0.0/8")?;
+    let ran = run_rule(rt.alloc(), rule.as_str(), ADDRESSES)?;
+    check(
+        &rt,
+        &ran,
+        1,
+        "{\"A\":\"10.1.2.3\"}\n{\"A\":\"10.255.255.255\"}\n",
+        "events:2: 26 EventKind\n",
+    );
+    Ok(())
+}
+
+const UNDER: [&str; 5] = ["convert", "--backend=sqlite", "--schema", "s.json", "r.yml"];
+
+/// What is written of the rule `r.yml` under the schema `s.json`.
+fn converted_under(alloc: Global, schema: &str, rule: &str) -> Result<Ran, Fail> {
+    let files: [(&str, &[u8]); 2] = [("s.json", schema.as_bytes()), ("r.yml", rule.as_bytes())];
+    run_over(alloc, &UNDER, &Limits::standard(), still(&files))
+}
+
+#[test]
+fn networks_need_fields_of_addresses(rt: HostRuntime) -> Result<(), Fail> {
+    let rule = rule_of(rt.alloc(), "A|cidr: 10.0.0.0/8")?;
+    let text = "{\"fields\":[{\"name\":\"A\",\"kind\":\"text\"}]}";
+    let ran = converted_under(rt.alloc(), text, rule.as_str())?;
+    check(&rt, &ran, 1, "", "r.yml:6:5: 82 KindMismatch\n");
+    let address = "{\"fields\":[{\"name\":\"A\",\"kind\":\"address\"}]}";
+    let ran = converted_under(rt.alloc(), address, rule.as_str())?;
+    check(
+        &rt,
+        &ran,
+        0,
+        "SELECT * FROM \"events\" WHERE \"A\" LIKE '10.%' ESCAPE '\\'\n",
+        "",
+    );
+    let ran = converted_under(
+        rt.alloc(),
+        "{\"fields\":[{\"name\":\"B\",\"kind\":\"text\"}]}",
+        rule.as_str(),
+    )?;
+    check(&rt, &ran, 1, "", "r.yml:6:5: 81 UnknownField\n");
+    Ok(())
+}
