@@ -1,11 +1,11 @@
 -- Whole rules that fit a schema: each item passes, and each test stands on a field of a kind that takes it.
-use Rattle.std.proofs.Common.{ℕ, zero, suc, ◌≡◌, Bool, true, false, ◌||◌, not, if◌then◌else◌, List, [], ◌∷◌, length, refl, sym, ap, ◌∙◌}
-use Rattle.std.specs.Prelude.{Option, Some, None, option_map, unwrap_or, ⊤}
-use Rattle.std.specs.List.{flat_map, list_any, list_all}
+use Rattle.std.proofs.Common.{ℕ, suc, ◌≡◌, ◌+◌, ◌≤◌, nat_lt, cond, arith, Bool, true, false, ◌||◌, not, if◌then◌else◌, List, [], ◌∷◌, length, refl, sym, ap, ◌∙◌}
+use Rattle.std.specs.Prelude.{Some, None, unwrap_or, ⊤}
+use Rattle.std.specs.List.{flat_map, list_any, list_all, position_or_len}
+use Rattle.std.proofs.lemmas.Bool.Decides.{nat_tests}
 use Rattle.std.specs.Str.{bytes_eq}
 use Rattle.backend_core.specs.Sound.{kind_at}
 use Rattle.event_schema.specs.Lists.{EachOf}
-use Rattle.event_schema.specs.Rows.{field_number}
 use Rattle.event_schema.specs.declared.schema.Field.{Field}
 use Rattle.event_schema.specs.declared.schema.FieldKind.{FieldKind}
 use Rattle.event_schema.specs.declared.schema.FieldKind.TheVariants as kinds
@@ -109,19 +109,39 @@ is_kind kinds.Text h = absurd cc
 is_kind kinds.Whole h = absurd cc
 is_kind kinds.Address h = refl
 
-one_more : (found : Option ℕ) (n : ℕ) → unwrap_or (option_map suc found) (suc n) ≡ suc (unwrap_or found n)
-one_more None n = refl
-one_more (Some k) n = refl
+-- the place of the first field of a name, or the number of fields
+abbrev place_of : List Field → List ℕ → ℕ
+place_of fields name = position_or_len (λ (f : Field). bytes_eq f.name name) fields
+
+step_most : (b : Bool) (n m : ℕ) → n ≤ m → cond (not b) (1 + n) 0 ≤ 1 + m
+step_most true n m h = omega arith
+step_most false n m h = omega (arith, h)
+
+place_most : (fields : List Field) (name : List ℕ) → place_of fields name ≤ length fields
+place_most [] name = omega arith
+place_most (f ∷ fields) name = let step = step_most (bytes_eq f.name name) (place_of fields name) (length fields) (place_most fields name) in omega (arith, step)
+
+or_length : (b : Bool) (n m : ℕ) → nat_lt n m ≡ b → n ≤ m → unwrap_or (cond b (Some n) None) m ≡ n
+or_length true n m e h = refl
+or_length false n m e h = grind (arith, nat_tests)
+
+number_is : (fields : List Field) (name : List ℕ) → number_of fields name ≡ place_of fields name
+number_is fields name = or_length (nat_lt (place_of fields name) (length fields)) (place_of fields name) (length fields) refl (place_most fields name)
+
+placed_kind : (fields : List Field) (name : List ℕ) → is_address_field fields name ≡ true → kind_at fields (place_of fields name) ≡ kinds.Address
+placed_kind [] name h = absurd cc
+placed_kind (f ∷ fields) name h = by (bytes_eq f.name name) h (placed_kind fields name) where
+  by : (b : Bool) → (if b then is_address f.kind else is_address_field fields name) ≡ true
+      → (is_address_field fields name ≡ true → kind_at fields (place_of fields name) ≡ kinds.Address)
+      → kind_at (f ∷ fields) (cond (not b) (1 + place_of fields name) 0) ≡ kinds.Address
+  by true own rest = is_kind f.kind own
+  by false own rest =
+      let next : 1 + place_of fields name ≡ suc (place_of fields name) = omega arith in
+      ap (kind_at (f ∷ fields)) next ∙ rest own
 
 -- the field of a name that is one of addresses
 address_kind : (fields : List Field) (name : List ℕ) → is_address_field fields name ≡ true → kind_at fields (number_of fields name) ≡ kinds.Address
-address_kind [] name h = absurd cc
-address_kind (f ∷ fields) name h = by (bytes_eq f.name name) h (address_kind fields name) where
-  by : (b : Bool) → (if b then is_address f.kind else is_address_field fields name) ≡ true
-      → (is_address_field fields name ≡ true → kind_at fields (number_of fields name) ≡ kinds.Address)
-      → kind_at (f ∷ fields) (unwrap_or (if b then Some 0 else option_map suc (field_number fields name)) (suc (length fields))) ≡ kinds.Address
-  by true own rest = is_kind f.kind own
-  by false own rest = ap (kind_at (f ∷ fields)) (one_more (field_number fields name) (length fields)) ∙ rest own
+address_kind fields name h = ap (kind_at fields) (number_is fields name) ∙ placed_kind fields name h
 
 each_of : {A : Type 0} {P : A → Type 0} → ((x : A) → P x) → (xs : List A) → EachOf P xs
 each_of holds [] = tt

@@ -1,7 +1,7 @@
 //! The kinds of fields that tests stand on.
 
 ghost use Rattle.std.specs.Prelude.{◌≡◌};
-ghost use Rattle.std.specs.List.{list_any};
+ghost use Rattle.std.specs.List.{list_all, list_any};
 ghost use Rattle.rule_schema.specs.Kinds as spec;
 
 use event_schema::{Field, FieldKind};
@@ -44,9 +44,15 @@ fn is_address_field(fields: &[Field], name: &Text) -> bool
     false
 }
 
+fn are_address_fields(fields: &[Field], names: &[Text]) -> bool
+    ensures { result ≡ list_all (spec.is_address_field fields.now) names.now }
+{
+    names.iter().all(|name| is_address_field(fields, name))
+}
+
 /// Whether the names' fields are of the kinds that the tests of these values stand on.
 pub fn are_of_kinds(fields: &[Field], values: &[Tests], names: &[Text]) -> bool
     ensures { result ≡ spec.are_of_kinds fields.now values.now names.now }
 {
-    !ask_address(values) || names.iter().all(|name| is_address_field(fields, name))
+    !ask_address(values) || are_address_fields(fields, names)
 }

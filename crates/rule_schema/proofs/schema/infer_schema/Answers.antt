@@ -14,7 +14,7 @@ own_fields : (rule : PlainRule) (fields : List Field) (addresses names : List (L
     → addresses ≡ address_names (items_of rule.detections) → names ≡ rule_names rule
     → fields ≡ map (made_field (address_names (items_of rule.detections))) (rule_names rule)
 own_fields rule fields addresses names made asked own =
-    made ∙ (ap (λ (as : List (List ℕ)). map (made_field as) names) asked ∙ ap (map (made_field (address_names (items_of rule.detections)))) own)
+    made ∙ (ap (λ (asked_names : List (List ℕ)). map (made_field asked_names) names) asked ∙ ap (map (made_field (address_names (items_of rule.detections)))) own)
 
 pub returns-clause-made : goal.returns-clause-made
 returns-clause-made c =
