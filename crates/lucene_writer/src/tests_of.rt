@@ -106,13 +106,7 @@ fn put_range_end(out: &mut Text, op: Op) -> Result<(), Fault>
 
 /// Adds the range of the numbers that stand so to this one.
 #[tactic(auto, using(crate::proofs::Signs::range_put))]
-fn put_compare(
-    alloc: Global,
-    out: &mut Text,
-    name: &str,
-    op: Op,
-    number: &i64,
-) -> Result<(), Fault>
+fn put_compare(alloc: Global, out: &mut Text, name: &str, op: Op, number: &i64) -> Result<(), Fault>
     ensures ok { OnOk result (out.new ≡ out.old ++ pieces.compare_text (chars name.now) op number.now) }
     ensures err { IfErr result (λ e. e ≡ Fault.Memory) }
 {

@@ -104,10 +104,10 @@ module _
         → TreeHolds row (written_tree place (kind (number_of fields name)) (number_of fields name) test) ↔ Holds test (values_if_any row (field_number fields name))
     written_means place name test =
         let n = number_of fields name in
-        let there : Passes (leaf_test (kind n) test) (field_values row n) ↔ Holds test (values_if_any row (field_number fields name)) =
-        subst (λ (values : List Value). Passes (leaf_test (kind n) test) (field_values row n) ↔ Holds test values)
+        let there : Passes row (leaf_test (kind n) test) (field_values row n) ↔ Holds test (values_if_any row (field_number fields name)) =
+        subst (λ (values : List Value). Passes row (leaf_test (kind n) test) (field_values row n) ↔ Holds test values)
         (numbered_values fields row event (field_number fields name))
-        (test_means plain_cased plain_folded (kind n) test (field_values row n) (values_of_kind fields row event n)) in
+        (test_means plain_cased plain_folded row (kind n) test (field_values row n) (values_of_kind fields row event n)) in
         iff_then (leaf_holds row place n (leaf_test (kind n) test)) there
 
     one_means : (place : Place) (name : List ℕ) (test : Test)

@@ -148,7 +148,7 @@ module _ (choices_plain : (parts : List Part) → IsDashedPattern parts → Each
     decimal_sound low h = record { written = characters_written low; plain = subst IsPlainText (sym (own_text low)) h }
 
     -- of a field that isn't one of whole numbers
-    text_sound : (kind : FieldKind) → (kind ≡ kinds.Whole → ⊥) → (test : Test) → IsWrittenTest test → IsSoundTest kind (text_test test)
+    text_sound : (kind : FieldKind) → (kind ≡ kinds.Whole → ⊥) → (test : Test) → IsWrittenTest test → IsSoundTest fields kind (text_test test)
     text_sound kind other tests.Absent h = tt
     text_sound kind other (tests.Exists true) h = tt
     text_sound kind other (tests.Exists false) h = tt
@@ -158,7 +158,7 @@ module _ (choices_plain : (parts : List Part) → IsDashedPattern parts → Each
 
     abbrev IsSoundIfAny : FieldKind → Option LeafTest → Type 0
     IsSoundIfAny kind None = ⊤
-    IsSoundIfAny kind (Some test) = IsSoundTest kind test
+    IsSoundIfAny kind (Some test) = IsSoundTest fields kind test
 
     written_sound : (number : Option ℤ) → ((n : ℤ) → number ≡ Some n → IsWholeNumber n) → IsSoundIfAny kinds.Whole (option_map leaf_tests.Equals number)
     written_sound None whole = tt

@@ -141,29 +141,37 @@ fn comparisons_of_two_fields(rt: HostRuntime) -> Result<(), Fail> {
 fn guards_of_both_fields(rt: HostRuntime) -> Result<(), Fail> {
     let alloc = rt.alloc();
     let none = not(alloc, same(0, 1))?;
-    assert!(rt; is_written(
-        alloc,
-        &none,
-        "NOT (\"Parent\" IS NOT NULL AND \"Image\" IS NOT NULL AND \"Parent\" = \"Image\" COLLATE NOCASE)",
-    )?);
+    assert!(rt;
+        is_written(
+            alloc,
+            &none,
+            "NOT (\"Parent\" IS NOT NULL AND \"Image\" IS NOT NULL AND \"Parent\" = \"Image\" COLLATE NOCASE)",
+        )?
+    );
     let again = not(alloc, none)?;
-    assert!(rt; is_written(
-        alloc,
-        &again,
-        "NOT NOT \"Parent\" = \"Image\" COLLATE NOCASE",
-    )?);
+    assert!(rt;
+        is_written(
+            alloc,
+            &again,
+            "NOT NOT \"Parent\" = \"Image\" COLLATE NOCASE",
+        )?
+    );
     let itself = not(alloc, same(3, 3))?;
-    assert!(rt; is_written(
-        alloc,
-        &itself,
-        "NOT (\"Code\" IS NOT NULL AND \"Code\" IS NOT NULL AND \"Code\" = \"Code\")",
-    )?);
+    assert!(rt;
+        is_written(
+            alloc,
+            &itself,
+            "NOT (\"Code\" IS NOT NULL AND \"Code\" IS NOT NULL AND \"Code\" = \"Code\")",
+        )?
+    );
     let pair = not(alloc, both(alloc, compare(3, Op::Lt, 5), same(0, 1))?)?;
-    assert!(rt; is_written(
-        alloc,
-        &pair,
-        "NOT (\"Code\" IS NOT NULL AND \"Code\" < 5 AND \"Parent\" IS NOT NULL AND \"Image\" IS NOT NULL AND \"Parent\" = \"Image\" COLLATE NOCASE)",
-    )?);
+    assert!(rt;
+        is_written(
+            alloc,
+            &pair,
+            "NOT (\"Code\" IS NOT NULL AND \"Code\" < 5 AND \"Parent\" IS NOT NULL AND \"Image\" IS NOT NULL AND \"Parent\" = \"Image\" COLLATE NOCASE)",
+        )?
+    );
     Ok(())
 }
 
