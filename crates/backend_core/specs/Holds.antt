@@ -1,20 +1,43 @@
--- Whether a tree holds of an event's row: of each leaf its field's values decide, and the rest is two-valued.
-use Rattle.std.specs.Prelude.{◌≡◌, List, ◌⊎◌, ⊤}
+-- Whether a tree holds of an event's row: of each leaf the values of the fields that it looks at decide, and the rest is two-valued.
+use Rattle.std.specs.Prelude.{◌≡◌, ℤ, ◌≤ℤ◌, ◌<ℤ◌, List, ◌⊎◌, ⊤}
 use Rattle.std.specs.Fmt.{signed_decimal}
 use Rattle.event_schema.specs.Lists.{SomeOf, HasElement, HasNoElement}
 use Rattle.event_schema.specs.Rows.{field_values, value_text}
 use Rattle.event_schema.specs.declared.value.Value.{Value}
+use Rattle.event_schema.specs.declared.value.Value.TheVariants.{Text, Whole}
+use Rattle.sig_base.specs.Folding.{folded}
 use Rattle.sig_strings.specs.Fits.{Fits}
 use Rattle.backend_core.specs.declared.tree.LeafTest.{LeafTest}
 use Rattle.backend_core.specs.declared.tree.LeafTest.TheVariants as tests
+use Rattle.backend_core.specs.declared.tree.Op.{Op}
+use Rattle.backend_core.specs.declared.tree.Op.TheVariants as ops
 use Rattle.backend_core.specs.Trees.{Plain, all, any, negated, leaf, never, Plains, no_parts, a_part}
 
--- what a test says of a field's values: whether there is one, or whether the pattern fits some value, or some value is the number
-abbrev pub TestHolds : LeafTest → List Value → Type 0
-TestHolds tests.Has values = HasElement values
-TestHolds tests.Absent values = HasNoElement values
-TestHolds (tests.Fits pattern cased) values = SomeOf (λ value. Fits pattern (value_text value) cased) values
-TestHolds (tests.Equals n) values = SomeOf (λ value. value_text value ≡ signed_decimal n) values
+-- below, at most, above, at least
+abbrev pub Stands : Op → ℤ → ℤ → Type 0
+Stands ops.Lt m n = m <ℤ n
+Stands ops.Lte m n = m ≤ℤ n
+Stands ops.Gt m n = n <ℤ m
+Stands ops.Gte m n = n ≤ℤ m
+
+-- a number that stands so to this one, and no text
+abbrev pub ValueStands : Op → ℤ → Value → Type 0
+ValueStands op n (Text text) = ⊥
+ValueStands op n (Whole m) = Stands op m n
+
+-- the texts of two values are one after folding
+abbrev pub AreSame : Value → Value → Type 0
+AreSame v w = folded (value_text v) ≡ folded (value_text w)
+
+-- What a test says of a field's values in a row: whether there is one, whether the pattern fits some value, some value is the number or
+-- stands so to it, or some value is the same as some value of another field.
+abbrev pub TestHolds : List (List Value) → LeafTest → List Value → Type 0
+TestHolds row tests.Has values = HasElement values
+TestHolds row tests.Absent values = HasNoElement values
+TestHolds row (tests.Fits pattern cased) values = SomeOf (λ value. Fits pattern (value_text value) cased) values
+TestHolds row (tests.Equals n) values = SomeOf (λ value. value_text value ≡ signed_decimal n) values
+TestHolds row (tests.Compare op n) values = SomeOf (ValueStands op n) values
+TestHolds row (tests.SameAs other) values = SomeOf (λ value. SomeOf (AreSame value) (field_values row other)) values
 
 -- an all where each of its parts holds, an any where one of them does, a negated tree where its part doesn't, and one never
 module _ (row : List (List Value)) where
@@ -23,7 +46,7 @@ module _ (row : List (List Value)) where
     TreeHolds (all ts) = EachHolds ts
     TreeHolds (any ts) = OneHolds ts
     TreeHolds (negated t) = TreeHolds t → ⊥
-    TreeHolds (leaf l) = TestHolds l.test (field_values row l.field)
+    TreeHolds (leaf l) = TestHolds row l.test (field_values row l.field)
     TreeHolds never = ⊥
 
     pub EachHolds : Plains → Type 0

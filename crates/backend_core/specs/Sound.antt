@@ -1,7 +1,7 @@
 -- Trees that fit a schema and can be written: no field is missing, no list is needless, patterns are of characters other than
--- U+0000, of single characters and of runs, and a field of whole numbers is compared with numbers, by a pattern only where it has
--- a wildcard.
-use Rattle.std.specs.Prelude.{ℕ, zero, suc, ◌≡◌, ◌<◌, true, List, [], ◌∷◌, length, ⊤}
+-- U+0000, of single characters and of runs, and a field of whole numbers is compared with numbers and with fields of whole numbers
+-- alone, by a pattern only where it has a wildcard.
+use Rattle.std.specs.Prelude.{ℕ, zero, suc, ◌≡◌, ◌<◌, ◌↔◌, true, List, [], ◌∷◌, length, ⊤}
 use Rattle.event_schema.specs.declared.schema.Field.{Field}
 use Rattle.event_schema.specs.declared.schema.FieldKind.{FieldKind}
 use Rattle.event_schema.specs.declared.schema.FieldKind.TheVariants as kinds
@@ -22,12 +22,14 @@ kind_at [] k = kinds.Text
 kind_at (field ∷ fields) zero = field.kind
 kind_at (field ∷ fields) (suc k) = kind_at fields k
 
--- of a field of this kind
-abbrev pub IsSoundTest : FieldKind → LeafTest → Type 0
-IsSoundTest kind tests.Has = ⊤
-IsSoundTest kind tests.Absent = ⊤
-IsSoundTest kind (tests.Fits pattern cased) = IsSoundPattern pattern × (kind ≡ kinds.Whole → has_wildcard pattern ≡ true)
-IsSoundTest kind (tests.Equals n) = (kind ≡ kinds.Whole) × IsWholeNumber n
+-- of a field of this kind, and of others of these fields
+abbrev pub IsSoundTest : List Field → FieldKind → LeafTest → Type 0
+IsSoundTest fields kind tests.Has = ⊤
+IsSoundTest fields kind tests.Absent = ⊤
+IsSoundTest fields kind (tests.Fits pattern cased) = IsSoundPattern pattern × (kind ≡ kinds.Whole → has_wildcard pattern ≡ true)
+IsSoundTest fields kind (tests.Equals n) = (kind ≡ kinds.Whole) × IsWholeNumber n
+IsSoundTest fields kind (tests.Compare op n) = (kind ≡ kinds.Whole) × IsWholeNumber n
+IsSoundTest fields kind (tests.SameAs other) = (other < length fields) × ((kind ≡ kinds.Whole) ↔ (kind_at fields other ≡ kinds.Whole))
 
 -- at least two parts
 abbrev pub AreTwo : Plains → Type 0
@@ -41,7 +43,7 @@ module _ (fields : List Field) where
     IsSound (all ts) = AreTwo ts × AreSound ts
     IsSound (any ts) = AreTwo ts × AreSound ts
     IsSound (negated t) = IsSound t
-    IsSound (leaf l) = (l.field < length fields) × IsSoundTest (kind_at fields l.field) l.test
+    IsSound (leaf l) = (l.field < length fields) × IsSoundTest fields (kind_at fields l.field) l.test
     IsSound never = ⊤
 
     pub AreSound : Plains → Type 0

@@ -24,6 +24,11 @@ impl LeafTest {
                 })
             }
             LeafTest::Equals(number) => Ok(LeafTest::Equals(*number)),
+            LeafTest::Compare { op, number } => Ok(LeafTest::Compare {
+                op: *op,
+                number: *number,
+            }),
+            LeafTest::SameAs(other) => Ok(LeafTest::SameAs(*other)),
         }
     }
 }

@@ -19,6 +19,8 @@ use std::alloc::Global;
 pub enum Lack {
     /// a test of a field that may have several values
     Many,
+    /// a comparison of two fields
+    FieldRef,
     /// a pattern by case, of a field whose texts' case isn't kept
     Cased,
     /// a pattern of a field of whole numbers
@@ -34,6 +36,7 @@ impl Lack {
     {
         match self {
             Lack::Many => "Many",
+            Lack::FieldRef => "FieldRef",
             Lack::Cased => "Cased",
             Lack::WholePattern => "WholePattern",
             Lack::EmptyText => "EmptyText",

@@ -10,4 +10,4 @@ mod tree;
 
 pub use backend::Backend;
 pub use lack::{Lack, Lacking, judge_lacks};
-pub use tree::{Leaf, LeafTest, Tree};
+pub use tree::{Leaf, LeafTest, Op, Tree};

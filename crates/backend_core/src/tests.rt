@@ -1,6 +1,6 @@
 //! Copies, once each.
 
-use crate::{Leaf, LeafTest, Tree};
+use crate::{Leaf, LeafTest, Op, Tree};
 use sig_base::{Limits, Place};
 use sig_strings::{Pattern, SharedPattern};
 use std::test::Fail;
@@ -30,6 +30,18 @@ fn copies_are_the_same(rt: HostRuntime) -> Result<(), Fail> {
     parts.push(Tree::Leaf(Leaf {
         field: 4,
         test: LeafTest::Equals(-7),
+        place,
+    }))?;
+    for op in [Op::Lt, Op::Lte, Op::Gt, Op::Gte] {
+        parts.push(Tree::Leaf(Leaf {
+            field: 5,
+            test: LeafTest::Compare { op, number: 8 },
+            place,
+        }))?;
+    }
+    parts.push(Tree::Leaf(Leaf {
+        field: 6,
+        test: LeafTest::SameAs(2),
         place,
     }))?;
     parts.push(Tree::Never)?;

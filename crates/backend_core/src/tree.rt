@@ -33,4 +33,17 @@ pub enum LeafTest {
     Fits { pattern: SharedPattern, cased: bool },
     /// some value is this number; of fields of whole numbers alone
     Equals(i64),
+    /// some value is a number that stands so to this one; of fields of whole numbers alone
+    Compare { op: Op, number: i64 },
+    /// some value and some value of the field of this number have one text after folding
+    SameAs(u32),
+}
+
+/// How a number stands to another.
+#[derive(Clone, Copy, Debug, PartialEq, Eq)]
+pub enum Op {
+    Lt,
+    Lte,
+    Gt,
+    Gte,
 }

@@ -483,7 +483,7 @@ term_text gs =
     spelled_text (no_word w) (run_sort (no_word w)) (sort_is (no_word w)) (wordless w).no_word
 
 -- of characters alone, so is the name's
-name_text_is : (cs : List ℕ) → token_text (spell_name (name_for cs)) ≡ written (name_written cs)
+pub name_text_is : (cs : List ℕ) → token_text (spell_name (name_for cs)) ≡ written (name_written cs)
 name_text_is cs = ap (λ (t : Term). token_text (spell_term t)) (sym (exact_for cs)) ∙ term_text (map as_char cs)
 
 pub leaf_text : (cs : List ℕ) (gs : List Glyph)

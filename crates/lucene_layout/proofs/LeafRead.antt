@@ -34,7 +34,7 @@ two_inside s t first second (plain v) same (exact to) same' = let a = sym (ap (i
 two_inside s t first second (plain v) same (exact (decimal w)) same' = let a = sym (ap (is_outside false) same) ∙ first in let b = sym (ap (is_outside false) same') ∙ second in rw (a, b) refl
 two_inside s t first second (plain v) same (exact (plain w)) same' = let a = sym (ap (is_outside false) same) ∙ first in let b = sym (ap (is_outside false) same') ∙ second in rw (a, b) refl
 
-found_none : (fields : List Field) (o : Option FieldName) (f : FieldName) (v : grammar.Value) (p : At) → o ≡ Some f → is_ill (is_whole_at fields f.field) v ≡ false
+pub found_none : (fields : List Field) (o : Option FieldName) (f : FieldName) (v : grammar.Value) (p : At) → o ≡ Some f → is_ill (is_whole_at fields f.field) v ≡ false
     → found_faults fields o v p ≡ []
 found_none fields o f v p same fits = rw (same, fits) refl
 

@@ -3,4 +3,5 @@ mod Escapes
 mod Laid
 mod LeafRead
 mod Numbers
+mod Ranges
 mod Selection

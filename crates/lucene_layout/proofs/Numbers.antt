@@ -21,10 +21,10 @@ use Rattle.lucene_layout.proofs.Escapes.{exact_for, name_fine}
 
 -- ---- the decimal of a number without a sign
 
-record Writes (n : ℕ) (ds : List ℕ) : Type 0 where
-  value : digits_from 0 ds ≡ n
-  canonical : (bytes_eq ds (codes "0") || is_positive ds) ≡ true
-  positive : (n == 0) ≡ false → is_positive ds ≡ true
+pub record Writes (n : ℕ) (ds : List ℕ) : Type 0 where
+  pub value : digits_from 0 ds ≡ n
+  pub canonical : (bytes_eq ds (codes "0") || is_positive ds) ≡ true
+  pub positive : (n == 0) ≡ false → is_positive ds ≡ true
 
 digits_from_last : (n : ℕ) (ds : List ℕ) (d : ℕ) → digits_from n (ds ++ d ∷ []) ≡ 10 * digits_from n ds + (d - 48)
 digits_from_last n [] d = refl
@@ -74,7 +74,7 @@ more_digits n ds big w =
       positive = λ some. p;
     }
 
-decimal_writes : (n : ℕ) → n < 2 ^ 64 → Writes n (decimal n)
+pub decimal_writes : (n : ℕ) → n < 2 ^ 64 → Writes n (decimal n)
 decimal_writes n small = decimal_by_steps Writes one_digit more_digits n small
 
 -- ---- with a sign
@@ -82,7 +82,7 @@ decimal_writes n small = decimal_by_steps Writes one_digit more_digits n small
 positive_no_minus : (c : ℕ) → (nat_le 49 c && nat_le c 57) ≡ true → (c == 45) ≡ false
 positive_no_minus c h = grind (arith, nat_tests)
 
-canonical_unsigned : (ds : List ℕ) → (bytes_eq ds (codes "0") || is_positive ds) ≡ true → unsigned ds ≡ ds
+pub canonical_unsigned : (ds : List ℕ) → (bytes_eq ds (codes "0") || is_positive ds) ≡ true → unsigned ds ≡ ds
 canonical_unsigned [] h = refl
 canonical_unsigned (c ∷ v) h = by (c == 45) refl where
   minus_not : (c == 45) ≡ true → (bytes_eq (c ∷ v) (codes "0") || is_positive (c ∷ v)) ≡ false
@@ -113,7 +113,7 @@ minus_decimal : (ds : List ℕ) → is_positive ds ≡ true → is_decimal (45 �
 unfolding is_decimal
 minus_decimal ds h = h
 
-is_number_of : (z : ℤ) → IsWholeNumber z → is_number (signed_decimal z) ≡ true
+pub is_number_of : (z : ℤ) → IsWholeNumber z → is_number (signed_decimal z) ≡ true
 is_number_of (pos n) whole =
     let small : n < 2 ^ 63 = omega (arith, ints) in
     let w = decimal_writes n (omega arith) in
@@ -130,7 +130,7 @@ pub star_taken : is_ill true (a_term (term_for (Run ∷ []))) ≡ false
 unfolding term_for pattern_written run_sort is_decimal
 star_taken = refl
 
-decimal_part : (cs : List ℕ) → is_number cs ≡ true → is_decimal cs ≡ true
+pub decimal_part : (cs : List ℕ) → is_number cs ≡ true → is_decimal cs ≡ true
 unfolding is_number
 decimal_part cs h = (both_true (is_decimal cs) _ h).0
 

@@ -1,13 +1,15 @@
 -- How a pattern or a name is written as a run: with a backslash before each character that means more than itself, and one
 -- before a run that would be a word (Lucene's classic query syntax, escaping special characters).
-use Rattle.std.specs.Prelude.{ℕ, Bool, true, false, ◌||◌, ◌==◌, if◌then◌else◌, List, [], ◌∷◌, map, codes}
+use Rattle.std.specs.Prelude.{ℕ, ℤ, Bool, true, false, ◌||◌, ◌==◌, if◌then◌else◌, List, [], ◌∷◌, map, codes, Option, Some, None, ⊤}
+use Rattle.std.specs.Fmt.{signed_decimal}
 use Rattle.std.specs.Str.{bytes_eq}
 use Rattle.lucene_lang.specs.declared.query.Glyph.{Glyph}
 use Rattle.lucene_lang.specs.declared.query.Glyph.TheVariants.{Char, One, Run}
 use Rattle.lucene_lang.specs.declared.written.Written.{Written}
 use Rattle.lucene_lang.specs.declared.written.Written.TheVariants.{Bare, Escaped}
 use Rattle.lucene_lang.specs.Tokens.{Sort, Joins, Not, Star, Wild, To, Decimal, character, run_sort, is_blank}
-use Rattle.lucene_lang.specs.Grammar.{Name, to, decimal, plain, Term, star, wild, exact}
+use Rattle.event_schema.specs.Events.{IsWholeNumber}
+use Rattle.lucene_lang.specs.Grammar.{Name, to, decimal, plain, Term, star, wild, exact, End, unbounded, bound}
 
 -- + - & | ! ( ) { } [ ] ^ " ~ * ? : \ / and the characters that separate
 abbrev pub is_special : ℕ → Bool
@@ -66,6 +68,15 @@ term_for gs = term_as (run_sort (pattern_written gs)) (pattern_written gs)
 
 unfoldable pub name_for : List ℕ → Name
 name_for cs = name_as (run_sort (name_written cs)) (name_written cs)
+
+-- an end of a range: a number's decimal, or open; a number is one of 64 bits with a sign, but for the least
+abbrev pub end_for : Option ℤ → End
+end_for None = unbounded
+end_for (Some z) = bound (signed_decimal z)
+
+abbrev pub IsEnd : Option ℤ → Type 0
+IsEnd None = ⊤
+IsEnd (Some z) = IsWholeNumber z
 
 -- the characters that a pattern names
 abbrev pub characters : List Glyph → List ℕ

@@ -9,5 +9,5 @@ mod leaves;
 pub use laws::{layout_is_read, layout_selects, sizes_are_counted, text_is_scanned};
 pub use leaves::{
     leaves_are_read, leaves_are_sound, leaves_are_written, numbers_are_taken, patterns_are_scanned,
-    patterns_are_written,
+    patterns_are_written, ranges_are_read, ranges_are_written,
 };

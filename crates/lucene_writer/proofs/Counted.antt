@@ -79,12 +79,14 @@ module _ (fields : List Field) (most : ℕ) where
   mutual
     depths : (t : Plain) → IsSound fields t → Depths t (told fields t)
     depths (trees.leaf l) s = by l.test s.1 where
-      by : (test : LeafTest) → IsSoundTest (kind_at fields l.field) test
+      by : (test : LeafTest) → IsSoundTest fields (kind_at fields l.field) test
           → Depths (trees.leaf (record { field = l.field; test = test; place = l.place })) (told_parts (test_parts (name_at fields l.field) test))
       by tests.Has x = record { whole = refl; alone = refl; in_and = refl }
       by tests.Absent x = record { whole = refl; alone = refl; in_and = refl }
       by (tests.Fits ps cased) x = fits_depths (name_at fields l.field) l.field l.place ps cased x.0
       by (tests.Equals z) x = record { whole = refl; alone = refl; in_and = refl }
+      by (tests.Compare op z) x = record { whole = refl; alone = refl; in_and = refl }
+      by (tests.SameAs other) x = record { whole = refl; alone = refl; in_and = refl }
     depths trees.never s = record { whole = refl; alone = refl; in_and = refl }
     depths (trees.negated t) s =
         let x = (depths t s).alone in
@@ -196,12 +198,14 @@ module _ (fields : List Field) (most : ℕ)
     mutual
       counted : (t : Plain) → IsSound fields t → Counted t (told fields t)
       counted (trees.leaf l) s = by l.test s.1 where
-        by : (test : LeafTest) → IsSoundTest (kind_at fields l.field) test
+        by : (test : LeafTest) → IsSoundTest fields (kind_at fields l.field) test
             → Counted (trees.leaf (record { field = l.field; test = test; place = l.place })) (told_parts (test_parts (name_at fields l.field) test))
         by tests.Has x = record { whole = refl; alone = refl; in_and = refl }
         by tests.Absent x = record { whole = refl; alone = refl; in_and = refl }
         by (tests.Fits ps cased) x = fits_counted (name_at fields l.field) l.field l.place ps cased x.0
         by (tests.Equals z) x = record { whole = refl; alone = refl; in_and = refl }
+        by (tests.Compare op z) x = record { whole = refl; alone = refl; in_and = refl }
+        by (tests.SameAs other) x = record { whole = refl; alone = refl; in_and = refl }
       counted trees.never s = record { whole = refl; alone = refl; in_and = refl }
       counted (trees.negated t) s =
           let x = (counted t s).alone in

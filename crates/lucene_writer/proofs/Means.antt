@@ -1,6 +1,8 @@
 -- A written tree is sound, and its value is true exactly where the tree holds.
 use Rattle.std.proofs.Common.{ℕ, zero, suc, ◌≡◌, ◌<◌, ◌≤◌, refl, sym, ◌∙◌, ap, Bool, true, false, List, [], ◌∷◌, ◌++◌, codes, length, ◌⊎◌, inl, inr, subst, arith}
-use Rattle.std.specs.Prelude.{◌&&◌, ◌||◌, not, ◌↔◌, Option, Some, None, ℤ, map}
+use Rattle.std.specs.Prelude.{◌&&◌, ◌||◌, not, ◌↔◌, Option, Some, None, ℤ, ◌≤ℤ◌, ◌<ℤ◌, int_le, int_lt, map}
+use Rattle.std.proofs.Math.Dec.{T}
+use Rattle.std.specs.Int.Signed.{le_z_yes, lt_z_yes}
 use Rattle.std.specs.Fmt.{signed_decimal}
 use Rattle.std.specs.Str.{all_scalars}
 use Rattle.std.proofs.Math.Utf8.{scalar}
@@ -11,21 +13,22 @@ use Rattle.event_schema.specs.Schemas.{twin}
 use Rattle.event_schema.specs.declared.schema.Field.{Field}
 use Rattle.event_schema.specs.declared.schema.FieldKind.TheVariants as kinds
 use Rattle.event_schema.specs.declared.value.Value.{Value}
+use Rattle.event_schema.specs.declared.value.Value.TheVariants as values
 use Rattle.sig_strings.specs.Edits.{all_written, plain_text}
 use Rattle.sig_strings.specs.Fits.{Fits}
 use Rattle.sig_strings.specs.declared.part.Part.{Part}
 use Rattle.sig_strings.specs.declared.part.Part.TheVariants as parts
 use Rattle.lucene_lang.specs.declared.query.Glyph.{Glyph}
 use Rattle.lucene_lang.specs.declared.query.Glyph.TheVariants.{Char, One, Run}
-use Rattle.lucene_lang.specs.Grammar.{everything, sought, a_term}
-use Rattle.lucene_lang.specs.Query.{FieldName, named, OfField, Term, found_in, leaf_of}
+use Rattle.lucene_lang.specs.Grammar.{everything, sought, a_term, a_range}
+use Rattle.lucene_lang.specs.Query.{FieldName, named, OfField, Term, Range, found_in, leaf_of}
 use Rattle.lucene_lang.specs.Faults.{is_ill, is_whole, is_whole_at}
-use Rattle.lucene_lang.specs.Meaning.{atom_holds, term_fits, kept, kept_glyphs}
-use Rattle.lucene_layout.specs.Escaped.{name_for, term_for, characters, as_char}
+use Rattle.lucene_lang.specs.Meaning.{atom_holds, term_fits, kept, kept_glyphs, is_above, is_below}
+use Rattle.lucene_layout.specs.Escaped.{IsEnd, end_for, name_for, term_for, characters, as_char}
 use Rattle.lucene_layout.specs.Trees.{Tree, leaf, all, any, negated, Trees, no_trees, a_tree, tree_value, all_trees, any_tree, EachLeaf, EachOfTrees}
 use Rattle.lucene_layout.specs.Trees as lucene
 use Rattle.backend_core.proofs.Checks as checks
-use Rattle.backend_core.specs.Holds.{TestHolds, TreeHolds, EachHolds, OneHolds}
+use Rattle.backend_core.specs.Holds.{Stands, ValueStands, TestHolds, TreeHolds, EachHolds, OneHolds}
 use Rattle.backend_core.specs.Lacks.{first_lack, leaf_refusal, lack_refusal, lacks_refusal}
 use Rattle.backend_core.specs.Sound.{IsSoundPattern, IsSoundTest, IsSound, AreSound, kind_at}
 use Rattle.backend_core.specs.Trees.{Plain, Plains, no_parts, a_part}
@@ -34,10 +37,12 @@ use Rattle.backend_core.specs.declared.lack.Lack.{Lack}
 use Rattle.backend_core.specs.declared.tree.Leaf.{Leaf}
 use Rattle.backend_core.specs.declared.tree.LeafTest.{LeafTest}
 use Rattle.backend_core.specs.declared.tree.LeafTest.TheVariants as tests
+use Rattle.backend_core.specs.declared.tree.Op.{Op}
+use Rattle.backend_core.specs.declared.tree.Op.TheVariants as ops
 use Rattle.lucene_writer.specs.Glyphs.{glyphs_of}
 use Rattle.lucene_writer.specs.Lacking.{is_cased, is_many, is_empty, pattern_asks, test_asks, lucene_lacks}
 use Rattle.lucene_writer.specs.Schemas.{is_named, AreNamed, IsIndexed}
-use Rattle.lucene_writer.specs.Told.{name_at, searched, Parts, one_part, term_leaf, has_leaf, some_leaf, pattern_parts, never_parts, test_parts, joined_trees, Told, told, each_told, some_told}
+use Rattle.lucene_writer.specs.Told.{name_at, searched, Parts, one_part, term_leaf, has_leaf, some_leaf, Span, span_of, range_leaf, pattern_parts, never_parts, test_parts, joined_trees, Told, told, each_told, some_told}
 
 -- ---- true exactly where H holds
 
@@ -120,6 +125,43 @@ one_value (field ∷ fields) [] k event few = absurd event
 one_value (field ∷ fields) (vs ∷ row) zero event few = event.0.few few
 one_value (field ∷ fields) (vs ∷ row) (suc k) event few = one_value fields row k event.1 few
 
+-- ---- ranges
+
+ends_whole : (op : Op) (z : ℤ) → IsWholeNumber z → IsEnd (span_of op z).low × IsEnd (span_of op z).high
+ends_whole ops.Lt z whole = (tt, whole)
+ends_whole ops.Lte z whole = (tt, whole)
+ends_whole ops.Gt z whole = (whole, tt)
+ends_whole ops.Gte z whole = (whole, tt)
+
+-- a number that is above the one end and below the other
+abbrev InSpan : Span → Value → Type 0
+InSpan p v = (n : ℤ) × (v ≡ values.Whole n) × (is_above p.low p.low_in n ≡ true) × (is_below p.high p.high_in n ≡ true)
+
+holds_true : (b : Bool) → T b → b ≡ true
+holds_true true h = refl
+holds_true false h = absurd h
+
+at_most : (a b : ℤ) → (int_le a b ≡ true) ↔ (a ≤ℤ b)
+at_most a b = ((λ e. le_z_yes (subst T (sym e) tt)), (λ h. holds_true (int_le a b) h.le))
+
+below : (a b : ℤ) → (int_lt a b ≡ true) ↔ (a <ℤ b)
+below a b = ((λ e. lt_z_yes (subst T (sym e) tt)), (λ h. holds_true (int_lt a b) h.lt))
+
+number_in : (op : Op) (z n : ℤ)
+    → ((is_above (span_of op z).low (span_of op z).low_in n ≡ true) × (is_below (span_of op z).high (span_of op z).high_in n ≡ true)) ↔ Stands op n z
+number_in ops.Lt z n = ((λ h. (below n z).0 h.1), (λ h. (refl, (below n z).1 h)))
+number_in ops.Lte z n = ((λ h. (at_most n z).0 h.1), (λ h. (refl, (at_most n z).1 h)))
+number_in ops.Gt z n = ((λ h. (below z n).0 h.0), (λ h. ((below z n).1 h, refl)))
+number_in ops.Gte z n = ((λ h. (at_most z n).0 h.0), (λ h. ((at_most z n).1 h, refl)))
+
+value_in : (op : Op) (z : ℤ) (v : Value) → InSpan (span_of op z) v ↔ ValueStands op z v
+value_in op z (values.Text text) = ((λ h. let e = h.1 in absurd cc), (λ h. absurd h))
+value_in op z (values.Whole n) = (
+  λ h. (let same : n ≡ h.0 = cc in
+      subst (λ (m : ℤ). Stands op m z) (sym same) ((number_in op z h.0).0 (h.2, h.3))),
+  λ h. (let both = (number_in op z n).1 h in (n, refl, both.0, both.1)),
+)
+
 -- ---- what isn't lacking
 
 asks_none : (cased whole empty : Bool) → first_lack (pattern_asks cased whole empty) ≡ None → (cased ≡ false) × (whole ≡ false) × (empty ≡ false)
@@ -194,6 +236,10 @@ module _ (fields : List Field)
     (read : (c : ℕ) (cs : List ℕ) (g : Glyph) (gs : List Glyph) (f : FieldName) → all_scalars (c ∷ cs) ≡ true → all_scalars (characters (g ∷ gs)) ≡ true
     → found_in fields (c ∷ cs) ≡ Some f
     → leaf_of fields (sought (name_for (c ∷ cs)) (a_term (term_for (g ∷ gs)))) ≡ OfField f.field f.cased (Term (g ∷ gs)))
+    (range_sound : (c : ℕ) (cs : List ℕ) (f : FieldName) (b : Bool) (low high : Option ℤ) (d : Bool) → all_scalars (c ∷ cs) ≡ true → found_in fields (c ∷ cs) ≡ Some f
+    → is_whole_at fields f.field ≡ true → IsEnd low → IsEnd high → lucene.IsSound fields (sought (name_for (c ∷ cs)) (a_range b (end_for low) (end_for high) d)))
+    (range_read : (c : ℕ) (cs : List ℕ) (f : FieldName) (b : Bool) (low high : Option ℤ) (d : Bool) → all_scalars (c ∷ cs) ≡ true → found_in fields (c ∷ cs) ≡ Some f
+    → IsEnd low → IsEnd high → leaf_of fields (sought (name_for (c ∷ cs)) (a_range b (end_for low) (end_for high) d)) ≡ OfField f.field f.cased (Range low b high d))
     (star : is_ill true (a_term (term_for (Run ∷ []))) ≡ false)
     (number : (z : ℤ) → IsWholeNumber z → is_ill true (a_term (term_for (map as_char (signed_decimal z)))) ≡ false)
     (scalars : (z : ℤ) → IsWholeNumber z → (c : ℕ) × (cs : List ℕ) × (signed_decimal z ≡ c ∷ cs) × (all_scalars (c ∷ cs) ≡ true))
@@ -258,17 +304,25 @@ module _ (fields : List Field)
               → is_ill (is_whole_at fields k) (a_term (term_for (map as_char (d.0 ∷ d.1)))) ≡ false
           taken d = rw whole (ap (λ (ds : List ℕ). is_ill true (a_term (term_for (map as_char ds)))) (sym d.2) ∙ number z within)
 
+    span_sound : (n : List ℕ) (k : ℕ) → FoundAs n k false → is_whole_at fields k ≡ true → (p : Span) → IsEnd p.low → IsEnd p.high → Each (range_leaf n p)
+    span_sound [] k f whole p low high = let h = f.is_name in absurd cc
+    span_sound (c ∷ cs) k f whole p low high = range_sound c cs (named k false) p.low_in p.low p.high p.high_in f.is_name f.found whole low high
+
     -- nothing is lacking for a test of field k
     abbrev IsFree : ℕ → LeafTest → Type 0
     IsFree k test = first_lack (test_asks (is_cased fields k) (is_whole_at fields k) (is_many fields k) test) ≡ None
 
-    test_sound : (k : ℕ) (test : LeafTest) → k < length fields → IsSoundTest (kind_at fields k) test → IsFree k test → AreSoundParts (test_parts (name_at fields k) test)
+    test_sound : (k : ℕ) (test : LeafTest) → k < length fields → IsSoundTest fields (kind_at fields k) test → IsFree k test → AreSoundParts (test_parts (name_at fields k) test)
     test_sound k tests.Has near s may = (has_sound (name_at fields k) k false (own_name k near), tt)
     test_sound k tests.Absent near s may = (has_sound (name_at fields k) k false (own_name k near), tt)
     test_sound k (tests.Fits ps cased) near s may =
         let free = asks_none (cased && not (is_cased fields k)) (is_whole_at fields k) (is_many fields k && is_empty ps) may in
         glyphs_sound (searched cased (name_at fields k)) k cased (any_name k cased near free.0) free.1 (glyphs_of ps) (ap all_scalars (same_characters ps) ∙ s.0.plain.0)
     test_sound k (tests.Equals z) near s may = number_sound (name_at fields k) k (own_name k near) (whole_at fields k s.0) z s.1
+    test_sound k (tests.Compare op z) near s may =
+        let e = ends_whole op z s.1 in
+        (span_sound (name_at fields k) k (own_name k near) (whole_at fields k s.0) (span_of op z) e.0 e.1, tt)
+    test_sound k (tests.SameAs other) near s may = absurd cc
 
     joined_sound : (a b : Trees) → Every a → Every b → Every (joined_trees a b)
     joined_sound no_trees b x y = y
@@ -331,6 +385,9 @@ module _ (fields : List Field)
         (has_values : (k : ℕ) (cased : Bool) → (atom_holds row (OfField k cased (Term (Run ∷ []))) ≡ true) ↔ HasElement (field_values row k))
         (fits_values : (k : ℕ) (cased : Bool) (gs : List Glyph) → (atom_holds row (OfField k cased (Term gs)) ≡ true)
         ↔ SomeOf (λ v. term_fits (kept_glyphs cased gs) (kept cased (value_text v)) ≡ true) (field_values row k))
+        (range_values : (k : ℕ) (cased : Bool) (low : Option ℤ) (low_in : Bool) (high : Option ℤ) (high_in : Bool)
+        → (atom_holds row (OfField k cased (Range low low_in high high_in)) ≡ true)
+        ↔ SomeOf (λ v. (n : ℤ) × (v ≡ values.Whole n) × (is_above low low_in n ≡ true) × (is_below high high_in n ≡ true)) (field_values row k))
         (means : (cased : Bool) (ps : List Part) (text : List ℕ) → all_written ps ≡ true
         → (term_fits (kept_glyphs cased (glyphs_of ps)) (kept cased text) ≡ true) ↔ Fits ps text cased)
         (numbers : (z : ℤ) (text : List ℕ) → IsWholeNumber z → (term_fits (kept_glyphs false (map as_char (signed_decimal z))) (kept false text) ≡ true) ↔ (text ≡ signed_decimal z))
@@ -407,14 +464,32 @@ module _ (fields : List Field)
             (subst (λ (ds : List ℕ). Is (tree_value fields row (term_leaf n (map as_char ds))) H) (sym d.2)
             (term_is n (Char d.0) (map as_char d.1) k false f (ap all_scalars (chars_of (d.0 ∷ d.1)) ∙ d.3) H second))
 
-        test_is : (k : ℕ) (test : LeafTest) → k < length fields → IsSoundTest (kind_at fields k) test → IsFree k test
-            → PartsAre (test_parts (name_at fields k) test) (TestHolds test (field_values row k))
+        span_value : (n : List ℕ) (k : ℕ) → FoundAs n k false → (p : Span) → IsEnd p.low → IsEnd p.high
+            → tree_value fields row (range_leaf n p) ≡ atom_holds row (OfField k false (Range p.low p.low_in p.high p.high_in))
+        span_value [] k f p low high = let h = f.is_name in absurd cc
+        span_value (c ∷ cs) k f p low high = ap (atom_holds row) (range_read c cs (named k false) p.low_in p.low p.high p.high_in f.is_name f.found low high)
+
+        compare_parts : (n : List ℕ) (k : ℕ) → FoundAs n k false → (op : Op) (z : ℤ) → IsWholeNumber z
+            → PartsAre (one_part (range_leaf n (span_of op z))) (SomeOf (ValueStands op z) (field_values row k))
+        compare_parts n k f op z within =
+            let p = span_of op z in
+            let e = ends_whole op z within in
+            let H = SomeOf (ValueStands op z) (field_values row k) in
+            let a = range_values k false p.low p.low_in p.high p.high_in in
+            let b = some_mapped (InSpan p) (ValueStands op z) (value_in op z) (field_values row k) in
+            one_is (range_leaf n p) H
+            (subst (λ (t : Bool). Is t H) (sym (span_value n k f p e.0 e.1)) (from_so _ H ((λ x. b.0 (a.0 x)), (λ x. a.1 (b.1 x)))))
+
+        test_is : (k : ℕ) (test : LeafTest) → k < length fields → IsSoundTest fields (kind_at fields k) test → IsFree k test
+            → PartsAre (test_parts (name_at fields k) test) (TestHolds row test (field_values row k))
         test_is k tests.Has near s may = one_is (has_leaf (name_at fields k)) _ (has_is (name_at fields k) k false (own_name k near))
         test_is k tests.Absent near s may = one_is (negated (has_leaf (name_at fields k))) _ (absent_is (name_at fields k) k false (own_name k near))
         test_is k (tests.Fits ps cased) near s may =
             let free = asks_none (cased && not (is_cased fields k)) (is_whole_at fields k) (is_many fields k && is_empty ps) may in
             fits_parts (searched cased (name_at fields k)) k cased (any_name k cased near free.0) ps free.2 s.0
         test_is k (tests.Equals z) near s may = equals_parts (name_at fields k) k (own_name k near) z s.1
+        test_is k (tests.Compare op z) near s may = compare_parts (name_at fields k) k (own_name k near) op z s.1
+        test_is k (tests.SameAs other) near s may = absurd cc
 
         -- ---- trees
 

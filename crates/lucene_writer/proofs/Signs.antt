@@ -32,3 +32,8 @@ pub twin_signs : (name first second : List ℕ) (twin : Bool) → first ≡ [] +
     → second ≡ flat_map char_sign (searched twin name)
 twin_signs name first second true a b = b ∙ (ap (λ (t : List ℕ). t ++ codes ".cased") a ∙ sym (signs_append char_sign name (codes ".cased")))
 twin_signs name first second false a b = b ∙ (append-nil first ∙ a)
+
+-- a name, a colon, and the number of a range between what stands before it and what behind it
+pub range_put : (old named coloned started numbered new name start number end : List ℕ) → named ≡ old ++ name → coloned ≡ named ++ codes ":" → started ≡ coloned ++ start
+    → numbered ≡ started ++ number → new ≡ numbered ++ end → new ≡ old ++ (name ++ (codes ":" ++ (start ++ (number ++ end))))
+range_put old named coloned started numbered new name start number end a b c d e = rw (e, d, c, b, a) (simp append_assoc)

@@ -1,6 +1,6 @@
 -- The text of a tree, part by part, is its layout's.
 use Rattle.std.proofs.Common.{ℕ, ◌≡◌, refl, sym, ◌∙◌, ap, Bool, true, false, ◌&&◌, List, [], ◌∷◌, ◌++◌, codes, append_assoc, append-nil, subst}
-use Rattle.std.specs.Prelude.{if◌then◌else◌, map, ℤ}
+use Rattle.std.specs.Prelude.{if◌then◌else◌, map, ℤ, Option}
 use Rattle.std.specs.Fmt.{signed_decimal}
 use Rattle.std.specs.List.{flat_map}
 use Rattle.event_schema.specs.declared.schema.Field.{Field}
@@ -11,20 +11,22 @@ use Rattle.lucene_lang.specs.declared.query.Glyph.{Glyph}
 use Rattle.lucene_lang.specs.declared.query.Glyph.TheVariants.{Char, One, Run}
 use Rattle.lucene_lang.specs.declared.query.Word.TheVariants.{And}
 use Rattle.lucene_lang.specs.declared.written.Written.TheVariants.{Bare, Escaped}
-use Rattle.lucene_lang.specs.Grammar.{Group, joined, sought, a_term}
-use Rattle.lucene_layout.specs.Escaped.{is_special, char_written, glyph_written, as_char, pattern_written, name_written, word_escaped, name_for, term_for}
-use Rattle.lucene_layout.specs.Layout.{written, written_piece, text_leaf, text_group, text_clause, text_atom}
+use Rattle.lucene_lang.specs.Grammar.{Group, joined, sought, a_term, a_range}
+use Rattle.lucene_layout.specs.Escaped.{is_special, char_written, glyph_written, as_char, pattern_written, name_written, word_escaped, name_for, term_for, end_for}
+use Rattle.lucene_layout.specs.Layout.{written, written_piece, text_value, text_leaf, text_group, text_clause, text_atom}
 use Rattle.lucene_layout.specs.Trees.{Tree, all, any, negated, Trees, no_trees, a_tree, form, some_of, each_of, layout, is_forbidden, all_forbidden, with_everything, behind_everything}
 use Rattle.backend_core.specs.Sound.{IsSoundPattern, IsSoundTest, IsSound, AreSound, kind_at}
 use Rattle.backend_core.specs.Trees.{Plain, Plains, no_parts, a_part}
 use Rattle.backend_core.specs.Trees as trees
 use Rattle.backend_core.specs.declared.tree.LeafTest.{LeafTest}
 use Rattle.backend_core.specs.declared.tree.LeafTest.TheVariants as tests
+use Rattle.backend_core.specs.declared.tree.Op.{Op}
+use Rattle.backend_core.specs.declared.tree.Op.TheVariants as ops
 use Rattle.lucene_writer.specs.declared.place.Standing.{Standing}
 use Rattle.lucene_writer.specs.declared.place.Standing.TheVariants.{Whole, Alone, InAnd}
 use Rattle.lucene_writer.specs.Glyphs.{glyphs_of}
-use Rattle.lucene_writer.specs.Told.{name_at, searched, Parts, one_part, term_leaf, has_leaf, some_leaf, pattern_parts, never_parts, test_parts, joined_trees, Told, told, told_tree, each_told, some_told}
-use Rattle.lucene_writer.specs.Pieces.{char_sign, part_sign, pattern_text, plain_text, has_text, not_text, empty_text, fits_text, test_text, never_text, piece_if, is_denied, is_denied_test, are_denied, tree_text, parts_text}
+use Rattle.lucene_writer.specs.Told.{name_at, searched, Parts, one_part, term_leaf, has_leaf, some_leaf, span_of, range_leaf, pattern_parts, never_parts, test_parts, joined_trees, Told, told, told_tree, each_told, some_told}
+use Rattle.lucene_writer.specs.Pieces.{char_sign, part_sign, pattern_text, plain_text, has_text, not_text, empty_text, fits_text, range_start, range_end, compare_text, test_text, never_text, piece_if, is_denied, is_denied_test, are_denied, tree_text, parts_text}
 
 -- ---- characters
 
@@ -152,6 +154,9 @@ module _ (fields : List Field)
     (pattern_is : (gs : List Glyph) → written (pattern_written gs) ≡ word_escaped (written (map glyph_written gs)))
     (leaf_is : (cs : List ℕ) (gs : List Glyph)
     → text_leaf (sought (name_for cs) (a_term (term_for gs))) ≡ written (name_written cs) ++ (58 ∷ written (pattern_written gs)))
+    (range_is : (cs : List ℕ) (b : Bool) (low high : Option ℤ) (c : Bool)
+    → text_leaf (sought (name_for cs) (a_range b (end_for low) (end_for high) c))
+    ≡ written (name_written cs) ++ (58 ∷ text_value (a_range b (end_for low) (end_for high) c)))
   where
     plain_is : (cs : List ℕ) → written (name_written cs) ≡ plain_text cs
     plain_is cs = pattern_is (map as_char cs) ∙ ap word_escaped (chars_written cs)
@@ -221,14 +226,32 @@ module _ (fields : List Field)
           = ap (λ (t : List ℕ). plain_text n ++ (58 ∷ word_escaped t)) (sym (chars_written (signed_decimal z))) ∙ sym (term_text n (map as_char (signed_decimal z))) in
           (is, is, is ∙ sym (append-nil _), refl)
 
-    test_texts : (n : List ℕ) (kind : FieldKind) (test : LeafTest) → IsSoundTest kind test → TestTexts n (λ at. test_text at n test) (is_denied_test test) (test_parts n test)
+      compare_texts : (op : Op) (z : ℤ) → TestTexts (λ at. compare_text n op z) false (one_part (range_leaf n (span_of op z)))
+      compare_texts op z = (is, is, is ∙ sym (append-nil _), refl) where
+        value : (o : Op) → range_start o ++ (signed_decimal z ++ range_end o)
+            ≡ text_value (a_range (span_of o z).low_in (end_for (span_of o z).low) (end_for (span_of o z).high) (span_of o z).high_in)
+        value ops.Lt = refl
+        value ops.Lte = refl
+        value ops.Gt = refl
+        value ops.Gte = refl
+
+        is : compare_text n op z
+            ≡ text_leaf (sought (name_for n) (a_range (span_of op z).low_in (end_for (span_of op z).low) (end_for (span_of op z).high) (span_of op z).high_in))
+        is =
+            ap (λ (t : List ℕ). plain_text n ++ (58 ∷ t)) (value op)
+            ∙ (ap (λ (t : List ℕ). t ++ (58 ∷ text_value (a_range (span_of op z).low_in (end_for (span_of op z).low) (end_for (span_of op z).high) (span_of op z).high_in))) (sym (plain_is n))
+            ∙ sym (range_is n (span_of op z).low_in (span_of op z).low (span_of op z).high (span_of op z).high_in))
+
+    never_texts : TestTexts [] never_text false never_parts
+    never_texts = (refl, refl, refl, refl)
+
+    test_texts : (n : List ℕ) (kind : FieldKind) (test : LeafTest) → IsSoundTest fields kind test → TestTexts n (λ at. test_text at n test) (is_denied_test test) (test_parts n test)
     test_texts n kind tests.Has s = has_texts n
     test_texts n kind tests.Absent s = absent_texts n
     test_texts n kind (tests.Fits ps cased) s = pattern_texts (searched cased n) ps s.0
     test_texts n kind (tests.Equals z) s = equals_texts n z
-
-    never_texts : TestTexts [] never_text false never_parts
-    never_texts = (refl, refl, refl, refl)
+    test_texts n kind (tests.Compare op z) s = compare_texts n op z
+    test_texts n kind (tests.SameAs other) s = never_texts
 
     -- ---- trees
 

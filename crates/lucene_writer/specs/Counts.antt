@@ -21,6 +21,8 @@ test_opens at tests.Absent = one_if (is_alone at)
 test_opens at (tests.Fits [] cased) = one_if (is_alone at)
 test_opens at (tests.Fits (p ∷ ps) cased) = 0
 test_opens at (tests.Equals n) = 0
+test_opens at (tests.Compare op n) = 0
+test_opens at (tests.SameAs other) = one_if (is_alone at)
 
 -- a NOT stands behind *:* where it isn't in an all
 abbrev pub test_clauses : Standing → LeafTest → ℕ
@@ -29,6 +31,8 @@ test_clauses at tests.Absent = 1 + one_if (not (is_in_and at))
 test_clauses at (tests.Fits [] cased) = 2
 test_clauses at (tests.Fits (p ∷ ps) cased) = 1
 test_clauses at (tests.Equals n) = 1
+test_clauses at (tests.Compare op n) = 1
+test_clauses at (tests.SameAs other) = 2
 
 module _ (most : ℕ) where
   abbrev pub add : ℕ → ℕ → ℕ

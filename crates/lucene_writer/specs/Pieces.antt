@@ -1,5 +1,5 @@
 -- The text of a tree, part by part, where it stands.
-use Rattle.std.specs.Prelude.{ℕ, Bool, true, false, not, ◌&&◌, if◌then◌else◌, List, [], ◌∷◌, ◌++◌, codes}
+use Rattle.std.specs.Prelude.{ℕ, ℤ, Bool, true, false, not, ◌&&◌, if◌then◌else◌, List, [], ◌∷◌, ◌++◌, codes}
 use Rattle.std.specs.Fmt.{signed_decimal}
 use Rattle.std.specs.List.{flat_map}
 use Rattle.event_schema.specs.declared.schema.Field.{Field}
@@ -8,6 +8,8 @@ use Rattle.sig_strings.specs.declared.part.Part.TheVariants.{Char, One, Run, Das
 use Rattle.lucene_layout.specs.Escaped.{is_special, word_escaped}
 use Rattle.backend_core.specs.declared.tree.LeafTest.{LeafTest}
 use Rattle.backend_core.specs.declared.tree.LeafTest.TheVariants as tests
+use Rattle.backend_core.specs.declared.tree.Op.{Op}
+use Rattle.backend_core.specs.declared.tree.Op.TheVariants as ops
 use Rattle.backend_core.specs.declared.tree.Tree.{Tree}
 use Rattle.backend_core.specs.Trees.{Plain, Plains, no_parts, a_part, all, any, negated, leaf, never}
 use Rattle.backend_core.specs.View.{tree_view}
@@ -72,14 +74,33 @@ abbrev pub fits_text : Standing → List ℕ → List Part → List ℕ
 fits_text at name [] = empty_text at name
 fits_text at name (p ∷ ps) = plain_text name ++ (codes ":" ++ pattern_text (p ∷ ps))
 
+-- what stands before the number of a range, and what behind it
+abbrev pub range_start : Op → List ℕ
+range_start ops.Lt = codes "[* TO "
+range_start ops.Lte = codes "[* TO "
+range_start ops.Gt = codes "{"
+range_start ops.Gte = codes "["
+
+abbrev pub range_end : Op → List ℕ
+range_end ops.Lt = codes "}"
+range_end ops.Lte = codes "]"
+range_end ops.Gt = codes " TO *]"
+range_end ops.Gte = codes " TO *]"
+
+abbrev pub compare_text : List ℕ → Op → ℤ → List ℕ
+compare_text name op n = plain_text name ++ (codes ":" ++ (range_start op ++ (signed_decimal n ++ range_end op)))
+
+abbrev pub never_text : Standing → List ℕ
+never_text at = enclosed_if (is_alone at) (codes "*:* AND NOT *:*")
+
+-- a comparison with another field is lacking
 abbrev pub test_text : Standing → List ℕ → LeafTest → List ℕ
 test_text at name tests.Has = has_text name
 test_text at name tests.Absent = not_text at (has_text name)
 test_text at name (tests.Fits pattern cased) = fits_text at (searched cased name) pattern
 test_text at name (tests.Equals n) = plain_text name ++ (codes ":" ++ plain_text (signed_decimal n))
-
-abbrev pub never_text : Standing → List ℕ
-never_text at = enclosed_if (is_alone at) (codes "*:* AND NOT *:*")
+test_text at name (tests.Compare op n) = compare_text name op n
+test_text at name (tests.SameAs other) = never_text at
 
 -- ---- trees
 
@@ -89,6 +110,8 @@ is_denied_test tests.Has = false
 is_denied_test tests.Absent = true
 is_denied_test (tests.Fits pattern cased) = false
 is_denied_test (tests.Equals n) = false
+is_denied_test (tests.Compare op n) = false
+is_denied_test (tests.SameAs other) = false
 
 abbrev pub is_denied : Plain → Bool
 is_denied (all ts) = false

@@ -1,15 +1,17 @@
 -- Which clauses a tree is in Lucene. What a leaf makes of itself is joined into an all around it.
-use Rattle.std.specs.Prelude.{ℕ, zero, suc, Bool, true, false, List, [], ◌∷◌, map}
+use Rattle.std.specs.Prelude.{ℕ, zero, suc, ℤ, Bool, true, false, List, [], ◌∷◌, map, Option, Some, None}
 use Rattle.std.specs.Fmt.{signed_decimal}
 use Rattle.event_schema.specs.Schemas.{twin}
 use Rattle.event_schema.specs.declared.schema.Field.{Field}
 use Rattle.lucene_lang.specs.declared.query.Glyph.{Glyph}
 use Rattle.lucene_lang.specs.declared.query.Glyph.TheVariants.{One, Run}
-use Rattle.lucene_lang.specs.Grammar.{everything, sought, a_term}
-use Rattle.lucene_layout.specs.Escaped.{name_for, term_for, as_char}
+use Rattle.lucene_lang.specs.Grammar.{everything, sought, a_term, a_range}
+use Rattle.lucene_layout.specs.Escaped.{name_for, term_for, end_for, as_char}
 use Rattle.lucene_layout.specs.Trees.{Tree, leaf, all, any, negated, Trees, no_trees, a_tree}
 use Rattle.backend_core.specs.declared.tree.LeafTest.{LeafTest}
 use Rattle.backend_core.specs.declared.tree.LeafTest.TheVariants as tests
+use Rattle.backend_core.specs.declared.tree.Op.{Op}
+use Rattle.backend_core.specs.declared.tree.Op.TheVariants as ops
 use Rattle.backend_core.specs.Trees.{Plain, Plains, no_parts, a_part}
 use Rattle.backend_core.specs.Trees as trees
 use Rattle.lucene_writer.specs.Glyphs.{glyphs_of}
@@ -52,16 +54,36 @@ abbrev pub pattern_parts : List ℕ → List Glyph → Parts
 pattern_parts name [] = two_parts (has_leaf name) (negated (some_leaf name))
 pattern_parts name (g ∷ gs) = one_part (term_leaf name (g ∷ gs))
 
+-- Numbers from an end to another, each end inside or outside, or open; an open one counts as inside.
+pub record Span : Type 0 where
+  pub low : Option ℤ
+  pub low_in : Bool
+  pub high : Option ℤ
+  pub high_in : Bool
+
+-- the numbers that stand so to this one
+abbrev pub span_of : Op → ℤ → Span
+span_of ops.Lt n = record { low = None; low_in = true; high = Some n; high_in = false }
+span_of ops.Lte n = record { low = None; low_in = true; high = Some n; high_in = true }
+span_of ops.Gt n = record { low = Some n; low_in = false; high = None; high_in = true }
+span_of ops.Gte n = record { low = Some n; low_in = true; high = None; high_in = true }
+
+-- name:[* TO n}, name:[* TO n], name:{n TO *] and name:[n TO *]
+abbrev pub range_leaf : List ℕ → Span → Tree
+range_leaf name s = leaf (sought (name_for name) (a_range s.low_in (end_for s.low) (end_for s.high) s.high_in))
+
 -- everything, and not everything
 abbrev pub never_parts : Parts
 never_parts = two_parts (leaf everything) (negated (leaf everything))
 
--- of a test of the field of this name
+-- of a test of the field of this name; for a comparison with another field, which is lacking, it's what never holds
 abbrev pub test_parts : List ℕ → LeafTest → Parts
 test_parts name tests.Has = one_part (has_leaf name)
 test_parts name tests.Absent = one_part (negated (has_leaf name))
 test_parts name (tests.Fits pattern cased) = pattern_parts (searched cased name) (glyphs_of pattern)
 test_parts name (tests.Equals n) = one_part (term_leaf name (map as_char (signed_decimal n)))
+test_parts name (tests.Compare op n) = one_part (range_leaf name (span_of op n))
+test_parts name (tests.SameAs other) = never_parts
 
 abbrev pub joined_trees : Trees → Trees → Trees
 joined_trees no_trees us = us

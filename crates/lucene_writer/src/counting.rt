@@ -39,8 +39,8 @@ fn test_opens(at: Standing, test: &LeafTest) -> usize
     ensures { result ≡ counts.test_opens at test.now }
 {
     match test {
-        LeafTest::Has | LeafTest::Equals(_) => 0,
-        LeafTest::Absent => one_if(is_alone(at)),
+        LeafTest::Has | LeafTest::Equals(_) | LeafTest::Compare { .. } => 0,
+        LeafTest::Absent | LeafTest::SameAs(_) => one_if(is_alone(at)),
         LeafTest::Fits { pattern, .. } => {
             let empty = pattern.parts().is_empty();
             one_if(empty && is_alone(at))
@@ -52,7 +52,8 @@ fn test_clauses(at: Standing, test: &LeafTest) -> usize
     ensures { result ≡ counts.test_clauses at test.now }
 {
     match test {
-        LeafTest::Has | LeafTest::Equals(_) => 1,
+        LeafTest::Has | LeafTest::Equals(_) | LeafTest::Compare { .. } => 1,
+        LeafTest::SameAs(_) => 2,
         LeafTest::Absent => if is_in_and(at) { 1 } else { 2 },
         LeafTest::Fits { pattern, .. } => if pattern.parts().is_empty() { 2 } else { 1 },
     }

@@ -54,10 +54,12 @@ fn test_lacks(twin: bool, whole: bool, many: bool, test: &LeafTest) -> Option<La
     ensures { result ≡ first_lack (spec.test_asks twin whole many test.now) }
 {
     match test {
-        LeafTest::Has | LeafTest::Absent | LeafTest::Equals(_) => None,
+        LeafTest::Has | LeafTest::Absent => None,
+        LeafTest::Equals(_) | LeafTest::Compare { .. } => None,
         LeafTest::Fits { pattern, cased } => {
             pattern_lacks(*cased && !twin, whole, many && pattern.parts().is_empty())
         }
+        LeafTest::SameAs(_) => Some(Lack::FieldRef),
     }
 }
 
@@ -79,7 +81,8 @@ fn pattern_lacks(cased: bool, whole: bool, empty: bool) -> Option<Lack>
 impl Lacking for LuceneText {
     ghost missing = { λ schema leaf. spec.lucene_lacks schema.fields leaf };
 
-    /// A pattern by case needs a field's twin, a pattern a field of texts, and the empty text a field of one value.
+    /// A query compares no field with another; a pattern by case needs a field's twin, a pattern a field of texts, and the empty
+    /// text a field of one value.
     fn lacks(&self, schema: &Schema, leaf: &Leaf) -> Option<Lack>
         ensures { result ≡ spec.lucene_lacks schema.now.fields leaf.now }
     {

@@ -24,7 +24,7 @@ use crate::place::Standing;
 use lucene_lang::{atoms_hold, one_reading};
 use lucene_layout::{
     layout_is_read, layout_selects, leaves_are_read, leaves_are_sound, leaves_are_written,
-    numbers_are_taken, patterns_are_written,
+    numbers_are_taken, patterns_are_written, ranges_are_read, ranges_are_written,
 };
 
 /// The term of a pattern holds of the texts that the pattern fits, in a field and in its twin; that of a number's decimal holds
@@ -51,6 +51,7 @@ pub fn tree_is_query()
     atoms_hold();
     leaves_are_sound();
     leaves_are_read();
+    ranges_are_read();
     numbers_are_taken();
     layout_is_read();
     layout_selects();
@@ -68,4 +69,5 @@ pub(crate) fn pieces_are_query()
 {
     patterns_are_written();
     leaves_are_written();
+    ranges_are_written();
 }

@@ -1,7 +1,7 @@
 //! Texts and refusals that are known by hand, of trees made by hand.
 
 use crate::LuceneText;
-use backend_core::{Leaf, LeafTest, Tree};
+use backend_core::{Leaf, LeafTest, Op, Tree};
 use event_schema::{Field, FieldKind, FieldList, Schema};
 use sig_base::{Bytes, Detail, Fault, Limits, Place, Text, Texts};
 use sig_strings::{Pattern, SharedPattern};
@@ -143,6 +143,62 @@ fn other_tests_of_one_field(rt: HostRuntime) -> Result<(), Fail> {
     assert_eq!(rt; negative.as_str(), "Code:\\-3");
     let never = written(alloc, &Tree::Never)?;
     assert_eq!(rt; never.as_str(), "*:* AND NOT *:*");
+    Ok(())
+}
+
+fn compare(op: Op, number: i64) -> Tree {
+    leaf_at(7, LeafTest::Compare { op, number }, PLACE)
+}
+
+#[test]
+fn ranges_of_one_field(rt: HostRuntime) -> Result<(), Fail> {
+    let alloc = rt.alloc();
+    for (op, number, want) in [
+        (Op::Gt, 5, "Code:{5 TO *]"),
+        (Op::Gte, 5, "Code:[5 TO *]"),
+        (Op::Lt, 5, "Code:[* TO 5}"),
+        (Op::Lte, -3, "Code:[* TO -3]"),
+        (
+            Op::Gt,
+            -9_223_372_036_854_775_807,
+            "Code:{-9223372036854775807 TO *]",
+        ),
+    ] {
+        let text = written(alloc, &compare(op, number))?;
+        assert_eq!(rt; text.as_str(), want);
+    }
+    let none = written(alloc, &not(alloc, compare(Op::Gt, 5))?)?;
+    assert_eq!(rt; none.as_str(), "*:* AND NOT Code:{5 TO *]");
+    let pair = both(alloc, compare(Op::Gte, 5), compare(Op::Lt, 9))?;
+    assert_eq!(rt; pair.as_str(), "Code:[5 TO *] AND Code:[* TO 9}");
+    let pair = either(alloc, compare(Op::Lt, 5), not(alloc, compare(Op::Lte, 9))?)?;
+    assert_eq!(rt;
+        pair.as_str(),
+        "Code:[* TO 5} OR (*:* AND NOT Code:[* TO 9])"
+    );
+    Ok(())
+}
+
+#[test]
+fn other_fields_are_lacking(rt: HostRuntime) -> Result<(), Fail> {
+    let alloc = rt.alloc();
+    let at = Place { line: 7, column: 5 };
+    for (field, other) in [(0, 1), (7, 7), (8, 0)] {
+        let text = written(alloc, &leaf_at(field, LeafTest::SameAs(other), at))?;
+        assert_eq!(rt; text.as_str(), "7: 111 FieldRef");
+    }
+    let later = both(
+        alloc,
+        fits(alloc, 1, "x")?,
+        not(alloc, leaf_at(0, LeafTest::SameAs(1), at))?,
+    )?;
+    assert_eq!(rt; later.as_str(), "7: 111 FieldRef");
+    let sooner = both(
+        alloc,
+        fits(alloc, 7, "4*")?,
+        leaf_at(0, LeafTest::SameAs(1), at),
+    )?;
+    assert_eq!(rt; sooner.as_str(), "6: 111 WholePattern");
     Ok(())
 }
 

@@ -7,7 +7,7 @@ ghost use Rattle.lucene_writer.specs.Told.{searched};
 
 use crate::place::{Standing, is_alone, is_in_and};
 use crate::putting::{put, put_if, put_name, put_pattern, put_plain};
-use backend_core::LeafTest;
+use backend_core::{LeafTest, Op};
 use event_schema::decimal_in;
 use itoa::Buffer;
 use sig_base::{Fault, Text};
@@ -82,6 +82,43 @@ fn put_equals(alloc: Global, out: &mut Text, name: &str, number: &i64) -> Result
     put_plain(alloc, out, decimal_in(&mut buffer, *number))
 }
 
+fn put_range_start(out: &mut Text, op: Op) -> Result<(), Fault>
+    ensures ok { OnOk result (out.new ≡ out.old ++ pieces.range_start op) }
+    ensures err { IfErr result (λ e. e ≡ Fault.Memory) }
+{
+    match op {
+        Op::Lt | Op::Lte => put(out, "[* TO "),
+        Op::Gt => put(out, "{"),
+        Op::Gte => put(out, "["),
+    }
+}
+
+fn put_range_end(out: &mut Text, op: Op) -> Result<(), Fault>
+    ensures ok { OnOk result (out.new ≡ out.old ++ pieces.range_end op) }
+    ensures err { IfErr result (λ e. e ≡ Fault.Memory) }
+{
+    match op {
+        Op::Lt => put(out, "}"),
+        Op::Lte => put(out, "]"),
+        Op::Gt | Op::Gte => put(out, " TO *]"),
+    }
+}
+
+/// Adds the range of the numbers that stand so to this one.
+#[tactic(auto, using(crate::proofs::Signs::range_put))]
+fn put_compare(alloc: Global, out: &mut Text, name: &str, op: Op, number: &i64) -> Result<(), Fault>
+    ensures ok { OnOk result (out.new ≡ out.old ++ pieces.compare_text (chars name.now) op number.now) }
+    ensures err { IfErr result (λ e. e ≡ Fault.Memory) }
+{
+    put_plain(alloc, out, name)?;
+    put(out, ":")?;
+    put_range_start(out, op)?;
+    let mut buffer = Buffer::new();
+    out.push_str(decimal_in(&mut buffer, *number))?;
+    put_range_end(out, op)?;
+    Ok(())
+}
+
 /// Adds what never holds.
 pub(crate) fn put_never(out: &mut Text, at: Standing) -> Result<(), Fault>
     ensures ok { OnOk result (out.new ≡ out.old ++ pieces.never_text at) }
@@ -112,5 +149,7 @@ pub(crate) fn put_test(
             put_fits(alloc, out, name, *cased, at, pattern.parts())
         }
         LeafTest::Equals(number) => put_equals(alloc, out, name, number),
+        LeafTest::Compare { op, number } => put_compare(alloc, out, name, *op, number),
+        LeafTest::SameAs(_) => put_never(out, at),
     }
 }

@@ -54,8 +54,12 @@ fn is_denied_test(test: &LeafTest) -> bool
     ensures { result ≡ pieces.is_denied_test test.now }
 {
     match test {
-        LeafTest::Has | LeafTest::Fits { .. } | LeafTest::Equals(_) => false,
         LeafTest::Absent => true,
+        LeafTest::Has
+        | LeafTest::Fits { .. }
+        | LeafTest::Equals(_)
+        | LeafTest::Compare { .. }
+        | LeafTest::SameAs(_) => false,
     }
 }
 

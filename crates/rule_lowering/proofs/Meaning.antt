@@ -161,10 +161,10 @@ module _
         → TreeHolds row (written_tree place (named_kind name) (number_of fields name) test) ↔ Holds test (named_values name)
     written_means place name test plain =
         let n = number_of fields name in
-        let there : Passes (leaf_test (kind n) test) (field_values row n) ↔ Holds test (named_values name) =
-        subst (λ (all : List Value). Passes (leaf_test (kind n) test) (field_values row n) ↔ Holds test all)
+        let there : Passes row (leaf_test (kind n) test) (field_values row n) ↔ Holds test (named_values name) =
+        subst (λ (all : List Value). Passes row (leaf_test (kind n) test) (field_values row n) ↔ Holds test all)
         (numbered_values fields row event (field_number fields name))
-        (test_means plain_cased plain_folded (kind n) test (field_values row n) plain (values_of_kind fields row event n)) in
+        (test_means plain_cased plain_folded row (kind n) test (field_values row n) plain (values_of_kind fields row event n)) in
         iff_then (leaf_holds row place n (leaf_test (kind n) test)) there
 
     one_means : (place : Place) (name : List ℕ) (test : Test) → IsMet (named_kind name) test

@@ -164,7 +164,7 @@ module _ (choices_plain : (parts : List Part) → IsDashedPattern parts → Each
 
     abbrev IsSoundIfAny : FieldKind → Option LeafTest → Type 0
     IsSoundIfAny kind None = ⊤
-    IsSoundIfAny kind (Some test) = IsSoundTest kind test
+    IsSoundIfAny kind (Some test) = IsSoundTest fields kind test
 
     -- of a field that isn't one of whole numbers
     text_sound : (kind : FieldKind) → (kind ≡ kinds.Whole → ⊥) → (test : Test) → IsWrittenTest test → IsSoundIfAny kind (text_test test)

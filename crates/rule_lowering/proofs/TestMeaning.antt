@@ -52,18 +52,19 @@ IsLeafTest (tests.Inside n) = ⊥
 
 -- ---- a leaf that may be missing
 
-abbrev pub Passes : Option LeafTest → List Value → Type 0
-Passes None all = ⊥
-Passes (Some test) all = TestHolds test all
+abbrev pub Passes : List (List Value) → Option LeafTest → List Value → Type 0
+Passes row None all = ⊥
+Passes row (Some test) all = TestHolds row test all
 
 pub leaf_holds : (row : List (List Value)) (place : Place) (field : ℕ) (test : Option LeafTest)
-    → TreeHolds row (leaf_if_any place field test) ↔ Passes test (field_values row field)
+    → TreeHolds row (leaf_if_any place field test) ↔ Passes row test (field_values row field)
 leaf_holds row place field None = iff_same
 leaf_holds row place field (Some test) = iff_same
 
 module _
     (plain_cased : (parts : List Part) (text : List ℕ) → has_wildcard parts ≡ false → Fits parts text true ↔ (text ≡ plain_text parts))
-    (plain_folded : (parts : List Part) (text : List ℕ) → has_wildcard parts ≡ false → Fits parts text false ↔ (folded text ≡ folded (plain_text parts))) where
+    (plain_folded : (parts : List Part) (text : List ℕ) → has_wildcard parts ≡ false → Fits parts text false ↔ (folded text ≡ folded (plain_text parts)))
+    (row : List (List Value)) where
   -- ---- fields of texts and addresses
 
   -- where a pattern of characters alone fits, without regard to case, the texts that are its own after folding
@@ -74,7 +75,7 @@ module _
         (λ h. own.1 (ap folded h ∙ ap folded (sym (own_text low)))),
       )
 
-  text_means : (test : Test) (all : List Value) → IsLeafTest test → Passes (text_test test) all ↔ Holds test all
+  text_means : (test : Test) (all : List Value) → IsLeafTest test → Passes row (text_test test) all ↔ Holds test all
   text_means tests.Absent all plain = iff_same
   text_means (tests.Exists true) all plain = iff_same
   text_means (tests.Exists false) all plain = iff_same
@@ -111,7 +112,7 @@ module _
       absurd (cc)
 
   number_means : (parts : List Part) (cased : Bool) (number : Option ℤ) → has_wildcard parts ≡ false → written_number (plain_text parts) ≡ number
-      → (all : List Value) → AreWhole all → Passes (option_map leaf_tests.Equals number) all ↔ SomeOf (λ v. Fits parts (value_text v) cased) all
+      → (all : List Value) → AreWhole all → Passes row (option_map leaf_tests.Equals number) all ↔ SomeOf (λ v. Fits parts (value_text v) cased) all
   number_means parts cased None plain is all whole =
       nothing (none_of (IsOfKind kinds.Whole) (λ v. Fits parts (value_text v) cased) (no_value_fits parts cased plain is) all whole)
   number_means parts cased (Some n) plain is all whole =
@@ -119,10 +120,10 @@ module _
       (value_fits parts cased n plain (written_is (plain_text parts) n is).0) all whole
 
   fits_means : (parts : List Part) (cased : Bool) (all : List Value) → AreWhole all
-      → Passes (whole_test (tests.Fits parts cased)) all ↔ SomeOf (λ v. Fits parts (value_text v) cased) all
+      → Passes row (whole_test (tests.Fits parts cased)) all ↔ SomeOf (λ v. Fits parts (value_text v) cased) all
   fits_means parts cased all whole = by (has_wildcard parts) refl where
     by : (b : Bool) → has_wildcard parts ≡ b
-        → Passes (if b then Some (leaf_tests.Fits parts cased) else option_map leaf_tests.Equals (written_number (plain_text parts))) all
+        → Passes row (if b then Some (leaf_tests.Fits parts cased) else option_map leaf_tests.Equals (written_number (plain_text parts))) all
         ↔ SomeOf (λ v. Fits parts (value_text v) cased) all
     by true is = iff_same
     by false is = number_means parts cased (written_number (plain_text parts)) is refl all whole
@@ -135,13 +136,13 @@ module _
       let test : is_whole n ≡ true = ap is_whole (sym same) ∙ fits in
       absurd (cc)
 
-  equals_means : (n : ℤ) (all : List Value) → AreWhole all → Passes (whole_test (tests.Equals n)) all ↔ SomeOf (λ v. value_text v ≡ signed_decimal n) all
+  equals_means : (n : ℤ) (all : List Value) → AreWhole all → Passes row (whole_test (tests.Equals n)) all ↔ SomeOf (λ v. value_text v ≡ signed_decimal n) all
   equals_means n all whole = by (is_whole n) refl where
-    by : (b : Bool) → is_whole n ≡ b → Passes (option_map leaf_tests.Equals (if b then Some n else None)) all ↔ SomeOf (λ v. value_text v ≡ signed_decimal n) all
+    by : (b : Bool) → is_whole n ≡ b → Passes row (option_map leaf_tests.Equals (if b then Some n else None)) all ↔ SomeOf (λ v. value_text v ≡ signed_decimal n) all
     by true is = iff_same
     by false is = nothing (none_of (IsOfKind kinds.Whole) (λ v. value_text v ≡ signed_decimal n) (no_value_is n is) all whole)
 
-  whole_means : (test : Test) (all : List Value) → IsLeafTest test → AreWhole all → Passes (whole_test test) all ↔ Holds test all
+  whole_means : (test : Test) (all : List Value) → IsLeafTest test → AreWhole all → Passes row (whole_test test) all ↔ Holds test all
   whole_means tests.Absent all plain whole = iff_same
   whole_means (tests.Exists true) all plain whole = iff_same
   whole_means (tests.Exists false) all plain whole = iff_same
@@ -150,7 +151,7 @@ module _
   whole_means (tests.Inside n) all plain whole = absurd plain
 
   pub test_means : (kind : FieldKind) (test : Test) (all : List Value) → IsLeafTest test → EachOf (IsOfKind kind) all
-      → Passes (leaf_test kind test) all ↔ Holds test all
+      → Passes row (leaf_test kind test) all ↔ Holds test all
   test_means kinds.Text test all plain known = text_means test all plain
   test_means kinds.Whole test all plain known = whole_means test all plain known
   test_means kinds.Address test all plain known = text_means test all plain

@@ -131,6 +131,14 @@ fn show_leaf(alloc: Global, shown: &mut String, leaf: &Leaf) -> Result<(), Fail>
             let number = *number;
             shown.push_str(&format!(in alloc; "#{number}")?)?;
         }
+        LeafTest::Compare { number, .. } => {
+            let number = *number;
+            shown.push_str(&format!(in alloc; "?{number}")?)?;
+        }
+        LeafTest::SameAs(other) => {
+            let other = *other;
+            shown.push_str(&format!(in alloc; "^{other}")?)?;
+        }
     }
     Ok(())
 }

@@ -27,7 +27,10 @@ impl Lacking for Valueless {
     fn lacks(&self, schema: &Schema, leaf: &Leaf) -> Option<Lack> {
         match &leaf.test {
             LeafTest::Has | LeafTest::Absent => Some(Lack::Many),
-            LeafTest::Fits { .. } | LeafTest::Equals(_) => Sqlite.lacks(schema, leaf),
+            LeafTest::Fits { .. }
+            | LeafTest::Equals(_)
+            | LeafTest::Compare { .. }
+            | LeafTest::SameAs(_) => Sqlite.lacks(schema, leaf),
         }
     }
 }

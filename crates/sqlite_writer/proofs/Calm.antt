@@ -1,18 +1,21 @@
 -- The tests that are written open no parentheses and have one word NOT at most.
 use Rattle.std.proofs.Common.{ℕ, ◌≡◌, ◌≤◌, refl, Bool, true, false, List}
-use Rattle.std.specs.Prelude.{ℤ}
+use Rattle.std.specs.Prelude.{ℤ, Option, Some, None}
 use Rattle.std.specs.List.{list_all}
 use Rattle.event_schema.specs.declared.schema.Field.{Field}
+use Rattle.event_schema.specs.declared.schema.FieldKind.{FieldKind}
+use Rattle.event_schema.specs.declared.schema.FieldKind.TheVariants as kinds
+use Rattle.backend_core.specs.Sound.{kind_at}
 use Rattle.sig_strings.specs.Edits.{has_wildcard}
-use Rattle.sql_lang.specs.Grammar.{Collate, Unsaid, NoCase, Binary, constant, spell_test}
-use Rattle.sql_lang.specs.Tokens.{Eq}
+use Rattle.sql_lang.specs.Grammar.{Collate, Unsaid, NoCase, Binary, Leaf, constant, spell_test}
+use Rattle.sql_lang.specs.Tokens.{Op, Eq}
 use Rattle.sql_layout.specs.Layout.{has_text}
-use Rattle.sql_layout.specs.Leaves.{has_value, has_no_value, equals_text, compares_number, fits_like, fits_glob}
+use Rattle.sql_layout.specs.Leaves.{has_value, has_no_value, equals_text, equals_field, compares_number, fits_like, fits_glob}
 use Rattle.sql_lang.specs.Reading.{opens_too_far, nots_too_many}
-use Rattle.sql_layout.specs.Trees.{IsSound as IsSoundLeaf, EachLeaf}
+use Rattle.sql_layout.specs.Trees.{IsSound as IsSoundLeaf, EachLeaf, EachOfTrees}
 use Rattle.backend_core.specs.declared.tree.LeafTest.{LeafTest}
 use Rattle.backend_core.specs.declared.tree.LeafTest.TheVariants as tests
-use Rattle.sqlite_writer.specs.Guarded.{written_test, guarded_test}
+use Rattle.sqlite_writer.specs.Guarded.{name_at, sign_of, same_test, written_test, other_of, behind_other, guarded_test}
 use Rattle.sqlite_writer.proofs.Nested.{IsCalm, not_below}
 
 module _ (limit : ℕ) (some : 1 ≤ limit) where
@@ -32,6 +35,17 @@ module _ (limit : ℕ) (some : 1 ≤ limit) where
   calm_text name value NoCase texts = record { opens = λ opened closed rest. refl; nots = λ n rest. refl; texts = texts }
   calm_text name value Binary texts = record { opens = λ opened closed rest. refl; nots = λ n rest. refl; texts = texts }
 
+  calm_fields : (name other : List ℕ) (c : Collate) → list_all has_text (spell_test (equals_field name other c)) ≡ true → IsCalm limit (equals_field name other c)
+  unfolding opens_too_far nots_too_many
+  calm_fields name other Unsaid texts = record { opens = λ opened closed rest. refl; nots = λ n rest. refl; texts = texts }
+  calm_fields name other NoCase texts = record { opens = λ opened closed rest. refl; nots = λ n rest. refl; texts = texts }
+  calm_fields name other Binary texts = record { opens = λ opened closed rest. refl; nots = λ n rest. refl; texts = texts }
+
+  calm_same : (kind : FieldKind) (name other : List ℕ) → list_all has_text (spell_test (same_test kind name other)) ≡ true → IsCalm limit (same_test kind name other)
+  calm_same kinds.Text name other texts = calm_fields name other NoCase texts
+  calm_same kinds.Whole name other texts = calm_fields name other Unsaid texts
+  calm_same kinds.Address name other texts = calm_fields name other NoCase texts
+
   calm_like : (name pattern : List ℕ) → list_all has_text (spell_test (fits_like name pattern)) ≡ true → IsCalm limit (fits_like name pattern)
   unfolding opens_too_far nots_too_many
   calm_like name pattern texts = record { opens = λ opened closed rest. refl; nots = λ n rest. refl; texts = texts }
@@ -40,27 +54,35 @@ module _ (limit : ℕ) (some : 1 ≤ limit) where
   unfolding opens_too_far nots_too_many
   calm_glob name pattern texts = record { opens = λ opened closed rest. refl; nots = λ n rest. refl; texts = texts }
 
-  calm_number : (name : List ℕ) (n : ℤ) → list_all has_text (spell_test (compares_number name Eq n)) ≡ true → IsCalm limit (compares_number name Eq n)
+  calm_number : (name : List ℕ) (op : Op) (n : ℤ) → list_all has_text (spell_test (compares_number name op n)) ≡ true → IsCalm limit (compares_number name op n)
   unfolding opens_too_far nots_too_many
-  calm_number name n texts = record { opens = λ opened closed rest. refl; nots = λ n rest. refl; texts = texts }
+  calm_number name op n texts = record { opens = λ opened closed rest. refl; nots = λ n rest. refl; texts = texts }
 
   pub calm_never : list_all has_text (spell_test (constant false)) ≡ true → IsCalm limit (constant false)
   unfolding opens_too_far nots_too_many
   calm_never texts = record { opens = λ opened closed rest. refl; nots = λ n rest. refl; texts = texts }
 
-  calm_test : (name : List ℕ) (test : LeafTest) → list_all has_text (spell_test (written_test name test)) ≡ true → IsCalm limit (written_test name test)
-  calm_test name tests.Has texts = calm_value name texts
-  calm_test name tests.Absent texts = calm_no_value name texts
-  calm_test name (tests.Fits parts cased) texts = by cased (has_wildcard parts) refl texts where
-    by : (cased : Bool) (wild : Bool) → has_wildcard parts ≡ wild → list_all has_text (spell_test (written_test name (tests.Fits parts cased))) ≡ true
-        → IsCalm limit (written_test name (tests.Fits parts cased))
-    by true true is texts = let t = rw is at texts in rw is (calm_glob name _ t)
-    by false true is texts = let t = rw is at texts in rw is (calm_like name _ t)
-    by true false is texts = let t = rw is at texts in rw is (calm_text name _ Unsaid t)
-    by false false is texts = let t = rw is at texts in rw is (calm_text name _ NoCase t)
-  calm_test name (tests.Equals n) texts = calm_number name n texts
+  module _ (fields : List Field) where
+    calm_test : (name : List ℕ) (test : LeafTest) → list_all has_text (spell_test (written_test fields name test)) ≡ true → IsCalm limit (written_test fields name test)
+    calm_test name tests.Has texts = calm_value name texts
+    calm_test name tests.Absent texts = calm_no_value name texts
+    calm_test name (tests.Fits parts cased) texts = by cased (has_wildcard parts) refl texts where
+      by : (cased : Bool) (wild : Bool) → has_wildcard parts ≡ wild → list_all has_text (spell_test (written_test fields name (tests.Fits parts cased))) ≡ true
+          → IsCalm limit (written_test fields name (tests.Fits parts cased))
+      by true true is texts = let t = rw is at texts in rw is (calm_glob name _ t)
+      by false true is texts = let t = rw is at texts in rw is (calm_like name _ t)
+      by true false is texts = let t = rw is at texts in rw is (calm_text name _ Unsaid t)
+      by false false is texts = let t = rw is at texts in rw is (calm_text name _ NoCase t)
+    calm_test name (tests.Equals n) texts = calm_number name Eq n texts
+    calm_test name (tests.Compare op n) texts = calm_number name (sign_of op) n texts
+    calm_test name (tests.SameAs other) texts = calm_same (kind_at fields other) name (name_at fields other) texts
 
-  pub calm_guarded : (fields : List Field) (guarded : Bool) (name : List ℕ) (test : LeafTest) → EachLeaf (IsSoundLeaf fields) (guarded_test guarded name test)
-      → EachLeaf (IsCalm limit) (guarded_test guarded name test)
-  calm_guarded fields true name test sound = (calm_value name sound.0.writable, (calm_test name test sound.1.0.writable, tt))
-  calm_guarded fields false name test sound = calm_test name test sound.writable
+    calm_behind : (o : Option ℕ) (l : Leaf) → (list_all has_text (spell_test l) ≡ true → IsCalm limit l)
+        → EachOfTrees (IsSoundLeaf fields) (behind_other fields o l) → EachOfTrees (IsCalm limit) (behind_other fields o l)
+    calm_behind None l calm sound = (calm sound.0.writable, tt)
+    calm_behind (Some other) l calm sound = (calm_value (name_at fields other) sound.0.writable, (calm sound.1.0.writable, tt))
+
+    pub calm_guarded : (guarded : Bool) (name : List ℕ) (test : LeafTest) → EachLeaf (IsSoundLeaf fields) (guarded_test fields guarded name test)
+        → EachLeaf (IsCalm limit) (guarded_test fields guarded name test)
+    calm_guarded true name test sound = (calm_value name sound.0.writable, calm_behind (other_of test) (written_test fields name test) (calm_test name test) sound.1)
+    calm_guarded false name test sound = calm_test name test sound.writable

@@ -2,6 +2,8 @@
 use Rattle.std.proofs.Common.{ℕ, ◌+◌, ◌≡◌, ◌≤◌, refl, ◌∙◌, ap, Bool, true, false, List, map, max, min, arith}
 use Rattle.std.specs.Prelude.{Some}
 use Rattle.event_schema.specs.declared.schema.Field.{Field}
+use Rattle.event_schema.specs.declared.schema.FieldKind.{FieldKind}
+use Rattle.event_schema.specs.declared.schema.FieldKind.TheVariants as kinds
 use Rattle.sig_strings.specs.Edits.{has_wildcard}
 use Rattle.sql_lang.specs.Grammar.{Ors, last_and, and_or, Ands, last_not, not_and, Nots, enclosed}
 use Rattle.sql_lang.specs.Expression.{or_expr, or_exprs, and_expr, and_exprs, not_expr, test_of, test_depth, depth, chain_depth}
@@ -12,35 +14,48 @@ use Rattle.sql_halves.proofs.Chains.{or_parts, and_parts, ors_halved, ands_halve
 use Rattle.backend_core.specs.declared.tree.LeafTest.{LeafTest}
 use Rattle.backend_core.specs.declared.tree.LeafTest.TheVariants as tests
 use Rattle.backend_core.specs.Trees.{Plain}
-use Rattle.backend_core.specs.Sound.{IsSound}
-use Rattle.sqlite_writer.specs.Guarded.{name_at, written_test, sql_tree}
+use Rattle.backend_core.specs.Sound.{IsSound, kind_at}
+use Rattle.sqlite_writer.specs.Guarded.{name_at, same_test, written_test, sql_tree}
 use Rattle.sqlite_writer.specs.Joined.{guarded}
-use Rattle.sqlite_writer.specs.Depths.{one_more, two_depths, text_depth, written_depth, or_zero, row_behind, row_depth, halved_depth, tree_depth, parts_depth}
+use Rattle.sqlite_writer.specs.Depths.{one_more, two_depths, text_depth, same_depth, written_depth, or_zero, row_behind, row_depth, halved_depth, tree_depth, parts_depth}
 use Rattle.sqlite_writer.proofs.Laid.{IsReckoned, reckoned}
 
 module _ (fields : List Field) where
-  test_is : (name : List ℕ) (test : LeafTest) → written_depth test ≡ test_depth (test_of fields (written_test name test))
+  test_is : (name : List ℕ) (test : LeafTest) → written_depth fields test ≡ test_depth (test_of fields (written_test fields name test))
   test_is name tests.Has = refl
   test_is name tests.Absent = refl
   test_is name (tests.Fits parts cased) = by cased (has_wildcard parts) refl where
     by : (cased : Bool) (wild : Bool) → has_wildcard parts ≡ wild
-        → text_depth (has_wildcard parts) cased ≡ test_depth (test_of fields (written_test name (tests.Fits parts cased)))
+        → text_depth (has_wildcard parts) cased ≡ test_depth (test_of fields (written_test fields name (tests.Fits parts cased)))
     by true true is = rw is refl
     by false true is = rw is refl
     by true false is = rw is refl
     by false false is = rw is refl
   test_is name (tests.Equals n) = refl
+  test_is name (tests.Compare op n) = refl
+  test_is name (tests.SameAs other) = by (kind_at fields other) where
+    by : (kind : FieldKind) → same_depth kind ≡ test_depth (test_of fields (same_test kind name (name_at fields other)))
+    by kinds.Text = refl
+    by kinds.Whole = refl
+    by kinds.Address = refl
 
   few_texts : (wild cased : Bool) → text_depth wild cased ≤ 3
   few_texts true cased = omega arith
   few_texts false true = omega arith
   few_texts false false = omega arith
 
-  few_written : (test : LeafTest) → written_depth test ≤ 3
+  few_same : (kind : FieldKind) → same_depth kind ≤ 3
+  few_same kinds.Text = omega arith
+  few_same kinds.Whole = omega arith
+  few_same kinds.Address = omega arith
+
+  few_written : (test : LeafTest) → written_depth fields test ≤ 3
   few_written tests.Has = omega arith
   few_written tests.Absent = omega arith
   few_written (tests.Fits parts cased) = few_texts (has_wildcard parts) cased
   few_written (tests.Equals n) = omega arith
+  few_written (tests.Compare op n) = omega arith
+  few_written (tests.SameAs other) = few_same (kind_at fields other)
 
   module _ (most : ℕ) (some : 3 ≤ most) where
     -- at most the most
@@ -53,7 +68,7 @@ module _ (fields : List Field) where
     not_depth : Nots → ℕ
     not_depth n = min (depth (not_expr fields n)) most
 
-    leaf_is : (name : List ℕ) (test : LeafTest) → min (test_depth (test_of fields (written_test name test))) most ≡ written_depth test
+    leaf_is : (name : List ℕ) (test : LeafTest) → min (test_depth (test_of fields (written_test fields name test))) most ≡ written_depth fields test
     leaf_is name test = let same = test_is name test in let few = few_written test in omega (arith, same, few, some)
 
     not_is : (d e : ℕ) → min d most ≡ e → min (1 + d) most ≡ one_more most e
@@ -101,7 +116,7 @@ module _ (fields : List Field) where
     and_halved : (a : Ands) → and_depth (halved_ands a) ≡ halved_depth most (map not_depth (and_parts a))
     and_halved a = ands_halved (row_depth most) (two_depths most) not_depth and_depth and_row and_two a
 
-    depths_reckoned : IsReckoned fields or_depth and_depth not_depth not_depth (λ at t. tree_depth most t) (λ at ts. parts_depth most ts)
+    depths_reckoned : IsReckoned fields or_depth and_depth not_depth not_depth (λ at t. tree_depth most fields t) (λ at ts. parts_depth most fields ts)
     unfolding or_depth and_depth not_depth ors_in_halves
     depths_reckoned = record {
       none = λ at. refl;
@@ -112,9 +127,9 @@ module _ (fields : List Field) where
       never_or = omega (arith, some);
       never_and = omega (arith, some);
       never_not = omega (arith, some);
-      not_or = λ n t h. not_is (depth (not_expr fields n)) (tree_depth most t) h;
-      not_and = λ n t h. not_is (depth (not_expr fields n)) (tree_depth most t) h;
-      not_again = λ n t h. not_is (depth (not_expr fields n)) (tree_depth most t) h;
+      not_or = λ n t h. not_is (depth (not_expr fields n)) (tree_depth most fields t) h;
+      not_and = λ n t h. not_is (depth (not_expr fields n)) (tree_depth most fields t) h;
+      not_again = λ n t h. not_is (depth (not_expr fields n)) (tree_depth most fields t) h;
       any_whole = λ o ts h. or_halved o ∙ ap (halved_depth most) h;
       any_and = λ o ts h. or_halved o ∙ ap (halved_depth most) h;
       any_not = λ o ts h. or_halved o ∙ ap (halved_depth most) h;
@@ -123,6 +138,6 @@ module _ (fields : List Field) where
       one_whole = λ a. refl;
     }
 
-    pub depth_is : (odd : Bool) (t : Plain) → IsSound fields t → min (depth (or_expr fields (layout (sql_tree fields odd t)))) most ≡ tree_depth most (guarded odd t)
+    pub depth_is : (odd : Bool) (t : Plain) → IsSound fields t → min (depth (or_expr fields (layout (sql_tree fields odd t)))) most ≡ tree_depth most fields (guarded odd t)
     unfolding or_depth
-    depth_is odd t s = reckoned fields or_depth and_depth not_depth not_depth (λ at u. tree_depth most u) (λ at us. parts_depth most us) depths_reckoned odd t s
+    depth_is odd t s = reckoned fields or_depth and_depth not_depth not_depth (λ at u. tree_depth most fields u) (λ at us. parts_depth most fields us) depths_reckoned odd t s

@@ -72,3 +72,13 @@ text_test old named worded said new name text word behind a b c d = rw (d, c, b,
 pub number_test : (old named worded new name word number : List ℕ) → named ≡ old ++ in_quotes 34 name → worded ≡ named ++ word → new ≡ worded ++ number
     → new ≡ old ++ (in_quotes 34 name ++ (word ++ number))
 number_test old named worded new name word number a b c = rw (c, b, a) (simp append_assoc)
+
+-- a name, a sign between spaces, and a number
+pub order_test : (old named worded new name sign number : List ℕ) → named ≡ old ++ in_quotes 34 name → worded ≡ named ++ (32 ∷ (sign ++ 32 ∷ [])) → new ≡ worded ++ number
+    → new ≡ old ++ (in_quotes 34 name ++ (32 ∷ (sign ++ 32 ∷ number)))
+order_test old named worded new name sign number a b c = rw (c, b, a) (simp append_assoc)
+
+-- a name, a word, a name and what stands behind it
+pub names_test : (old named worded second new name word other behind : List ℕ) → named ≡ old ++ in_quotes 34 name → worded ≡ named ++ word
+    → second ≡ worded ++ in_quotes 34 other → new ≡ second ++ behind → new ≡ old ++ (in_quotes 34 name ++ (word ++ (in_quotes 34 other ++ behind)))
+names_test old named worded second new name word other behind a b c d = rw (d, c, b, a) (simp append_assoc)

@@ -106,8 +106,20 @@ joins_all k odd ts i old whole past h =
     sym (append_none (plains_of old)) ∙ (ap (λ (us : List Tree). append (plains_of old) (guarded_parts k odd (plains_of us))) (sym (drop_all i ts past)) ∙ h)
 
 -- a guard and its leaf
-pub two_leaves : (none first second : List Tree) (g l copy : Leaf) → none ≡ [] → first ≡ none ++ trees.Leaf g ∷ [] → second ≡ first ++ trees.Leaf copy ∷ []
-    → copy ≡ l → plains_of second ≡ a_part (leaf g) (a_part (leaf l) no_parts)
-two_leaves none first second g l copy empty one two same =
-    ap plains_of (two ∙ ap (λ (xs : List Tree). xs ++ trees.Leaf copy ∷ []) (one ∙ ap (λ (xs : List Tree). xs ++ trees.Leaf g ∷ []) empty))
-    ∙ ap (λ (x : Leaf). a_part (leaf g) (a_part (leaf x) no_parts)) same
+pub two_leaves : (none first second : List Tree) (g guard l copy : Leaf) → none ≡ [] → first ≡ none ++ trees.Leaf guard ∷ [] → second ≡ first ++ trees.Leaf copy ∷ []
+    → guard ≡ g → copy ≡ l → plains_of second ≡ a_part (leaf g) (a_part (leaf l) no_parts)
+two_leaves none first second g guard l copy empty one two so same =
+    ap plains_of (two ∙ ap (λ (xs : List Tree). xs ++ trees.Leaf copy ∷ []) (one ∙ ap (λ (xs : List Tree). xs ++ trees.Leaf guard ∷ []) empty))
+    ∙ (ap (λ (x : Leaf). a_part (leaf guard) (a_part (leaf x) no_parts)) same
+    ∙ ap (λ (x : Leaf). a_part (leaf x) (a_part (leaf l) no_parts)) so)
+
+-- two guards and their leaf
+pub three_leaves : (none first second third : List Tree) (g h guard other l copy : Leaf) → none ≡ [] → first ≡ none ++ trees.Leaf guard ∷ []
+    → second ≡ first ++ trees.Leaf other ∷ [] → third ≡ second ++ trees.Leaf copy ∷ [] → guard ≡ g → other ≡ h → copy ≡ l
+    → plains_of third ≡ a_part (leaf g) (a_part (leaf h) (a_part (leaf l) no_parts))
+three_leaves none first second third g h guard other l copy empty one two three so too same =
+    ap plains_of (three ∙ ap (λ (xs : List Tree). xs ++ trees.Leaf copy ∷ []) (two ∙ ap (λ (xs : List Tree). xs ++ trees.Leaf other ∷ [])
+    (one ∙ ap (λ (xs : List Tree). xs ++ trees.Leaf guard ∷ []) empty)))
+    ∙ (ap (λ (x : Leaf). a_part (leaf guard) (a_part (leaf other) (a_part (leaf x) no_parts))) same
+    ∙ (ap (λ (x : Leaf). a_part (leaf guard) (a_part (leaf x) (a_part (leaf l) no_parts))) too
+    ∙ ap (λ (x : Leaf). a_part (leaf x) (a_part (leaf h) (a_part (leaf l) no_parts))) so))

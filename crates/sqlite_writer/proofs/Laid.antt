@@ -1,5 +1,6 @@
 -- What is reckoned of a layout piece by piece is reckoned of the tree with its guards and its joined lists part by part.
-use Rattle.std.proofs.Common.{◌≡◌, sym, ◌∙◌, ap, Bool, true, false, not, List, [], ◌∷◌, ◌++◌, map, length, arith}
+use Rattle.std.proofs.Common.{ℕ, ◌≡◌, sym, ◌∙◌, ap, Bool, true, false, not, List, [], ◌∷◌, ◌++◌, map, length, arith}
+use Rattle.std.specs.Prelude.{Option, Some, None}
 use Rattle.std.proofs.lemmas.List.{map-append}
 use Rattle.event_schema.specs.declared.schema.Field.{Field}
 use Rattle.sql_lang.specs.Grammar.{Ors, last_and, and_or, Ands, last_not, Nots, not_not, a_test, enclosed, constant}
@@ -12,13 +13,16 @@ use Rattle.backend_core.specs.Sound.{IsSound, AreSound}
 use Rattle.sqlite_writer.specs.declared.place.Kind.TheVariants.{All, Any}
 use Rattle.sqlite_writer.specs.declared.place.Standing.{Standing}
 use Rattle.sqlite_writer.specs.declared.place.Standing.TheVariants.{InOr, InAnd, BehindNot}
-use Rattle.sqlite_writer.specs.Guarded.{name_at, written_test, is_unsure, guarded_test, sql_tree, sql_trees}
+use Rattle.sql_layout.specs.Leaves.{has_value}
+use Rattle.sql_layout.specs.Trees as sql
+use Rattle.sqlite_writer.specs.Guarded.{name_at, written_test, is_unsure, other_of, behind_other, guarded_test, sql_tree, sql_trees}
 use Rattle.sqlite_writer.specs.Joined.{append, parts_of, guard_of, guarded_leaf, guarded, guarded_parts}
+use Rattle.sqlite_writer.specs.Joined.{behind_other as parts_behind}
 use Rattle.sqlite_writer.proofs.Guards.{append_none}
 
 module _ (fields : List Field) where
   abbrev pub test_of_leaf : Leaf → Nots
-  test_of_leaf l = a_test (written_test (name_at fields l.field) l.test)
+  test_of_leaf l = a_test (written_test fields (name_at fields l.field) l.test)
 
 -- 0
 abbrev pub test_of_never : Nots
@@ -112,12 +116,29 @@ module _ (fields : List Field) {B : Type 0} (whole : Ors → B) (in_or : Ands �
         ∙ (map-append in_and (and_parts a) (and_parts b)
         ∙ (ap (λ (xs : List B). xs ++ map in_and (and_parts b)) first ∙ (ap (λ (xs : List B). ms InAnd us ++ xs) second ∙ sym (joined_parts InAnd us ts))))
 
-    agrees_leaf : (so : Bool) (l : Leaf) → Agrees (form (guarded_test so (name_at fields l.field) l.test)) (guarded_leaf so l)
-    agrees_leaf true l =
-        agrees_all (and_join (last_not (test_of_leaf fields (guard_of l))) (last_not (test_of_leaf fields l)))
-        (a_part (leaf (guard_of l)) (a_part (leaf l) no_parts))
-        (join_and (last_not (test_of_leaf fields (guard_of l))) (last_not (test_of_leaf fields l)) (a_part (leaf (guard_of l)) no_parts) (a_part (leaf l) no_parts)
-        (agrees_test (guard_of l)).and (agrees_test l).and)
+    -- a leaf behind its guards
+    agrees_guarded : (o : Option ℕ) (l : Leaf)
+        → Agrees (form (sql.all (sql.leaf (has_value (name_at fields l.field))) (behind_other fields o (written_test fields (name_at fields l.field) l.test))))
+        (all (a_part (leaf (guard_of l.field l)) (parts_behind o l)))
+    agrees_guarded None l =
+        let g = guard_of l.field l in
+        agrees_all (and_join (last_not (test_of_leaf fields g)) (last_not (test_of_leaf fields l)))
+        (a_part (leaf g) (a_part (leaf l) no_parts))
+        (join_and (last_not (test_of_leaf fields g)) (last_not (test_of_leaf fields l)) (a_part (leaf g) no_parts) (a_part (leaf l) no_parts)
+        (agrees_test g).and (agrees_test l).and)
+    agrees_guarded (Some other) l =
+        let g = guard_of l.field l in
+        let h = guard_of other l in
+        let rest = and_join (last_not (test_of_leaf fields h)) (last_not (test_of_leaf fields l)) in
+        agrees_all (and_join (last_not (test_of_leaf fields g)) rest)
+        (a_part (leaf g) (a_part (leaf h) (a_part (leaf l) no_parts)))
+        (join_and (last_not (test_of_leaf fields g)) rest (a_part (leaf g) no_parts) (a_part (leaf h) (a_part (leaf l) no_parts))
+        (agrees_test g).and
+        (join_and (last_not (test_of_leaf fields h)) (last_not (test_of_leaf fields l)) (a_part (leaf h) no_parts) (a_part (leaf l) no_parts)
+        (agrees_test h).and (agrees_test l).and))
+
+    agrees_leaf : (so : Bool) (l : Leaf) → Agrees (form (guarded_test fields so (name_at fields l.field) l.test)) (guarded_leaf so l)
+    agrees_leaf true l = agrees_guarded (other_of l.test) l
     agrees_leaf false l = agrees_test l
 
     mutual

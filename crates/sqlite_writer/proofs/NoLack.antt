@@ -1,6 +1,6 @@
 -- What is lacking: nothing for fields of one value; and whether a field may have several.
 use Rattle.std.proofs.Common.{ℕ, zero, suc, ◌≡◌, ◌<◌, ◌≤◌, refl, sym, ap, Bool, false, cond, List, [], ◌∷◌, length, map, get_or, arith}
-use Rattle.std.specs.Prelude.{Option, Some, None}
+use Rattle.std.specs.Prelude.{◌||◌, Option, Some, None}
 use Rattle.event_schema.specs.Inferred.{text_field}
 use Rattle.event_schema.specs.declared.schema.Field.{Field}
 use Rattle.sig_base.specs.Judged.{first}
@@ -9,15 +9,24 @@ use Rattle.backend_core.specs.Lacks.{leaf_refusal, lack_refusal, lacks_refusal}
 use Rattle.backend_core.specs.Trees.{Plain, Plains, no_parts, a_part, all, any, negated, leaf, never}
 use Rattle.backend_core.specs.declared.lack.Lack.TheVariants.{Many}
 use Rattle.backend_core.specs.declared.tree.Leaf.{Leaf}
-use Rattle.sqlite_writer.specs.Lacking.{is_many, sqlite_lacks}
+use Rattle.sqlite_writer.specs.Guarded.{other_of}
+use Rattle.sqlite_writer.specs.Lacking.{is_many, is_many_if_any, sqlite_lacks}
 
 one_each : (names : List (List ℕ)) (k : ℕ) → is_many (map text_field names) k ≡ false
 one_each [] k = refl
 one_each (name ∷ names) zero = refl
 one_each (name ∷ names) (suc k) = one_each names k
 
+one_if_any : (names : List (List ℕ)) (o : Option ℕ) → is_many_if_any (map text_field names) o ≡ false
+one_if_any names None = refl
+one_if_any names (Some k) = one_each names k
+
 leaf_free : (names : List (List ℕ)) (l : Leaf) → leaf_refusal l (sqlite_lacks (map text_field names) l) ≡ None
-leaf_free names l = ap (λ (b : Bool). leaf_refusal l (cond b (Some Many) None)) (one_each names l.field)
+leaf_free names l =
+    let own = one_each names l.field in
+    let other = one_if_any names (other_of l.test) in
+    let few : (is_many (map text_field names) l.field || is_many_if_any (map text_field names) (other_of l.test)) ≡ false = rw (own, other) refl in
+    ap (λ (b : Bool). leaf_refusal l (cond b (Some Many) None)) few
 
 both_free : (a b : Option Refusal) → a ≡ None → b ≡ None → first (a ∷ b ∷ []) ≡ None
 both_free a b e f = rw (e, f) refl

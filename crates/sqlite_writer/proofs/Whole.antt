@@ -33,8 +33,8 @@ whole_is schema w t is sound =
     ap (written_text schema) is
     ∙ query_pieces schema.table (layout (query_tree schema t)) (tree_text schema.fields InOr (guarded false t)) (sym (text_is schema.fields false t sound))
 
-pub deep_is : (schema : Schema) (w t : Plain) → w ≡ guarded false t → IsSound schema.fields t → tree_depth (2 ^ 64 - 1) w ≡ min (depth (query_expr schema t)) (2 ^ 64 - 1)
-deep_is schema w t is sound = ap (tree_depth (2 ^ 64 - 1)) is ∙ sym (depth_is schema.fields (2 ^ 64 - 1) (omega arith) false t sound)
+pub deep_is : (schema : Schema) (w t : Plain) → w ≡ guarded false t → IsSound schema.fields t → tree_depth (2 ^ 64 - 1) schema.fields w ≡ min (depth (query_expr schema t)) (2 ^ 64 - 1)
+deep_is schema w t is sound = ap (tree_depth (2 ^ 64 - 1) schema.fields) is ∙ sym (depth_is schema.fields (2 ^ 64 - 1) (omega arith) false t sound)
 
 pub three_pieces : (out a q w first second third : List ℕ) → first ≡ out ++ a → second ≡ first ++ q → third ≡ second ++ w → third ≡ out ++ (a ++ (q ++ w))
 three_pieces out a q w first second third one two three = rw (three, two, one) (simp append_assoc)

@@ -1,12 +1,12 @@
 -- The tree that is written, as data: below an odd number of words NOT a test that would be unknown where there is no value
--- stands behind the test that there is one, and what is of a list's own kind is joined into the list.
-use Rattle.std.specs.Prelude.{Bool, true, false, not, ◌&&◌}
+-- stands behind the test that there is one, and one of two fields behind both; what is of a list's own kind is joined into the list.
+use Rattle.std.specs.Prelude.{ℕ, Bool, true, false, not, ◌&&◌, Option, Some, None}
 use Rattle.backend_core.specs.declared.tree.Leaf.{Leaf}
 use Rattle.backend_core.specs.declared.tree.LeafTest.TheVariants as tests
 use Rattle.backend_core.specs.Trees.{Plain, Plains, no_parts, a_part, all, any, negated, leaf, never}
 use Rattle.sqlite_writer.specs.declared.place.Kind.{Kind}
 use Rattle.sqlite_writer.specs.declared.place.Kind.TheVariants.{All, Any}
-use Rattle.sqlite_writer.specs.Guarded.{is_unsure}
+use Rattle.sqlite_writer.specs.Guarded.{is_unsure, other_of}
 
 abbrev pub append : Plains → Plains → Plains
 append no_parts us = us
@@ -25,12 +25,17 @@ parts_of Any (negated t) = a_part (negated t) no_parts
 parts_of Any (leaf l) = a_part (leaf l) no_parts
 parts_of Any never = a_part never no_parts
 
--- that the field of a leaf has a value
-abbrev pub guard_of : Leaf → Leaf
-guard_of l = record { field = l.field; test = tests.Has; place = l.place }
+-- that a field has a value, where a leaf asks for it
+abbrev pub guard_of : ℕ → Leaf → Leaf
+guard_of k l = record { field = k; test = tests.Has; place = l.place }
+
+-- a leaf behind the guard of its further field, if it looks at one
+abbrev pub behind_other : Option ℕ → Leaf → Plains
+behind_other None l = a_part (leaf l) no_parts
+behind_other (Some other) l = a_part (leaf (guard_of other l)) (a_part (leaf l) no_parts)
 
 abbrev pub guarded_leaf : Bool → Leaf → Plain
-guarded_leaf true l = all (a_part (leaf (guard_of l)) (a_part (leaf l) no_parts))
+guarded_leaf true l = all (a_part (leaf (guard_of l.field l)) (behind_other (other_of l.test) l))
 guarded_leaf false l = leaf l
 
 abbrev mutual

@@ -54,8 +54,8 @@ two_texts word first second = first ++ (word ++ (codes "(" ++ (second ++ codes "
 abbrev pub halved_text : Kind → List (List ℕ) → List ℕ
 halved_text kind texts = halved (row_text (word_of kind) false) (two_texts (word_of kind)) texts
 
-abbrev pub test_text : List ℕ → LeafTest → List ℕ
-test_text field test = spaced (spell_test (written_test field test))
+abbrev pub test_text : List Field → List ℕ → LeafTest → List ℕ
+test_text fields field test = spaced (spell_test (written_test fields field test))
 
 abbrev pub has_text : List ℕ → List ℕ
 has_text field = spaced (spell_test (has_value field))
@@ -66,7 +66,7 @@ module _ (fields : List Field) where
     tree_text at (all ts) = enclosed_if (is_enclosed All at) (halved_text All (parts_text InAnd ts))
     tree_text at (any ts) = enclosed_if (is_enclosed Any at) (halved_text Any (parts_text InOr ts))
     tree_text at (negated t) = codes "NOT " ++ tree_text BehindNot t
-    tree_text at (leaf l) = test_text (name_at fields l.field) l.test
+    tree_text at (leaf l) = test_text fields (name_at fields l.field) l.test
     tree_text at never = codes "0"
 
     pub parts_text : Standing → Plains → List (List ℕ)

@@ -1,6 +1,6 @@
 //! Trees whose guards are tests of their own.
 
-ghost use Rattle.std.specs.Prelude.{◌≡◌, ◌++◌, IfOk, IfErr, OnOk};
+ghost use Rattle.std.specs.Prelude.{◌≡◌, ◌++◌, true, IfOk, IfErr, OnOk};
 ghost use Rattle.backend_core.specs.View.{tree_view, plains_of};
 ghost use Rattle.sqlite_writer.specs.Guarded as guards;
 ghost use Rattle.sqlite_writer.specs.Joined as spec;
@@ -16,7 +16,24 @@ fn is_unsure(test: &LeafTest) -> bool
 {
     match test {
         LeafTest::Has | LeafTest::Absent => false,
-        LeafTest::Fits { .. } | LeafTest::Equals(_) => true,
+        LeafTest::Fits { .. }
+        | LeafTest::Equals(_)
+        | LeafTest::Compare { .. }
+        | LeafTest::SameAs(_) => true,
+    }
+}
+
+/// The further field that a test looks at.
+fn other_of(test: &LeafTest) -> Option<u32>
+    ensures { result ≡ guards.other_of test.now }
+{
+    match test {
+        LeafTest::Has
+        | LeafTest::Absent
+        | LeafTest::Fits { .. }
+        | LeafTest::Equals(_)
+        | LeafTest::Compare { .. } => None,
+        LeafTest::SameAs(other) => Some(*other),
     }
 }
 
@@ -76,23 +93,47 @@ fn add_part(kind: Kind, parts: &mut Vec<Tree>, tree: Tree) -> Result<(), AllocEr
     }
 }
 
-/// The leaf, or all of its guard and it.
+/// That a field has a value, where a leaf asks for it.
+fn guard_of(field: u32, leaf: &Leaf) -> Leaf
+    ensures { result ≡ spec.guard_of field leaf.now }
+{
+    Leaf {
+        field,
+        test: LeafTest::Has,
+        place: leaf.place,
+    }
+}
+
+/// All of a leaf's guards and it.
+fn behind_guards(alloc: Global, leaf: &Leaf) -> Result<Tree, Fault>
+    ensures ok { IfOk result (λ t. tree_view t ≡ spec.guarded_leaf true leaf.now) }
+    ensures err { IfErr result (λ e. e ≡ Fault.Memory) }
+{
+    let copy = leaf.copy(alloc)?;
+    let mut parts = Vec::with_capacity(alloc, 3)?;
+    parts.push(Tree::Leaf(guard_of(leaf.field, leaf)))?;
+    match other_of(&leaf.test) {
+        None => {
+            parts.push(Tree::Leaf(copy))?;
+            Ok(Tree::All(parts))
+        }
+        Some(other) => {
+            parts.push(Tree::Leaf(guard_of(other, leaf)))?;
+            parts.push(Tree::Leaf(copy))?;
+            Ok(Tree::All(parts))
+        }
+    }
+}
+
+/// The leaf, or all of its guards and it.
 fn guarded_leaf(alloc: Global, leaf: &Leaf, is_guarded: bool) -> Result<Tree, Fault>
     ensures ok { IfOk result (λ t. tree_view t ≡ spec.guarded_leaf is_guarded leaf.now) }
     ensures err { IfErr result (λ e. e ≡ Fault.Memory) }
 {
-    let copy = leaf.copy(alloc)?;
-    if !is_guarded {
-        return Ok(Tree::Leaf(copy));
+    if is_guarded {
+        return behind_guards(alloc, leaf);
     }
-    let mut parts = Vec::with_capacity(alloc, 2)?;
-    parts.push(Tree::Leaf(Leaf {
-        field: leaf.field,
-        test: LeafTest::Has,
-        place: leaf.place,
-    }))?;
-    parts.push(Tree::Leaf(copy))?;
-    Ok(Tree::All(parts))
+    Ok(Tree::Leaf(leaf.copy(alloc)?))
 }
 
 /// The parts of a list below an odd number of words NOT, or an even one, each guarded and joined to the list.

@@ -4,6 +4,9 @@
 
 mod backend;
 mod deep;
+#[cfg(test)]
+mod field_tests;
+mod fields;
 mod guarding;
 #[cfg(test)]
 mod lack_tests;

@@ -59,7 +59,7 @@ fn with_word_if(size: usize, so: bool, kind: Kind) -> Result<usize, Fault>
 
 /// The size with a test, whose text is made for it and dropped.
 fn with_leaf(alloc: Global, size: usize, fields: &[Field], leaf: &Leaf) -> Result<usize, Fault>
-    ensures ok { IfOk result (λ n. n ≡ size + bytes_in (test_text (guards.name_at fields.now leaf.now.field) leaf.now.test)) }
+    ensures ok { IfOk result (λ n. n ≡ size + bytes_in (test_text fields.now (guards.name_at fields.now leaf.now.field) leaf.now.test)) }
     ensures err { IfErr result (λ e. e ≡ Fault.Memory) }
 {
     let mut text = Text::new(alloc);

@@ -1,7 +1,6 @@
 //! The query of a tree.
 
 ghost use Rattle.std.specs.Prelude.{◌≡◌, ◌≤◌, ◌^◌, ◌-◌, ◌++◌, ℕ, length, min, pos, false, None, IfOk, IfErr, OnOk};
-ghost use Rattle.event_schema.specs.declared.schema.Schema.{Schema as SchemaData};
 ghost use Rattle.backend_core.specs.Lacks.{lack_refusal};
 ghost use Rattle.backend_core.specs.Sound.{IsSound};
 ghost use Rattle.backend_core.specs.Trees.{Plain};
@@ -78,11 +77,11 @@ fn query_size(alloc: Global, schema: &Schema, written: &Tree) -> Result<usize, F
 }
 
 /// The depth of a tree's query. `written` is the tree with its guards.
-fn query_depth(written: &Tree) -> usize
-    ensures { (schema : SchemaData) (t : Plain) → tree_view written.now ≡ guarded_tree false t → IsSound schema.fields t
-        → result ≡ min (depth (query_expr schema t)) (2 ^ 64 - 1) }
+fn query_depth(schema: &Schema, written: &Tree) -> usize
+    ensures { (t : Plain) → tree_view written.now ≡ guarded_tree false t → IsSound schema.now.fields t
+        → result ≡ min (depth (query_expr schema.now t)) (2 ^ 64 - 1) }
 {
-    tree_depth(written)
+    tree_depth(schema.fields.as_slice(), written)
 }
 
 fn refused(code: Code, place: Place, count: usize, limit: usize) -> Fault
@@ -152,7 +151,7 @@ impl Sqlite {
     {
         tree_is_query();
         let written = guarded(alloc, tree, false)?;
-        let depth = query_depth(&written);
+        let depth = query_depth(schema, &written);
         if depth > limits.sql_depth {
             return Err(refused(Code::QUERY_TOO_DEEP, place, depth, limits.sql_depth));
         }

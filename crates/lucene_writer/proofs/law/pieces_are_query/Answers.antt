@@ -6,9 +6,10 @@ pub returns : goal.returns
 returns c =
     let pattern = c.patterns_are_written.ensures in
     let leaf = c.leaves_are_written.ensures in
+    let range = c.ranges_are_written.ensures in
     record {
-      text = λ schema t sound. (texts_are schema.fields pattern leaf t sound).whole;
+      text = λ schema t sound. (texts_are schema.fields pattern leaf range t sound).whole;
       opens = λ most schema t sound. opens_are schema.fields most t sound;
       clauses = λ most schema t sound.
-          clauses_are schema.fields most (λ u s. (texts_are schema.fields pattern leaf u s).denies) (λ us s. (and_row schema.fields pattern leaf us s).1) t sound;
+          clauses_are schema.fields most (λ u s. (texts_are schema.fields pattern leaf range u s).denies) (λ us s. (and_row schema.fields pattern leaf range us s).1) t sound;
     }

@@ -14,7 +14,7 @@ returns c = λ limit schema t index sound free near.
     let fields = schema.fields in
     let written = lucene_tree fields t in
     let leaves = tree_sound fields (c.leaves_are_sound.ensures.term fields) (c.leaves_are_sound.ensures.everything fields) (c.leaves_are_read.ensures.term fields)
-    c.numbers_are_taken.ensures.value c.numbers_are_taken.ensures.number number_scalars index t sound free in
+    (c.ranges_are_read.ensures.sound fields) (c.ranges_are_read.ensures.read fields) c.numbers_are_taken.ensures.value c.numbers_are_taken.ensures.number number_scalars index t sound free in
     let within = c.layout_is_read.ensures.within limit schema written leaves near in
     let scalars = c.layout_is_read.ensures.scalars fields written leaves in
     record {
@@ -30,6 +30,6 @@ returns c = λ limit schema t index sound free near.
           subst (λ (b : Bool). (b ≡ true) ↔ TreeHolds row t) (sym (c.layout_selects.ensures fields row written))
           (is_so (tree_value fields row written) (TreeHolds row t)
           (told_is fields (c.leaves_are_sound.ensures.term fields) (c.leaves_are_sound.ensures.everything fields) (c.leaves_are_read.ensures.term fields)
-          c.numbers_are_taken.ensures.value c.numbers_are_taken.ensures.number number_scalars index row event
-          (c.atoms_hold.ensures.value row) (c.atoms_hold.ensures.term row) c.patterns_are_terms.ensures.pattern c.patterns_are_terms.ensures.number t sound free));
+          (c.ranges_are_read.ensures.sound fields) (c.ranges_are_read.ensures.read fields) c.numbers_are_taken.ensures.value c.numbers_are_taken.ensures.number number_scalars index row event
+          (c.atoms_hold.ensures.value row) (c.atoms_hold.ensures.term row) (c.atoms_hold.ensures.range row) c.patterns_are_terms.ensures.pattern c.patterns_are_terms.ensures.number t sound free));
     }

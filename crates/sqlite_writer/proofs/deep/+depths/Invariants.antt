@@ -12,4 +12,4 @@ decreases-tree_depth l = 2 * nodes (tree_view l.tree.now)
 
 abbrev pub invariant-parts_depth-loop-part : goal.invariant-parts_depth-loop-part
 invariant-parts_depth-loop-part l =
-    row_behind (2 ^ 64 - 1) l.depth (items_depth (2 ^ 64 - 1) (drop l.part-index l.parts)) ≡ row_behind (2 ^ 64 - 1) None (items_depth (2 ^ 64 - 1) l.parts)
+    row_behind (2 ^ 64 - 1) l.depth (items_depth (2 ^ 64 - 1) l.fields (drop l.part-index l.parts)) ≡ row_behind (2 ^ 64 - 1) None (items_depth (2 ^ 64 - 1) l.fields l.parts)

@@ -17,7 +17,8 @@ pub returns : goal.returns
 returns c = λ limit schema t found sound none some deep.
     let fields = schema.fields in
     let leaves = c.leaves_are_sound.ensures in
-    let sound_named = named_sound fields (leaves.value fields) (leaves.no_value fields) (leaves.text fields) (leaves.number fields) (leaves.like fields) (leaves.glob fields)
+    let sound_named = named_sound fields (leaves.value fields) (leaves.no_value fields) (leaves.text fields) (leaves.number fields) (leaves.texts fields) (leaves.wholes fields)
+    (leaves.like fields) (leaves.glob fields)
     found.names found.found in
     let each_sound = tree_each fields (IsSoundLeaf fields) (leaves.never fields) sound_named false t sound in
     let each_calm = tree_each fields (IsCalm limit) (calm_never limit some (leaves.never fields).writable)

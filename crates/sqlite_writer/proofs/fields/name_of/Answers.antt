@@ -1,7 +1,7 @@
 use Rattle.std.proofs.Common.{sym, ◌∙◌}
 use Rattle.std.proofs.lemmas.Str.{chars-nil}
 use Rattle.sqlite_writer.proofs.Names.{name_within, name_past}
-use Rattle.sqlite_writer.proofs.walk.name_of.Goals as goal
+use Rattle.sqlite_writer.proofs.fields.name_of.Goals as goal
 
 pub returns-in-Some : goal.returns-in-Some
 returns-in-Some c =
