@@ -4,7 +4,7 @@
     python3 bench/against_sqlite.py PROGRAM [--rules N] [--seed S] [--indexes] [--schema] [--run] [--query] [--lucene]
 
 PROGRAM is the built program, as crates/sigma_app/out/sigma_app. It makes N small rules of odd values (wildcards, escapes, quotes,
-signs of LIKE and GLOB, letters beyond ASCII, numbers, null, lists, each modifier, conditions that nest; one in 200 has a list of
+signs of LIKE and GLOB, letters beyond ASCII, numbers, null, lists, networks, each modifier, conditions that nest; one in 200 has a list of
 1,000 to 4,096 values), has the program
 convert them, and runs each query over random events in a table of texts. The rows that SQLite selects have to be those
 that the rule matches by a plain reading of what was made, which shares no code with the program. It prints each rule that differs, and the
@@ -26,6 +26,7 @@ their case in a twin; those for which Lucene lacks something (111) or that have 
 """
 import argparse
 import base64
+import ipaddress
 import json
 import os
 import random
@@ -35,11 +36,13 @@ import subprocess
 import sys
 import tempfile
 
-FIELDS = ["Image", "User", "Cmd", "a b"]
+FIELDS = ["Image", "User", "Cmd", "a b", "Ip"]
+ADDRESSED = ["Ip"]  # the fields that networks are asked of
 SIGNS = list("aAbB*?\\%_[]-/'\" .éÉ1")
 CHAINS = [[], [], ["contains"], ["startswith"], ["endswith"], ["contains", "all"], ["cased"], ["cased", "contains"], ["all"],
           ["endswith", "cased"], ["windash"], ["windash", "contains"], ["cased", "windash", "startswith"], ["base64"], ["base64", "contains"], ["base64offset", "contains"],
           ["wide", "base64offset", "contains"], ["utf16be", "base64", "all", "contains"], ["utf16", "base64"], ["cased", "base64offset", "contains"], ["utf16le", "base64offset"]]
+NETWORKS = ["10.0.0.0/8", "10.0.0.0/7", "11.1.2.3/8", "0.0.0.0/0", "192.168.4.0/22", "192.168.5.7", "192.168.5.6/31", "192.168.5.7/32", "192.168.0.0/17"]
 PLACES = {"contains", "startswith", "endswith"}
 ENCODINGS = {"base64", "base64offset"}
 UNITS = {"wide": "utf-16-le", "utf16le": "utf-16-le", "utf16be": "utf-16-be"}
@@ -78,6 +81,14 @@ def some_value(rng, chain, whole=False):
     return some_text(rng)
 
 
+def some_address(rng):
+    """What a field of addresses may have: an address, often near a network's, or a text that doesn't begin as one."""
+    address = rng.choice(["10", "11", "9", "12", "192.168", "192.169", "192.168.5", "192.168.7", "192.168.8", "192.168.127", "192.168.128"]).split(".")
+    while len(address) < 4:
+        address.append(str(rng.choice([0, 5, 6, 7, 255, rng.randrange(256)])))
+    return rng.choice([None, "", "host", "1234.5"] + [".".join(address)] * 8)
+
+
 def some_encoded(rng):
     """Data in base64 that has a value of the rules somewhere, perhaps."""
     value = rng.choice(["ab", "-enc", "\u00e9x", "a/b", some_text(rng)]).encode(rng.choice(["utf-8", "utf-16-le", "utf-16-be", "utf-16"]))
@@ -89,6 +100,8 @@ def some_item(rng):
     field = rng.choice(FIELDS)
     if rng.randrange(12) == 0:
         return field, ["exists"], [rng.choice([True, False])]
+    if field in ADDRESSED and rng.randrange(3):
+        return field, rng.choice([["cidr"], ["cidr"], ["cidr", "all"]]), [rng.choice(NETWORKS) for _ in range(rng.choice([1, 1, 2]))]
     chain = rng.choice(CHAINS)
     return field, chain, [some_value(rng, chain, field in WHOLE) for _ in range(rng.choice([1, 1, 1, 2, 3]))]
 
@@ -124,7 +137,7 @@ def some_event(rng):
             return str(rng.randrange(-20, 20))
         return rng.choice(["true", "False", ""]) if kind == 2 else some_text(rng)
 
-    return {field: rng.choice([None, some_number(rng)]) if field in WHOLE else value() for field in FIELDS}
+    return {field: rng.choice([None, some_number(rng)]) if field in WHOLE else some_address(rng) if field in ADDRESSED else value() for field in FIELDS}
 
 
 # ---- how it is written
@@ -260,6 +273,11 @@ def satisfied(chain, value, found):
     """Whether what an event has in a field satisfies one value."""
     if value is None or found is None:
         return value is None and found is None
+    if "cidr" in chain:
+        try:
+            return ipaddress.IPv4Address(found) in ipaddress.IPv4Network(value, strict=False)
+        except ValueError:
+            return False
     found = str(found)
     if isinstance(value, int) and not isinstance(value, bool):
         parts = [(digit,) for digit in str(value)]
@@ -338,7 +356,7 @@ def schema_words(folder, always=False):
     """The option for the schema's file, which is written here, if there is one or if it's wanted always."""
     if not WHOLE and not always:
         return []
-    fields = [{"name": field, "kind": "whole" if field in WHOLE else "text", "search": field in SEARCHED, "cased": field not in WHOLE} for field in FIELDS]
+    fields = [{"name": field, "kind": "whole" if field in WHOLE else "address" if field in ADDRESSED else "text", "search": field in SEARCHED, "cased": field not in WHOLE} for field in FIELDS]
     with open(os.path.join(folder, "schema.json"), "w", encoding="utf-8") as file:
         json.dump({"fields": fields}, file)
     return ["--schema", "schema.json"]
@@ -397,7 +415,8 @@ def swapped(rng, detections):
     """An event whose values are values of the rule, in another case."""
     values = [value for alternatives in detections.values() for items in alternatives for _, _, values in items for value in values]
     numbers = [value for value in values if isinstance(value, int) and not isinstance(value, bool)]
-    return {field: rng.choice(numbers + [None]) if field in WHOLE else str(rng.choice(values + [""])).swapcase() for field in FIELDS}
+    return {field: rng.choice(numbers + [None]) if field in WHOLE else some_address(rng) if field in ADDRESSED else str(rng.choice(values + [""])).swapcase()
+            for field in FIELDS}
 
 
 def tried(databases, rng, rule, query, line, wrong, run, ask):
