@@ -12,15 +12,18 @@ use Rattle.event_schema.specs.declared.schema.FieldKind.TheVariants as kinds
 use Rattle.event_schema.specs.declared.schema.Schema.{Schema}
 use Rattle.field_numbers.specs.Numbers.{number_of}
 use Rattle.modifier_chains.specs.declared.modifier.Joined.TheVariants.{All}
-use Rattle.rule_items.specs.Whole.{IsWholeValue, IsWholeItem, IsWholeDetection}
+use Rattle.rule_items.specs.Whole.{IsWholeValue, IsWholeDetection}
 use Rattle.rule_items.specs.declared.detection.Detection.{Detection}
+use Rattle.rule_items.specs.declared.item.Fields.TheVariants.{Names}
 use Rattle.rule_items.specs.declared.item.Item.{Item}
 use Rattle.rule_lowering.proofs.Found.{each_name, each_passes}
 use Rattle.rule_matching.proofs.Iffs.{iff_same, over_flat}
 use Rattle.rule_model.specs.Plain.{PlainRule}
 use Rattle.rule_model.specs.Whole.{IsWhole}
-use Rattle.rule_schema.specs.Inferred.{item_line, fit_refusal, items_of}
+use Rattle.rule_schema.specs.Inferred.{is_field, fields_refusal, item_line, fit_refusal, items_of}
 use Rattle.rule_schema.specs.Kinds.{asks_address, ask_address, is_address, is_address_field, are_of_kinds}
+use Rattle.sig_base.specs.declared.refusal.Place.{Place}
+use Rattle.sig_base.specs.Judged.{must, first}
 use Rattle.sig_modifiers.specs.PlainTests.{IsPlainNetwork, IsPlainTest, ArePlainTests, IsPatternTest}
 use Rattle.sig_modifiers.specs.declared.test.Test.{Test}
 use Rattle.sig_modifiers.specs.declared.test.Test.TheVariants as tests
@@ -30,6 +33,16 @@ each_both P Q [] p q = tt
 each_both P Q (x ∷ xs) p q = ((p.0, q.0), each_both P Q xs p.1 q.1)
 
 -- ---- items that pass
+
+both_hold : (place : Place) (a b : Bool) → first (must 81 place a ∷ must 82 place b ∷ []) ≡ None → (a ≡ true) × (b ≡ true)
+both_hold place true true h = (refl, refl)
+both_hold place true false h = absurd cc
+both_hold place false b h = absurd cc
+
+-- an item's names that fit are fields, of the kinds that its tests stand on
+pub names_fit : (fields : List Field) (place : Place) (values : List (List Test)) (names : List (List ℕ)) → fields_refusal fields place values (Names names) ≡ None
+    → (list_all (is_field fields) names ≡ true) × (are_of_kinds fields values names ≡ true)
+names_fit fields place values names h = both_hold place (list_all (is_field fields) names) (are_of_kinds fields values names) h
 
 module _ (fields : List Field) where
   abbrev pub ItemPasses : Item → Type 0

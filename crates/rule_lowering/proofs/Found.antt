@@ -35,7 +35,7 @@ each_name p holds (name ∷ names) h =
     let both = and_parts (p name) (list_all p names) h in
     (holds name both.0, each_name p holds names both.1)
 
-pub first_step : (r : Option Refusal) (rs : List (Option Refusal)) → first (r ∷ rs) ≡ None → (r ≡ None) × (first rs ≡ None)
+first_step : (r : Option Refusal) (rs : List (Option Refusal)) → first (r ∷ rs) ≡ None → (r ≡ None) × (first rs ≡ None)
 first_step None rs h = (refl, h)
 first_step (Some x) rs h = absurd (cc)
 

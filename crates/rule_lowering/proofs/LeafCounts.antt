@@ -1,5 +1,5 @@
 -- The code's count is the number of a tree's tests, up to the greatest number.
-use Rattle.std.proofs.Common.{ℕ, zero, suc, ◌≡◌, ◌+◌, ◌*◌, ◌≤◌, ◌^◌, min, refl, sym, ap, ◌∙◌, List, [], ◌∷◌, length, map, sum_by, slice_index, arith}
+use Rattle.std.proofs.Common.{false, ℕ, zero, suc, ◌≡◌, ◌+◌, ◌*◌, ◌≤◌, ◌^◌, min, refl, sym, ap, ◌∙◌, List, [], ◌∷◌, length, map, sum_by, slice_index, arith}
 use Rattle.std.specs.Prelude.{Option, Some, None}
 use Rattle.std.specs.List.{flat_map}
 use Rattle.std.proofs.Math.Nat.{mul-suc, add-mul}
@@ -197,12 +197,13 @@ pub form_trees_are : (fields : List Field) (ds : List Detection) (fs : List Plai
 form_trees_are fields ds [] = refl
 form_trees_are fields ds (f ∷ fs) = ap (λ (ts : List Plain). form_tree fields ds f ∷ ts) (form_trees_are fields ds fs)
 
-pub rule_leaves : (counted : (parts : List Part) → length (choices parts) ≡ 5 ^ dash_count parts) (most : ℕ) (schema : Schema) (rule : PlainRule)
+pub rule_leaves : (counted : (parts : List Part) → length (choices parts) ≡ 5 ^ dash_count parts)
+    (networks_counted : (n : Net) → length (patterns_of n) ≡ pattern_count n) (most : ℕ) (schema : Schema) (rule : PlainRule)
     → rule_count most (length (searched schema.fields)) rule ≡ min (leaves (tree_of schema rule)) most
-rule_leaves counted most schema rule =
+rule_leaves counted networks_counted most schema rule =
     let fields = schema.fields in
     let ds = rule.detections in
-    forms_leaves counted fields most ds (forms_of rule.conditions)
+    forms_leaves counted networks_counted fields most ds (forms_of rule.conditions)
     ∙ (ap (λ (ts : List Plain). min (sum_by leaves ts) most) (form_trees_are fields ds rule.conditions)
     ∙ ap (λ n. min n most) (sym (join_leaves Any (map (form_tree fields ds) rule.conditions))))
 

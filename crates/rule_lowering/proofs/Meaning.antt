@@ -42,8 +42,7 @@ use Rattle.rule_lowering.specs.TreeOf.{leaf_test, written_tree, written_tests, t
 use Rattle.field_numbers.specs.Numbers.{number_of, searched}
 use Rattle.rule_matching.proofs.Iffs.{iff_same, iff_then, iff_back, iff_not, iff_both, iff_either, over_map, some_same, some_filtered}
 use Rattle.rule_lowering.proofs.JoiningLemmas.{join_holds, join_map, join_good}
-use Rattle.rule_lowering.proofs.Fitted.{IsMet, AreMet, ItemPasses, DetectionPasses, Fine, each_both, patterns_met, names_met, rule_fine}
-use Rattle.rule_lowering.proofs.Found.{must_holds, first_step}
+use Rattle.rule_lowering.proofs.Fitted.{IsMet, AreMet, ItemPasses, DetectionPasses, Fine, each_both, names_fit, patterns_met, names_met, rule_fine}
 use Rattle.rule_lowering.proofs.TestMeaning.{IsLeafTest, Passes, leaf_holds, some_each, test_means}
 
 -- where there is no value behind the last field's
@@ -202,7 +201,7 @@ module _
         (λ name. EachOf (AreMet (named_kind name)) values)
         (λ name met. joined_means j (value_tree place (named_kind name) (number_of fields name)) (FieldSatisfies fields row name) (AreMet (named_kind name))
         (value_means place name) values met)
-        names (names_met fields values names whole (must_holds 82 place _ (first_step _ _ (first_step _ _ fits).1).0))
+        names (names_met fields values names whole (names_fit fields place values names fits).1)
 
     item_means : (i : Item) → IsWholeItem i × ItemPasses fields i → TreeHolds row (item_tree fields i) ↔ ItemHolds fields row i
     item_means i h = fields_mean i.place i.joined i.tests i.fields h.0.fields h.0.each h.1

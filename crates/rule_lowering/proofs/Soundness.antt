@@ -41,8 +41,8 @@ use Rattle.field_numbers.specs.Numbers.{number_of, searched}
 use Rattle.rule_lowering.specs.WholeNumbers.{is_whole, written_number}
 use Rattle.rule_lowering.proofs.Decimals.{characters, own_text, characters_written, low_decimal, low_plain}
 use Rattle.field_numbers.proofs.Found.{field_within, searched_within}
-use Rattle.rule_lowering.proofs.Fitted.{each_both, ItemPasses, DetectionPasses, Fine, rule_fine}
-use Rattle.rule_lowering.proofs.Found.{some_searched, must_holds, each_name, first_step}
+use Rattle.rule_lowering.proofs.Fitted.{each_both, ItemPasses, DetectionPasses, Fine, names_fit, rule_fine}
+use Rattle.rule_lowering.proofs.Found.{some_searched, must_holds, each_name}
 use Rattle.rule_matching.proofs.Iffs.{each_append}
 use Rattle.rule_lowering.proofs.Written.{whole_holds, written_is}
 
@@ -262,7 +262,7 @@ module _ (choices_plain : (parts : List Part) → IsDashedPattern parts → Each
     fields_sound place j values (Names names) w s h fits =
         join_map_sound (λ name. number_of fields name < length fields) Any (λ name. number_tree fields place j values (number_of fields name))
         (λ name within. values_sound place j values s h (number_of fields name) within)
-        names w.0 (each_name _ (field_within fields) names (must_holds 81 place _ (first_step _ _ fits).0))
+        names w.0 (each_name _ (field_within fields) names (names_fit fields place values names fits).0)
 
     item_sound : (i : Item) → IsWholeItem i × ItemPasses fields i → IsSound fields (item_tree fields i)
     item_sound i h = fields_sound i.place i.joined i.tests i.fields h.0.fields h.0.some h.0.each h.1

@@ -1,5 +1,5 @@
 -- Fields made of names, one after the other.
-use Rattle.std.proofs.Common.{ℕ, ◌≡◌, ◌+◌, List, [], ◌∷◌, ◌++◌, length, map, ap, sym, ◌∙◌, append_assoc, append-nil, arith, refl}
+use Rattle.std.proofs.Common.{ℕ, ◌≡◌, ◌+◌, List, [], ◌∷◌, ◌++◌, length, map, ap, sym, ◌∙◌, append_assoc, append-nil, arith}
 use Rattle.event_schema.specs.declared.schema.Field.{Field}
 
 -- one more name is made a field

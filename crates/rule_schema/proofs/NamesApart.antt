@@ -10,7 +10,6 @@ use Rattle.sig_base.specs.declared.refusal.Refusal.{Refusal}
 use Rattle.sig_base.specs.Judged.{refusal}
 use Rattle.event_schema.specs.Names.{IsName}
 use Rattle.event_schema.specs.Schemas.{IsOther, AreApart, twin, IsField, names_of, IsSchema}
-use Rattle.event_schema.specs.declared.schema.Field.{Field}
 use Rattle.rule_schema.specs.Inferred.{Use, clashes, clash_behind, distinct, uses_of, items_of, rule_names, inferred_schema, schema_refusal, made_field}
 use Rattle.rule_schema.specs.Kinds.{address_names, names_in}
 use Rattle.event_schema.specs.Lists.{EachOf}

@@ -1,5 +1,5 @@
 -- A value that isn't refused has tests, one list of them, which isn't empty.
-use Rattle.std.proofs.Common.{◌≡◌, ℕ, Bool, true, false, List, [], ◌∷◌, map as list_map, refl, sym, ◌∙◌, ap, subst}
+use Rattle.std.proofs.Common.{◌≡◌, ℕ, List, [], ◌∷◌, map as list_map, refl, sym, ◌∙◌, ap, subst}
 use Rattle.std.specs.Prelude.{Option, Some, None, length}
 use Rattle.event_schema.specs.Lists.{HasElement}
 use Rattle.modifier_chains.specs.Written.{Written}
@@ -37,7 +37,7 @@ module _ (same : (chain : Written) (t : List ℕ) (patterns others : List (List 
 -- where each text stands for some patterns, and is some network unless it's refused
 module _ (some : (chain : Written) (t : List ℕ) → (patterns : List (List Part)) × ArePatterns chain t patterns)
     (some_network : (most dashes : ℕ) (chain : Written) (place : Place) (t : List ℕ) → use_refusal most dashes chain place (network t) ≡ None
-        → (n : Net) × IsNetwork t n) where
+    → (n : Net) × IsNetwork t n) where
   use_some : (most dashes : ℕ) (chain : Written) (place : Place) (u : Use) → use_refusal most dashes chain place u ≡ None
       → (ts : List Test) × UseTests chain u ts
   use_some most dashes chain place unused h = absurd cc

@@ -10,7 +10,9 @@ ghost use Rattle.sig_modifiers.specs.PlainTests.{ArePlainTests, IsPatternTest};
 ghost use Rattle.sig_modifiers.specs.TestsOf.{TestsOf, value_refusal};
 ghost use Rattle.sig_modifiers.specs.declared.test.Test.{Test};
 
-use value_patterns::{networks_are_bounded, one_list_of_patterns, one_network, patterns_are_dashed};
+use value_patterns::{
+    networks_are_bounded, one_list_of_patterns, one_network, patterns_are_dashed,
+};
 
 /// A chain makes one list of tests of a value, at most.
 pub fn one_tests()

@@ -1,7 +1,6 @@
-use Rattle.std.proofs.Common.{◌≡◌, ◌∙◌, ◌∷◌, sym, ap, length, map, arith, List}
+use Rattle.std.proofs.Common.{◌≡◌, ◌∙◌, ◌∷◌, ap, length, map, arith}
 use Rattle.std.specs.Prelude.{false}
 use Rattle.std.specs.Vec.Iter.{into_iter_items}
-use Rattle.sig_strings.specs.declared.part.Part.{Part}
 use Rattle.rule_lowering.proofs.ChoiceLemmas.{choice_tree, patterns_go, patterns_end}
 use Rattle.rule_lowering.proofs.lowering.lower_network.Goals as goal
 

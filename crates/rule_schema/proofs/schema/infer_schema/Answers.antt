@@ -2,7 +2,6 @@ use Rattle.std.proofs.Common.{◌≡◌, ◌∙◌, ◌<◌, ◌≤◌, ◌^◌,
 use Rattle.std.specs.Prelude.{codes, None}
 use Rattle.event_schema.specs.Schemas.{IsSchema}
 use Rattle.event_schema.specs.declared.schema.Field.{Field}
-use Rattle.event_schema.specs.declared.schema.Schema.{Schema}
 use Rattle.sig_base.proofs.TextLemmas.{ascii_chars}
 use Rattle.rule_schema.specs.Inferred.{items_of, rule_names, made_field, inferred_schema}
 use Rattle.rule_schema.specs.Kinds.{address_names}

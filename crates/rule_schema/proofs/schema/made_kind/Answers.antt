@@ -1,4 +1,4 @@
-use Rattle.std.proofs.Common.{◌≡◌, sym, ◌∙◌, Some, None}
+use Rattle.std.proofs.Common.{◌≡◌, ◌∙◌}
 use Rattle.rule_schema.proofs.Asked.{kind_found, kind_missing}
 use Rattle.rule_schema.proofs.schema.made_kind.Goals as goal
 
