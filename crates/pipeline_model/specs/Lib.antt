@@ -1,0 +1,7 @@
+pub mod Concerned
+pub mod Words
+pub mod Causes
+pub mod Shapes
+pub mod Checks
+pub mod Pipelines
+pub mod Reading

@@ -1,0 +1,19 @@
+//! Processing pipelines: lists of steps that change rules, with the values of their placeholders.
+#![tactic(auto)]
+
+pub use pipeline::{Pipeline, Var};
+pub use step::{Action, Choice, FieldCond, Pair, Step};
+
+mod causes;
+mod checks;
+mod concerning;
+mod conditions;
+mod copying;
+mod items;
+mod pipeline;
+mod reading;
+mod shapes;
+mod step;
+#[cfg(test)]
+mod tests;
+mod words;
