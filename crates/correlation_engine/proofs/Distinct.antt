@@ -1,6 +1,6 @@
 -- The set of the texts that are counted in a window.
-use Rattle.std.proofs.Common.{◌≡◌, ℕ, ◌+◌, ◌-◌, ◌<◌, ◌≤◌, Bool, true, false, cond, List, [], ◌∷◌, refl, ap, sym, ◌∙◌, arith, length}
-use Rattle.std.specs.Prelude.{Option, Some, None, not, ◌||◌, if◌then◌else◌, encode_utf8_all, drop, map, get_or}
+use Rattle.std.proofs.Common.{◌≡◌, ℕ, ◌+◌, ◌-◌, ◌<◌, ◌≤◌, Bool, true, false, cond, List, ◌∷◌, refl, ap, sym, ◌∙◌, arith, length}
+use Rattle.std.specs.Prelude.{Option, Some, None, not, ◌||◌, if◌then◌else◌, encode_utf8_all, drop, get_or}
 use Rattle.std.specs.List.{list_any, cons_option}
 use Rattle.std.specs.Str.{bytes_eq}
 use Rattle.std.specs.Borrow.{Bor}

@@ -2,6 +2,8 @@ pub mod Adding
 pub mod Distinct
 pub mod Grouping
 pub mod Placing
+pub mod Reaching
 pub mod Standing
 pub mod Stepping
+pub mod Timely
 pub mod Walking

@@ -1,24 +1,21 @@
 -- What an engine stands for.
 use Rattle.std.proofs.Common.{◌≡◌, ℕ, ◌+◌, ◌-◌, ◌^◌, ◌≤◌, min, Bool, true, false, cond, List, [], ◌∷◌, ◌++◌, refl, ap, sym, subst, ◌∙◌, arith, length}
-use Rattle.std.proofs.lemmas.Int.{ints}
 use Rattle.std.proofs.lemmas.List.{drop_more}
-use Rattle.std.specs.Prelude.{ℤ, ◌≤ℤ◌, ◌<◌, Option, Some, None, map, if◌then◌else◌, drop, get_or}
+use Rattle.std.specs.Prelude.{ℤ, ◌<◌, Option, Some, None, if◌then◌else◌, drop, get_or}
 use Rattle.std.specs.List.{AllByRecursion}
 use Rattle.std.specs.Map.{lookup}
 use Rattle.correlation_windows.specs.Groups.{same_group}
-use Rattle.correlation_windows.specs.Heaps.{IsUntil}
+use Rattle.correlation_windows.specs.Heaps.{IsInTime, IsUntil}
 use Rattle.correlation_windows.specs.History.{Taken, Grouped, event_matches, matches_of, last_moment}
-use Rattle.correlation_windows.specs.Kept.{kept, Holds, HoldsEach, queue_of, State, StandsFor}
+use Rattle.correlation_windows.specs.Kept.{kept, Holds, HoldsEach, queue_of}
 use Rattle.correlation_windows.specs.Laws.{IsBehind}
 use Rattle.correlation_windows.specs.Queues.{Entries, held, items_of}
-use Rattle.correlation_windows.specs.Ready.{UntilEach}
 use Rattle.correlation_windows.specs.Reports.{reports_from, reports_after}
 use Rattle.correlation_windows.specs.declared.bound.Bound.{Bound}
-use Rattle.correlation_windows.specs.declared.matches.Match.{Match}
 use Rattle.correlation_windows.proofs.Windowing.{suffices}
 use Rattle.correlation_engine.specs.Engines.{plain, bounds_of, queues_of, IsNew, IsWatch, IsEngine, total_kept}
 use Rattle.correlation_engine.specs.Limits.{IsWithinLimits}
-use Rattle.correlation_engine.specs.Steps.{Each, IsGrown, IsAdvanced, reports_each}
+use Rattle.correlation_engine.specs.Steps.{Each, IsTimely, IsGrown, IsAdvanced, reports_each}
 use Rattle.correlation_engine.specs.declared.watch.Watch.{Watch}
 
 plain_queue : (es : Entries) (g : List (List ℕ)) → queue_of (plain es) g ≡ held es g
@@ -42,7 +39,10 @@ new_holds (w ∷ ws) all = (holds_out w.queues.entries (kept w.bound []) all.0.e
 
 pub new_watches : (ws : List Watch) → AllByRecursion IsNew ws → AllByRecursion (IsWatch None) ws
 new_watches [] all = tt
-new_watches (w ∷ ws) all = (record { limits = all.0.limits; until = λ t behind g. subst (IsUntil t) (sym (all.0.empty g)) tt }, new_watches ws all.1)
+new_watches (w ∷ ws) all = (
+  record { limits = all.0.limits; in_time = λ g. subst IsInTime (sym (all.0.empty g)) tt; until = λ t behind g. subst (IsUntil t) (sym (all.0.empty g)) tt },
+  new_watches ws all.1,
+)
 
 -- growth changes nothing of it
 pub grown_holds : (history : List Taken) (xs ys : List Watch) → Each IsGrown xs ys → HoldsEach (queues_of xs) (bounds_of xs) history → HoldsEach (queues_of ys) (bounds_of ys) history
@@ -65,7 +65,11 @@ grown_watches last [] [] each all = tt
 grown_watches last [] (y ∷ ys) each all = absurd each
 grown_watches last (x ∷ xs) [] each all = absurd each
 grown_watches last (x ∷ xs) (y ∷ ys) each all = (
-  record { limits = subst IsWithinLimits (sym each.0.bound) all.0.limits; until = λ t behind g. subst (IsUntil t) (sym (each.0.same g)) (all.0.until t behind g) },
+  record {
+    limits = subst IsWithinLimits (sym each.0.bound) all.0.limits;
+    in_time = λ g. subst IsInTime (sym (each.0.same g)) (all.0.in_time g);
+    until = λ t behind g. subst (IsUntil t) (sym (each.0.same g)) (all.0.until t behind g);
+  },
   grown_watches last xs ys each.1 all.1,
 )
 
@@ -92,7 +96,7 @@ advanced_watches e last [] [] each all = tt
 advanced_watches e last [] (y ∷ ys) each all = absurd each
 advanced_watches e last (x ∷ xs) [] each all = absurd each
 advanced_watches e last (x ∷ xs) (y ∷ ys) each all =
-    (record { limits = subst IsWithinLimits (sym each.0.bound) all.0.limits; until = each.0.until }, advanced_watches e last xs ys each.1 all.1)
+    (record { limits = subst IsWithinLimits (sym each.0.bound) all.0.limits; in_time = each.0.in_time; until = each.0.until }, advanced_watches e last xs ys each.1 all.1)
 
 pub last_more : (history : List Taken) (e : Taken) → last_moment (history ++ e ∷ []) ≡ Some e.moment
 last_more [] e = refl
@@ -106,14 +110,10 @@ each_reports e history n (w ∷ ws) behind so =
     ap (λ rs. rs ++ reports_each e (n + 1) ws) (suffices n w.bound history e (held w.queues.entries) behind (holds_in w.queues.entries (kept w.bound history) so.0))
     ∙ ap (λ rs. reports_after n w.bound (matches_of w.bound history) (event_matches w.bound e) ++ rs) (each_reports e history (n + 1) ws behind so.1)
 
--- what a loop needs of each
-pub limits_each : (last : Option ℤ) (ws : List Watch) → AllByRecursion (IsWatch last) ws → AllByRecursion (λ w. IsWithinLimits w.bound) ws
-limits_each last [] all = tt
-limits_each last (w ∷ ws) all = (all.0.limits, limits_each last ws all.1)
-
-pub until_all : (last : Option ℤ) (t : ℤ) (ws : List Watch) → IsBehind last t → AllByRecursion (IsWatch last) ws → AllByRecursion (λ w. UntilEach t w.queues.entries) ws
-until_all last t [] behind all = tt
-until_all last t (w ∷ ws) behind all = (all.0.until t behind, until_all last t ws behind all.1)
+-- each can take an event that isn't earlier
+pub timely_all : (last : Option ℤ) (t : ℤ) (ws : List Watch) → IsBehind last t → AllByRecursion (IsWatch last) ws → AllByRecursion (IsTimely t) ws
+timely_all last t [] behind all = tt
+timely_all last t (w ∷ ws) behind all = (record { limits = all.0.limits; in_time = all.0.in_time; until = all.0.until t behind }, timely_all last t ws behind all.1)
 
 pub each_length : (R : Watch → Watch → Type 0) (xs ys : List Watch) → Each R xs ys → length ys ≡ length xs
 each_length R [] [] each = refl

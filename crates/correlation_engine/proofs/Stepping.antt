@@ -1,10 +1,9 @@
 -- Matches on their way into queues, and one correlation after the other.
-use Rattle.std.proofs.Common.{◌≡◌, ℕ, zero, suc, ◌+◌, ◌<◌, ◌≤◌, List, [], ◌∷◌, ◌++◌, refl, ap, sym, subst, ◌∙◌, arith, length}
+use Rattle.std.proofs.Common.{◌≡◌, ℕ, suc, ◌+◌, ◌<◌, List, [], ◌∷◌, ◌++◌, refl, ap, sym, subst, ◌∙◌, arith, length}
 use Rattle.std.proofs.Math.ListN.{set}
 use Rattle.std.proofs.lemmas.List.{append_assoc, map-append, drop_more}
 use Rattle.std.proofs.lemmas.Int.{ints}
-use Rattle.std.specs.Prelude.{ℤ, ◌≤ℤ◌, get_or, drop, map}
-use Rattle.std.specs.List.{AllByRecursion}
+use Rattle.std.specs.Prelude.{ℤ, ◌≤ℤ◌, get_or, drop}
 use Rattle.std.specs.declared.alloc.Global.{Global}
 use Rattle.std.specs.declared.vec.Vec.{Vec}
 use Rattle.correlation_windows.specs.Heaps.{IsUntil}
@@ -19,7 +18,7 @@ use Rattle.correlation_windows.specs.declared.report.Report.{Report}
 use Rattle.correlation_windows.proofs.Windowing as windowing
 use Rattle.correlation_engine.specs.Steps.{IsPrepared, ArePrepared, IsGrown, reports_each}
 use Rattle.correlation_engine.specs.declared.watch.Watch.{Watch}
-use Rattle.correlation_engine.proofs.Walking.{FirstTo, all_push}
+use Rattle.correlation_engine.proofs.Walking.{all_push}
 
 -- one match more has its empty queue
 pub queued_more : (old new : List Found) (f : Found) (own : Grouped) (before rest all : List Grouped) → before ≡ own ∷ rest → f.group ≡ own.0 → f.found ≡ own.1 → new ≡ old ++ f ∷ []

@@ -1,7 +1,7 @@
 -- Lists that are gone through in place.
-use Rattle.std.proofs.Common.{◌≡◌, ℕ, zero, suc, ◌+◌, ◌<◌, ◌≤◌, List, [], ◌∷◌, ◌++◌, refl, ap, sym, subst, ◌∙◌, arith, length}
+use Rattle.std.proofs.Common.{◌≡◌, ℕ, zero, suc, ◌+◌, ◌<◌, ◌≤◌, List, [], ◌∷◌, ◌++◌, refl, ap, sym, subst, arith, length}
 use Rattle.std.proofs.Math.ListN.{set}
-use Rattle.std.specs.Prelude.{get_or, drop, ⊤}
+use Rattle.std.specs.Prelude.{get_or, ⊤}
 use Rattle.std.specs.List.{AllByRecursion}
 use Rattle.correlation_engine.specs.Steps.{Each}
 

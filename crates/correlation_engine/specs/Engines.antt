@@ -1,8 +1,9 @@
 -- What an engine holds.
-use Rattle.std.specs.Prelude.{◌≡◌, ℕ, ◌+◌, ◌<◌, ◌^◌, ℤ, ◌<ℤ◌, List, [], ◌∷◌, map, length, Option, Some, None}
+use Rattle.std.specs.Prelude.{◌≡◌, ℕ, ◌+◌, ◌<◌, ◌^◌, ℤ, ◌<ℤ◌, List, [], ◌∷◌, map, length, Option, Some}
 use Rattle.std.specs.List.{AllByRecursion}
+use Rattle.correlation_windows.specs.Heaps.{IsInTime}
 use Rattle.correlation_windows.specs.History.{Taken}
-use Rattle.correlation_windows.specs.Kept.{State, kept}
+use Rattle.correlation_windows.specs.Kept.{kept}
 use Rattle.correlation_windows.specs.Laws.{IsBehind}
 use Rattle.correlation_windows.specs.Queues.{Entries, held}
 use Rattle.correlation_windows.specs.Ready.{UntilEach}
@@ -28,9 +29,10 @@ pub record IsNew (w : Watch) : Type 0 where
   pub limits : IsWithinLimits w.bound
   pub empty : (g : List (List ℕ)) → held w.queues.entries g ≡ []
 
--- no match is held that is later than a moment that isn't before the last one
+-- the matches of each group are in the order of time, and none is later than a moment that isn't before the last one
 pub record IsWatch (last : Option ℤ) (w : Watch) : Type 0 where
   pub limits : IsWithinLimits w.bound
+  pub in_time : (g : List (List ℕ)) → IsInTime (held w.queues.entries g)
   pub until : (t : ℤ) → IsBehind last t → UntilEach t w.queues.entries
 
 pub record IsEngine (last : Option ℤ) (ws : List Watch) : Type 0 where

@@ -1,5 +1,6 @@
 pub mod Arrivals
 pub mod Engines
+pub mod Extents
 pub mod Limits
 pub mod Sets
 pub mod Shown

@@ -1,5 +1,5 @@
 -- What holds of each correlation that was bound to rules and fields.
-use Rattle.std.specs.Prelude.{ℕ, ◌≤◌, ◌^◌, ℤ, pos, ◌≤ℤ◌, length}
+use Rattle.std.specs.Prelude.{◌≤◌, ◌^◌, pos, ◌≤ℤ◌, length}
 use Rattle.correlation_windows.specs.declared.bound.Bound.{Bound}
 
 -- at most 64 rules are listed, and the timespan is from 1 to 2^100 nanoseconds

@@ -2,6 +2,7 @@
 use Rattle.std.specs.Prelude.{◌≡◌, ℕ, ◌+◌, ℤ, ◌≤ℤ◌, List, [], ◌∷◌, ◌++◌, ⊤}
 use Rattle.std.specs.declared.alloc.Global.{Global}
 use Rattle.std.specs.declared.vec.Vec.{Vec}
+use Rattle.correlation_windows.specs.Heaps.{IsInTime}
 use Rattle.correlation_windows.specs.History.{Taken, event_matches, last_moment}
 use Rattle.correlation_windows.specs.Kept.{Holds, kept}
 use Rattle.correlation_windows.specs.Laws.{IsBehind}
@@ -10,6 +11,7 @@ use Rattle.correlation_windows.specs.Queues.{held}
 use Rattle.correlation_windows.specs.Ready.{HasRoom, UntilEach, grouped}
 use Rattle.correlation_windows.specs.declared.found.Found.{Found}
 use Rattle.correlation_windows.specs.declared.report.Report.{Report}
+use Rattle.correlation_engine.specs.Limits.{IsWithinLimits}
 use Rattle.correlation_engine.specs.declared.watch.Watch.{Watch}
 
 -- two lists are as long, and this holds of each element of the one and of the other
@@ -18,6 +20,12 @@ Each R [] [] = ⊤
 Each R [] (y ∷ ys) = ⊥
 Each R (x ∷ xs) [] = ⊥
 Each R (x ∷ xs) (y ∷ ys) = R x y × Each R xs ys
+
+-- a correlation that can take an event of this moment: the matches of each group are in the order of time, and none is later
+pub record IsTimely (moment : ℤ) (w : Watch) : Type 0 where
+  pub limits : IsWithinLimits w.bound
+  pub in_time : (g : List (List ℕ)) → IsInTime (held w.queues.entries g)
+  pub until : UntilEach moment w.queues.entries
 
 -- the same correlation with the same matches of each group
 pub record IsGrown (old new : Watch) : Type 0 where
@@ -39,6 +47,7 @@ ArePrepared e (w ∷ ws) (f ∷ fs) = IsPrepared e w f.items × ArePrepared e ws
 pub record IsAdvanced (e : Taken) (old new : Watch) : Type 0 where
   pub bound : new.bound ≡ old.bound
   pub holds : (history : List Taken) → IsBehind (last_moment history) e.moment → Holds (held old.queues.entries) (kept old.bound history) → Holds (held new.queues.entries) (kept old.bound (history ++ e ∷ []))
+  pub in_time : (g : List (List ℕ)) → IsInTime (held new.queues.entries g)
   pub until : (t : ℤ) → e.moment ≤ℤ t → UntilEach t new.queues.entries
 
 -- the reports of an event from the queues of correlations, which are numbered from here

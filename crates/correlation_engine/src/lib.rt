@@ -10,6 +10,7 @@ mod arrival;
 mod conditions;
 mod counting;
 mod engine;
+mod extents;
 mod fault;
 mod matching;
 mod places;

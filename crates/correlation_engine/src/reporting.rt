@@ -1,15 +1,19 @@
 //! The reports of an event for one correlation.
 
-ghost use Rattle.std.specs.Prelude.{◌≡◌, ◌++◌, ◌≤◌, [], ◌∷◌, length, IfOk, IfErr, OnOk};
-ghost use Rattle.std.specs.List.{filter};
+ghost use Rattle.std.specs.Prelude.{◌≡◌, ◌++◌, ◌≤◌, ℕ, [], ◌∷◌, List, length, IfOk, IfErr, OnOk};
+ghost use Rattle.std.specs.List.{AllByRecursion, filter};
+ghost use Rattle.correlation_windows.specs.Heaps.{IsInTime, IsUntil};
 ghost use Rattle.correlation_windows.specs.Over.{reports_over};
 ghost use Rattle.correlation_windows.specs.Queues.{held};
+ghost use Rattle.correlation_windows.specs.Ready.{UntilEach};
 ghost use Rattle.correlation_windows.specs.Reports.{report_of};
 ghost use Rattle.correlation_windows.specs.Windows.{is_within, of_group, number_of, fires};
+ghost use Rattle.correlation_windows.specs.declared.bound.CorrelationKind.TheVariants as kinds;
 ghost use Rattle.correlation_engine.specs.Shown.{shown};
 
 use crate::conditions::meets;
 use crate::counting::distinct_in;
+use crate::extents::extent_of;
 use crate::places::{meets_each, meets_in_order};
 use crate::windows::{first_line, window_of};
 use correlation_windows::{Bound, CorrelationKind, Group, Match, Queues, Report};
@@ -56,8 +60,41 @@ fn texts_of(alloc: Global, group: &Group) -> Result<Texts, Fault>
     Ok(texts)
 }
 
-/// Adds the report of a match of this group, the last of these of its event, if the correlation fires.
-fn add_report(
+/// Adds the report of a match of this group, the last of these of its event, if there are as many matches in its window
+/// as `event_count` asks for.
+fn add_counted(
+    alloc: Global,
+    reports: &mut Vec<Report>,
+    number: u32,
+    bound: &Bound,
+    queues: &Queues,
+    matches: &[(Group, Match)],
+    group: &Group,
+    at: &Match,
+) -> Result<(), Fault>
+    requires kind { bound.now.kind ≡ kinds.EventCount }
+    requires in_time { IsInTime (held queues.now.entries group.now) }
+    requires until { IsUntil at.now.moment (held queues.now.entries group.now) }
+    ensures ok { OnOk result (reports.new.items ≡ reports.old.items ++ report_of number bound.now (filter (is_within bound.now.span at.now.moment) (held queues.now.entries group.now ++ of_group group.now matches.now)) (group.now, at.now)) }
+    ensures err { IfErr result (λ e. e ≡ Fault.Memory) }
+{
+    let extent = extent_of(alloc, bound, queues, matches, group, at)?;
+    if !meets(bound.condition.as_slice(), extent.count) {
+        return Ok(());
+    }
+    let report = Report {
+        correlation: number,
+        line: at.line,
+        from: extent.from,
+        count: extent.count,
+        group: texts_of(alloc, group)?,
+    };
+    reports.push(report)?;
+    Ok(())
+}
+
+/// Adds the report of such a match, if the correlation fires in its window, which is gone through.
+fn add_searched(
     alloc: Global,
     reports: &mut Vec<Report>,
     number: u32,
@@ -87,6 +124,35 @@ fn add_report(
     Ok(())
 }
 
+/// Adds the report of a match of this group, the last of these of its event, if the correlation fires.
+fn add_report(
+    alloc: Global,
+    reports: &mut Vec<Report>,
+    number: u32,
+    bound: &Bound,
+    queues: &Queues,
+    matches: &[(Group, Match)],
+    group: &Group,
+    at: &Match,
+) -> Result<(), Fault>
+    requires rules { length bound.now.rules ≤ 64 }
+    requires in_time { IsInTime (held queues.now.entries group.now) }
+    requires until { IsUntil at.now.moment (held queues.now.entries group.now) }
+    ensures ok { OnOk result (reports.new.items ≡ reports.old.items ++ report_of number bound.now (filter (is_within bound.now.span at.now.moment) (held queues.now.entries group.now ++ of_group group.now matches.now)) (group.now, at.now)) }
+    ensures err { IfErr result (λ e. e ≡ Fault.Memory) }
+{
+    match bound.kind {
+        CorrelationKind::EventCount => {
+            add_counted(alloc, reports, number, bound, queues, matches, group, at)
+        }
+        CorrelationKind::ValueCount
+        | CorrelationKind::Temporal
+        | CorrelationKind::TemporalOrdered => {
+            add_searched(alloc, reports, number, bound, queues, matches, group, at)
+        }
+    }
+}
+
 /// Adds the reports of the matches of an event, by the queues of the events before.
 pub(crate) fn add_reports(
     alloc: Global,
@@ -96,7 +162,9 @@ pub(crate) fn add_reports(
     queues: &Queues,
     matches: &[(Group, Match)],
 ) -> Result<(), Fault>
-    requires { length bound.now.rules ≤ 64 }
+    requires rules { length bound.now.rules ≤ 64 }
+    requires in_time { (g : List (List ℕ)) → IsInTime (held queues.now.entries g) }
+    requires until { AllByRecursion (λ m. UntilEach m.1.moment queues.now.entries) matches.now }
     ensures ok { OnOk result (reports.new.items ≡ reports.old.items ++ reports_over number bound.now (held queues.now.entries) [] matches.now) }
     ensures err { IfErr result (λ e. e ≡ Fault.Memory) }
 {

@@ -1,12 +1,10 @@
 //! The two steps by which correlations take an event: one that may lack memory, and one that takes none.
 
-ghost use Rattle.std.specs.Prelude.{◌≡◌, ◌++◌, ◌<◌, ◌^◌, length, IfOk, IfErr, OnOk, Option, ℤ};
+ghost use Rattle.std.specs.Prelude.{◌≡◌, ◌++◌, ◌<◌, ◌^◌, length, IfOk, IfErr, OnOk};
 ghost use Rattle.std.specs.List.{AllByRecursion};
 ghost use Rattle.event_schema.specs.Occurrence.{IsMoment};
-ghost use Rattle.correlation_windows.specs.Ready.{UntilEach};
 ghost use Rattle.correlation_engine.specs.Arrivals.{taken};
-ghost use Rattle.correlation_engine.specs.Limits.{IsWithinLimits};
-ghost use Rattle.correlation_engine.specs.Steps.{Each, IsGrown, ArePrepared, IsAdvanced, reports_each};
+ghost use Rattle.correlation_engine.specs.Steps.{Each, IsTimely, IsGrown, ArePrepared, IsAdvanced, reports_each};
 
 use crate::arrival::Arrival;
 use crate::watch::{Watch, advance, prepare};
@@ -21,7 +19,7 @@ pub(crate) fn prepare_all(
     arrival: &Arrival,
     reports: &mut Vec<Report>,
 ) -> Result<Vec<Vec<Found>>, Fault>
-    requires limits { AllByRecursion (λ w. IsWithinLimits w.bound) watches.old.items }
+    requires timely { AllByRecursion (IsTimely arrival.now.moment) watches.old.items }
     requires few { length watches.old.items < 2 ^ 32 }
     ensures grown { Each IsGrown watches.old.items watches.new.items }
     ensures prepared { IfOk result (λ all. ArePrepared (taken arrival.now) watches.new.items all.items) }
@@ -39,9 +37,8 @@ pub(crate) fn prepare_all(
 
 /// Lets all correlations go on by an event with these matches. Takes no memory.
 pub(crate) fn advance_all(watches: &mut Vec<Watch>, all: Vec<Vec<Found>>, arrival: &Arrival)
-    requires limits { AllByRecursion (λ w. IsWithinLimits w.bound) watches.old.items }
     requires moment { IsMoment arrival.now.moment }
-    requires until { AllByRecursion (λ w. UntilEach arrival.now.moment w.queues.entries) watches.old.items }
+    requires timely { AllByRecursion (IsTimely arrival.now.moment) watches.old.items }
     requires prepared { ArePrepared (taken arrival.now) watches.old.items all.items }
     requires each { length all.items ≡ length watches.old.items }
     ensures { Each (IsAdvanced (taken arrival.now)) watches.old.items watches.new.items }

@@ -6,10 +6,9 @@ ghost use Rattle.correlation_windows.specs.History.{event_matches};
 ghost use Rattle.correlation_windows.specs.Laws.{IsBehind};
 ghost use Rattle.correlation_windows.specs.Over.{reports_over};
 ghost use Rattle.correlation_windows.specs.Queues.{held};
-ghost use Rattle.correlation_windows.specs.Ready.{AllFresh, UntilEach, grouped};
+ghost use Rattle.correlation_windows.specs.Ready.{AllFresh, grouped};
 ghost use Rattle.correlation_engine.specs.Arrivals.{taken};
-ghost use Rattle.correlation_engine.specs.Limits.{IsWithinLimits};
-ghost use Rattle.correlation_engine.specs.Steps.{IsGrown, IsPrepared, IsAdvanced};
+ghost use Rattle.correlation_engine.specs.Steps.{IsTimely, IsGrown, IsPrepared, IsAdvanced};
 
 use crate::arrival::Arrival;
 use crate::matching::matches_in;
@@ -48,7 +47,7 @@ pub(crate) fn prepare(
     arrival: &Arrival,
     reports: &mut Vec<Report>,
 ) -> Result<Vec<Found>, Fault>
-    requires { length watch.old.bound.rules ≤ 64 }
+    requires { IsTimely arrival.now.moment watch.old }
     ensures grown { IsGrown watch.old watch.new }
     ensures prepared { IfOk result (λ founds. IsPrepared (taken arrival.now) watch.new founds.items) }
     ensures reports { OnOk result (reports.new.items ≡ reports.old.items ++ reports_over number watch.old.bound (held watch.old.queues.entries) [] (event_matches watch.old.bound (taken arrival.now))) }
@@ -70,9 +69,8 @@ pub(crate) fn prepare(
 
 /// Goes on by an event with these matches. Takes no memory.
 pub(crate) fn advance(watch: &mut Watch, founds: Vec<Found>, arrival: &Arrival)
-    requires limits { IsWithinLimits watch.old.bound }
     requires moment { IsMoment arrival.now.moment }
-    requires until { UntilEach arrival.now.moment watch.old.queues.entries }
+    requires timely { IsTimely arrival.now.moment watch.old }
     requires prepared { IsPrepared (taken arrival.now) watch.old founds.items }
     ensures { IsAdvanced (taken arrival.now) watch.old watch.new }
 {

@@ -13,7 +13,7 @@ use std::alloc::Global;
 use std::collections::VecDeque;
 
 /// Whether the timespan up to a match reaches another one.
-fn is_within(bound: &Bound, at: &Match, found: &Match) -> bool
+pub(crate) fn is_within(bound: &Bound, at: &Match, found: &Match) -> bool
     ensures { result ≡ is_within bound.now.span at.now.moment found.now }
 {
     found.moment <= at.moment && at.moment.saturating_sub(found.moment) < bound.span
@@ -89,7 +89,7 @@ fn add_own<'m>(
 }
 
 /// Adds those matches of the same event that are of this group and within the timespan.
-fn add_all_own<'m>(
+pub(crate) fn add_all_own<'m>(
     window: &mut Vec<&'m Match>,
     bound: &Bound,
     at: &Match,

@@ -1,8 +1,7 @@
 -- Conditions that hold and conditions that don't, by computation.
-use Rattle.std.proofs.Common.{◌≡◌, ℕ, Bool, true, false, List, [], ◌∷◌, refl}
-use Rattle.std.specs.Prelude.{Option, Some, None, codes}
+use Rattle.std.proofs.Common.{◌≡◌, ℕ, true, false, List, [], ◌∷◌, refl}
+use Rattle.std.specs.Prelude.{Some, None, codes}
 use Rattle.rule_head.specs.declared.source.LogSource.{LogSource}
-use Rattle.pipeline_model.specs.declared.step.FieldCond.{FieldCond}
 use Rattle.pipeline_model.specs.declared.step.FieldCond.TheVariants.{Include, Exclude}
 use Rattle.pipeline_model.specs.Concerned.{conditions_hold, source_met, name_met, keyword_met}
 

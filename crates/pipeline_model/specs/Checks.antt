@@ -1,6 +1,6 @@
 -- Why a document is no pipeline (pySigma, processing pipelines): of all keys and values that aren't allowed the first by place, and
 -- at one place the one of the smallest code. A key that is missing is refused at its map, whose place is its first key's.
-use Rattle.std.specs.Prelude.{ℕ, Bool, true, false, not, ◌&&◌, ◌||◌, if◌then◌else◌, List, [], ◌∷◌, ◌++◌, map as list_map, codes, Option, Some, None, is_some}
+use Rattle.std.specs.Prelude.{ℕ, Bool, true, false, not, ◌&&◌, if◌then◌else◌, List, [], ◌∷◌, ◌++◌, map as list_map, codes, Option, Some, None, is_some}
 use Rattle.std.specs.List.{list_any}
 use Rattle.std.specs.Str.{bytes_eq}
 use Rattle.sig_base.specs.declared.limits.Limits.{Limits}

@@ -1,5 +1,5 @@
 -- What may still be refused of a document of which nothing was: the types of steps, and the items that they add.
-use Rattle.std.specs.Prelude.{List, [], ◌∷◌, map as list_map, Option}
+use Rattle.std.specs.Prelude.{[], ◌∷◌, map as list_map, Option}
 use Rattle.sig_base.specs.declared.limits.Limits.{Limits}
 use Rattle.sig_base.specs.declared.refusal.Refusal.{Refusal}
 use Rattle.sig_base.specs.Judged.{first}

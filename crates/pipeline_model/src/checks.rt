@@ -1,6 +1,6 @@
 //! Why a document is no pipeline.
 
-ghost use Rattle.std.specs.Prelude.{◌≡◌, [], ◌∷◌, true, map as list_map, codes, IfOk, IfErr};
+ghost use Rattle.std.specs.Prelude.{◌≡◌, true, map as list_map, codes, IfOk, IfErr};
 ghost use Rattle.std.specs.List.{list_any};
 ghost use Rattle.sig_base.specs.Judged.{Judged};
 ghost use Rattle.sig_base.specs.Texts.{is_ascii};

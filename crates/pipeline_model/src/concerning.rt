@@ -1,6 +1,6 @@
 //! Where a step acts.
 
-ghost use Rattle.std.specs.Prelude.{◌≡◌, ◌||◌, ◌&&◌, true, false, drop};
+ghost use Rattle.std.specs.Prelude.{◌≡◌, ◌&&◌, true, false};
 ghost use Rattle.std.specs.List.{list_any, list_all};
 ghost use Rattle.pipeline_model.specs.Concerned as spec;
 

@@ -34,7 +34,7 @@ fn write_rule<B: Backend>(
     backend.write(alloc, limits, schema, &tree, rule.head.place)
 }
 
-/// The query of a rule under a schema. In this order it is refused 81 or 83, 110, 111, 112 or 113, and 114.
+/// The query of a rule under a schema. In this order it is refused 81, 82 or 83, 110, 111, 112 or 113, and 114.
 fn convert_under<B: Backend>(
     backend: &B,
     alloc: Global,
@@ -86,7 +86,7 @@ fn convert_rule<B: Backend>(
 }
 
 /// The query of the rule that a node is, under the given schema or else the one that is made of the rule. What is refused is
-/// refused as `Rule::read_lone` says, and then 80 (where no schema is given), 81 or 83, 110, 111, 112 or 113, and 114.
+/// refused as `Rule::read_lone` says, and then 80 (where no schema is given), 81, 82 or 83, 110, 111, 112 or 113, and 114.
 pub fn convert_node<B: Backend>(
     backend: &B,
     alloc: Global,

@@ -44,7 +44,7 @@ pub record IsRun (limits : Limits) (given : Option Schema) (bytes : List ℕ) (r
   pub fits : unfit_refusal given rule ≡ None
 
 -- the first cause for which a file isn't run: it's no single rule, or the rule's names clash (80, where no schema is given), or an item
--- of it doesn't fit the schema (81 or 83)
+-- of it doesn't fit the schema (81, 82 or 83)
 pub data IsNotRun (limits : Limits) (given : Option Schema) (bytes : List ℕ) (r : Refusal) : Type 0 where
   no_single : IsNoSingleRule limits bytes r → IsNotRun limits given bytes r
   unfit : (rule : PlainRule) → IsSingleRule limits bytes rule → unfit_refusal given rule ≡ Some r → IsNotRun limits given bytes r

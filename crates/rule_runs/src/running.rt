@@ -20,7 +20,8 @@ pub struct SchemedRule {
     pub schema: Schema,
 }
 
-/// The rule that a file is run as under a schema. In this order it's refused 2, 1, 7, 84, by YAML, 146, as a rule, and 81 or 83.
+/// The rule that a file is run as under a schema. In this order it's refused 2, 1, 7, 84, by YAML, 146, as a rule, and 81,
+/// 82 or 83.
 pub fn rule_under(
     alloc: Global,
     limits: &Limits,

@@ -1,5 +1,7 @@
 //! Queries of comparisons, with a number and of two fields, known by hand.
 
+ghost use Rattle.std.specs.Prelude.{◌≤◌};
+
 use crate::Sqlite;
 use backend_core::{Leaf, LeafTest, Op, Tree};
 use event_schema::{Field, FieldKind, FieldList, Schema};
@@ -91,7 +93,10 @@ fn shown(alloc: Global, answer: Result<Bytes, Fault>) -> Result<String, Fail> {
 }
 
 /// The query of a tree, or its refusal, within this depth.
-fn written_within(alloc: Global, depth: usize, tree: &Tree) -> Result<String, Fail> {
+fn written_within(alloc: Global, depth: usize, tree: &Tree) -> Result<String, Fail>
+    requires low { 1 ≤ depth }
+    requires high { depth ≤ 1000 }
+{
     let schema = schema(alloc)?;
     let mut limits = Limits::standard();
     limits.sql_depth = depth;

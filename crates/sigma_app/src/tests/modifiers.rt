@@ -46,7 +46,7 @@ A|cidr: ::1/128~1~6:13: 44 BadNetwork
 A|contains|cidr: 10.0.0.0/8~1~6:5: 41 ChainNotAllowed"#;
 
 #[test]
-fn values_are_encoded(rt: HostRuntime) -> Result<(), Fail> {
+fn items_are_converted(rt: HostRuntime) -> Result<(), Fail> {
     let alloc = rt.alloc();
     for row in ROWS.lines() {
         let Some((line, rest)) = row.split_once('~') else {
@@ -98,6 +98,40 @@ fn dashes_are_chosen(rt: HostRuntime) -> Result<(), Fail> {
         &ran,
         0,
         "A:\\-a OR A:\\/a OR A:–a OR A:—a OR A:―a\n",
+        "",
+    );
+    Ok(())
+}
+
+const OUTSIDE: &str =
+    "title: T\nlogsource:\n  category: c\ndetection:\n  s:\n    A|cidr: 10.0.0.0/8\n  condition: not s\n";
+
+/// A pattern for each first octet; the same in Lucene, and below `not`.
+#[test]
+fn networks_are_chosen(rt: HostRuntime) -> Result<(), Fail> {
+    let alloc = rt.alloc();
+    let mut sql = String::new(alloc);
+    for octet in 0..256u32 {
+        let start = if octet == 0 {
+            "SELECT * FROM \"events\" WHERE "
+        } else {
+            " OR "
+        };
+        sql.push_str(&format!(in alloc; "{start}\"A\" LIKE '{octet}.%' ESCAPE '\\'")?)?;
+    }
+    sql.push('\n')?;
+    let rule = rule_of(alloc, "A|cidr: 0.0.0.0/0")?;
+    let ran = converted(alloc, &TO_SQLITE, rule.as_str())?;
+    check(&rt, &ran, 0, sql.as_str(), "");
+    let rule = rule_of(alloc, "A|cidr: 10.0.0.0/7")?;
+    let ran = converted(alloc, &TO_LUCENE, rule.as_str())?;
+    check(&rt, &ran, 0, "A:10.* OR A:11.*\n", "");
+    let ran = converted(alloc, &TO_SQLITE, OUTSIDE)?;
+    check(
+        &rt,
+        &ran,
+        0,
+        "SELECT * FROM \"events\" WHERE NOT (\"A\" IS NOT NULL AND \"A\" LIKE '10.%' ESCAPE '\\')\n",
         "",
     );
     Ok(())

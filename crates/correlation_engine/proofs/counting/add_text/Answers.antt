@@ -1,5 +1,5 @@
 use Rattle.std.specs.List.{filter_map}
-use Rattle.correlation_engine.proofs.Distinct.{set_more, set_same}
+use Rattle.correlation_engine.proofs.Distinct.{set_more}
 use Rattle.correlation_engine.proofs.counting.add_text.Goals as goal
 
 pub returns-in-Ok-clause-ok : goal.returns-in-Ok-clause-ok

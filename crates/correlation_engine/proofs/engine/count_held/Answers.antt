@@ -1,4 +1,4 @@
-use Rattle.std.proofs.Common.{rules, arith, ◌≡◌, ◌<◌, ◌≤◌, ◌-◌, ◌+◌, ◌^◌, min, length, ◌∙◌}
+use Rattle.std.proofs.Common.{rules, arith, ◌≡◌, ◌<◌, ◌-◌, ◌+◌, ◌^◌, min, length, ◌∙◌}
 use Rattle.correlation_engine.proofs.Standing.{count_step}
 use Rattle.correlation_engine.proofs.engine.count_held.Goals as goal
 

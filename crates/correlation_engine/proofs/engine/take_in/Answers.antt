@@ -1,11 +1,14 @@
-use Rattle.std.proofs.Common.{◌≡◌, ◌++◌, List, ap, sym, subst, ◌∙◌}
+use Rattle.std.proofs.Common.{◌++◌, List, ap, sym, subst, ◌∙◌}
 use Rattle.std.specs.Prelude.{ℤ, Option}
 use Rattle.correlation_windows.specs.Laws.{IsBehind}
 use Rattle.correlation_windows.specs.declared.report.Report.{Report}
 use Rattle.correlation_engine.specs.Arrivals.{taken}
 use Rattle.correlation_engine.specs.Steps.{IsGrown, reports_each}
-use Rattle.correlation_engine.proofs.Standing.{grown_holds, grown_bounds, grown_watches, advanced_holds, advanced_bounds, engine_grown, engine_advanced, each_length, each_reports, limits_each, until_all}
+use Rattle.correlation_engine.proofs.Standing.{grown_holds, grown_bounds, grown_watches, advanced_holds, advanced_bounds, engine_grown, engine_advanced, each_length, each_reports, timely_all}
 use Rattle.correlation_engine.proofs.engine.take_in.Goals as goal
+
+pub prepare_all-requires-clause-timely : goal.prepare_all-requires-clause-timely
+prepare_all-requires-clause-timely c = timely_all c.args.last c.args.arrival.now.moment c.args.watches.now.items c.in_ok-in_order.ensures.ok c.requires.engine.watches
 
 pub returns-in_default-clause-kept : goal.returns-in_default-clause-kept
 returns-in_default-clause-kept c = engine_grown c.args.last c.args.watches.now.items c.prepare_all.new.watches.items c.prepare_all.ensures.grown c.requires.engine
@@ -16,13 +19,9 @@ returns-in_default-clause-stays c = λ history so. grown_holds history c.args.wa
 pub returns-in_default-clause-bounds : goal.returns-in_default-clause-bounds
 returns-in_default-clause-bounds c = grown_bounds c.args.watches.now.items c.prepare_all.new.watches.items c.prepare_all.ensures.grown
 
-pub advance_all-requires-clause-limits : goal.advance_all-requires-clause-limits
-advance_all-requires-clause-limits c =
-    limits_each c.args.last c.prepare_all.new.watches.items (grown_watches c.args.last c.args.watches.now.items c.prepare_all.new.watches.items c.prepare_all.ensures.grown c.requires.engine.watches)
-
-pub advance_all-requires-clause-until : goal.advance_all-requires-clause-until
-advance_all-requires-clause-until c =
-    until_all c.args.last c.args.arrival.now.moment c.prepare_all.new.watches.items c.in_ok-in_order.ensures.ok
+pub advance_all-requires-clause-timely : goal.advance_all-requires-clause-timely
+advance_all-requires-clause-timely c =
+    timely_all c.args.last c.args.arrival.now.moment c.prepare_all.new.watches.items c.in_ok-in_order.ensures.ok
     (grown_watches c.args.last c.args.watches.now.items c.prepare_all.new.watches.items c.prepare_all.ensures.grown c.requires.engine.watches)
 
 pub advance_all-requires-clause-each : goal.advance_all-requires-clause-each

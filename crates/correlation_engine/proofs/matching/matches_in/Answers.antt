@@ -1,4 +1,4 @@
-use Rattle.std.proofs.Common.{rules, sym, ◌∙◌, arith, ◌≡◌}
+use Rattle.std.proofs.Common.{rules, sym, ◌∙◌, arith}
 use Rattle.correlation_engine.specs.Arrivals.{taken}
 use Rattle.correlation_engine.proofs.Grouping.{matches_more, matches_end, zip_end_first, zip_end_second}
 use Rattle.correlation_engine.proofs.matching.matches_in.Goals as goal

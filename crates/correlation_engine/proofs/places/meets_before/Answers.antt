@@ -1,4 +1,4 @@
-use Rattle.std.proofs.Common.{arith, ◌<◌, ◌≡◌, rules, sym, ◌∙◌}
+use Rattle.std.proofs.Common.{arith, ◌<◌, ◌≡◌, rules, ◌∙◌}
 use Rattle.correlation_engine.specs.Shown.{shown}
 use Rattle.correlation_engine.proofs.Placing.{greedy_back, end_none, end_front}
 use Rattle.correlation_engine.proofs.places.meets_before.Goals as goal

@@ -1,4 +1,4 @@
-use Rattle.std.proofs.Common.{arith, ◌<◌, ◌-◌, ◌≡◌, true, false, rules, sym, ap, ◌∙◌, ◌==◌, length}
+use Rattle.std.proofs.Common.{arith, ◌<◌, ◌-◌, ◌≡◌, true, rules, sym, ap, ◌==◌, length}
 use Rattle.std.proofs.lemmas.Bool.{ne_eqb}
 use Rattle.std.specs.Borrow.{Bor}
 use Rattle.correlation_windows.specs.declared.matches.Match.{Match}

@@ -1,15 +1,12 @@
-use Rattle.std.proofs.Common.{rules, arith, ◌≡◌, ◌<◌, ◌≤◌, ◌+◌, ◌∷◌, [], ℕ, List, length, ap, sym, subst, ◌∙◌}
-use Rattle.std.proofs.Math.ListN.{set}
-use Rattle.std.specs.Prelude.{get_or, drop}
+use Rattle.std.proofs.Common.{rules, arith, ◌≡◌, ◌<◌, ◌≤◌, ◌+◌, ◌∷◌, ℕ, List, length, ap, sym, subst, ◌∙◌}
+use Rattle.std.specs.Prelude.{get_or}
 use Rattle.std.specs.Vec.{vec_len}
 use Rattle.std.specs.Vec.Iter.{into_iter_items}
 use Rattle.std.specs.declared.alloc.Global.{Global}
 use Rattle.std.specs.declared.vec.Vec.{Vec}
-use Rattle.correlation_windows.specs.Ready.{UntilEach}
 use Rattle.correlation_windows.specs.declared.found.Found.{Found}
 use Rattle.correlation_engine.specs.Arrivals.{taken}
-use Rattle.correlation_engine.specs.Limits.{IsWithinLimits}
-use Rattle.correlation_engine.specs.Steps.{IsPrepared, ArePrepared, IsAdvanced}
+use Rattle.correlation_engine.specs.Steps.{IsTimely, IsPrepared, ArePrepared, IsAdvanced}
 use Rattle.correlation_engine.specs.declared.watch.Watch.{Watch}
 use Rattle.correlation_engine.proofs.Walking.{first_none, first_more, each_all, same_at, same_length, all_at}
 use Rattle.correlation_engine.proofs.Stepping.{prepared_at}
@@ -39,17 +36,11 @@ index_mut-requires c =
     let len : vec_len c.loop-founds.watches ≡ length c.loop-founds.watches.items = c.loop-founds.watches.ok.0 in
     omega (arith, lt, same, len)
 
-pub advance-requires-clause-limits : goal.advance-requires-clause-limits
-advance-requires-clause-limits c =
+pub advance-requires-clause-timely : goal.advance-requires-clause-timely
+advance-requires-clause-timely c =
     let lt : c.loop-founds.place < length c.args.watches.now.items = one_at_least c.loop-founds.place (length c.args.watches.now.items) c.in-Some.founds (into_iter_items c.loop-founds.founds-iterator) (into_iter_items c.next.new.self) c.in-Some.ensures.steps.0 c.loop-founds.invariant.4 in
     let at : c.index_mut.result.now ≡ get_or c.args.watches.now.items c.loop-founds.place c.index_mut.result.now = c.index_mut.ensures.value ∙ same_at (IsAdvanced (taken c.args.arrival.now)) c.loop-founds.place c.args.watches.now.items c.loop-founds.watches.items c.index_mut.result.now c.loop-founds.invariant.2 in
-    subst (λ (w : Watch). IsWithinLimits w.bound) (sym at) (all_at (λ w. IsWithinLimits w.bound) c.loop-founds.place c.args.watches.now.items c.index_mut.result.now c.requires.limits lt)
-
-pub advance-requires-clause-until : goal.advance-requires-clause-until
-advance-requires-clause-until c =
-    let lt : c.loop-founds.place < length c.args.watches.now.items = one_at_least c.loop-founds.place (length c.args.watches.now.items) c.in-Some.founds (into_iter_items c.loop-founds.founds-iterator) (into_iter_items c.next.new.self) c.in-Some.ensures.steps.0 c.loop-founds.invariant.4 in
-    let at : c.index_mut.result.now ≡ get_or c.args.watches.now.items c.loop-founds.place c.index_mut.result.now = c.index_mut.ensures.value ∙ same_at (IsAdvanced (taken c.args.arrival.now)) c.loop-founds.place c.args.watches.now.items c.loop-founds.watches.items c.index_mut.result.now c.loop-founds.invariant.2 in
-    subst (λ (w : Watch). UntilEach c.args.arrival.now.moment w.queues.entries) (sym at) (all_at (λ w. UntilEach c.args.arrival.now.moment w.queues.entries) c.loop-founds.place c.args.watches.now.items c.index_mut.result.now c.requires.until lt)
+    subst (IsTimely c.args.arrival.now.moment) (sym at) (all_at (IsTimely c.args.arrival.now.moment) c.loop-founds.place c.args.watches.now.items c.index_mut.result.now c.requires.timely lt)
 
 pub advance-requires-clause-prepared : goal.advance-requires-clause-prepared
 advance-requires-clause-prepared c =

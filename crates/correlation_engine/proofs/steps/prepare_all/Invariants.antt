@@ -2,15 +2,14 @@ use Rattle.std.proofs.Common.{◌≡◌, ◌++◌, length}
 use Rattle.std.specs.Prelude.{drop}
 use Rattle.std.specs.List.{AllByRecursion}
 use Rattle.correlation_engine.specs.Arrivals.{taken}
-use Rattle.correlation_engine.specs.Limits.{IsWithinLimits}
-use Rattle.correlation_engine.specs.Steps.{IsGrown, ArePrepared, reports_each}
+use Rattle.correlation_engine.specs.Steps.{IsTimely, IsGrown, ArePrepared, reports_each}
 use Rattle.correlation_engine.proofs.Walking.{FirstTo}
 use Rattle.correlation_engine.proofs.steps.prepare_all.Given as goal
 
 abbrev pub invariant-loop-place : goal.invariant-loop-place
 invariant-loop-place l =
     FirstTo IsGrown l.place l.fn.watches.items l.watches.items
-    × AllByRecursion (λ w. IsWithinLimits w.bound) l.watches.items
+    × AllByRecursion (IsTimely l.arrival.moment) l.watches.items
     × ArePrepared (taken l.arrival) l.watches.items l.all.items
     × (length l.all.items ≡ l.place)
     × (l.reports.items ++ reports_each (taken l.arrival) l.place (drop l.place l.fn.watches.items) ≡ l.fn.reports.items ++ reports_each (taken l.arrival) 0 l.fn.watches.items)

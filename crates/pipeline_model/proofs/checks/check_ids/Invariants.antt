@@ -1,4 +1,4 @@
-use Rattle.std.proofs.Common.{◌≡◌, [], take, drop}
+use Rattle.std.proofs.Common.{◌≡◌, take, drop}
 use Rattle.yaml_tree.specs.View.{nodes_view}
 use Rattle.pipeline_model.specs.Causes.{sooner_of}
 use Rattle.pipeline_model.specs.Checks.{ids_refusal, id_checks}

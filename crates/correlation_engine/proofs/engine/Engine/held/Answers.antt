@@ -1,4 +1,4 @@
-use Rattle.std.proofs.Common.{◌≡◌, ◌-◌, ◌^◌, min, List, ap, sym, subst, ◌∙◌}
+use Rattle.std.proofs.Common.{◌≡◌, ◌-◌, ◌^◌, min, List, sym, subst}
 use Rattle.correlation_windows.specs.Kept.{State, StandsFor, HoldsEach}
 use Rattle.correlation_engine.specs.Engines.{bounds_of, queues_of, total_kept}
 use Rattle.correlation_engine.specs.declared.watch.Watch.{Watch}

@@ -1,0 +1,1 @@
+SELECT * FROM "events" WHERE ("src_ip" LIKE '10.%' ESCAPE '\' OR "src_ip" LIKE '192.168.%' ESCAPE '\') AND ("cs-uri-stem" LIKE '%.ps1' ESCAPE '\' OR "cs-uri-stem" LIKE '%.vbs' ESCAPE '\') AND NOT ("dst_ip" IS NOT NULL AND "dst_ip" LIKE '10.%' ESCAPE '\' OR "dst_ip" IS NOT NULL AND "dst_ip" LIKE '192.168.%' ESCAPE '\')
