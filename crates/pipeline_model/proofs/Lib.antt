@@ -1,3 +1,4 @@
 mod Entered
 mod Unrefused
 mod Examples
+mod Numbered

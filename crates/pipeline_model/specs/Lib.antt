@@ -5,3 +5,4 @@ pub mod Shapes
 pub mod Checks
 pub mod Pipelines
 pub mod Reading
+pub mod Ids

@@ -1,7 +1,6 @@
 //! Why a document is no pipeline.
 
 ghost use Rattle.std.specs.Prelude.{◌≡◌, true, map as list_map, codes, IfOk, IfErr};
-ghost use Rattle.std.specs.List.{list_any};
 ghost use Rattle.sig_base.specs.Judged.{Judged};
 ghost use Rattle.sig_base.specs.Texts.{is_ascii};
 ghost use Rattle.yaml_tree.specs.View.{node_view, nodes_view, entry_view, entries_view};
@@ -12,6 +11,7 @@ ghost use Rattle.pipeline_model.specs.Checks as spec;
 
 use crate::causes::{must, refuse, sooner, worded};
 use crate::conditions::{check_fields, check_sources};
+use crate::ids::check_ids;
 use crate::shapes::{
     check_list, check_map, check_mapping, check_names, check_op, check_text, check_truth,
     check_vars, check_whole,
@@ -323,73 +323,14 @@ fn check_all_steps(alloc: Global, parts: &[Node]) -> Result<Option<Refusal>, Fau
     Ok(found)
 }
 
-fn is_text_of(word: &Text, node: &Node) -> bool
-    ensures { result ≡ spec.is_text_of word.now (node_view node.now) }
-{
-    match text_of(node) {
-        Some(text) => text.equals(word),
-        None => false,
-    }
-}
-
-fn has_id(word: &Text, node: &Node) -> bool
-    ensures { result ≡ spec.has_id word.now (node_view node.now) }
-{
-    match value_at(node, "id") {
-        Some(value) => is_text_of(word, value),
-        None => false,
-    }
-}
-
-fn have_id(word: &Text, parts: &[Node]) -> bool
-    ensures { result ≡ list_any (λ n. spec.has_id word.now (node_view n)) parts.now }
-{
-    parts.iter().any(|part| has_id(word, part))
-}
-
-/// Whether none of the steps before has this identifier.
-#[tactic(auto, using(rule_items::proofs::Zips::any_viewed))]
-fn is_fresh(before: &[Node], node: &Node) -> bool
-    ensures { result ≡ spec.is_fresh (nodes_view before.now) (node_view node.now) }
-{
-    match text_of(node) {
-        Some(text) => !have_id(text, before),
-        None => true,
-    }
-}
-
-fn check_fresh(before: &[Node], node: &Node) -> Option<Refusal>
-    ensures { result ≡ spec.fresh_refusal (nodes_view before.now) (node_view node.now) }
-{
-    must(Code::REPEATED_ID, place_of(node), is_fresh(before, node))
-}
-
-fn check_id(before: &[Node], node: &Node) -> Option<Refusal>
-    ensures { result ≡ spec.id_refusal (nodes_view before.now) (node_view node.now) }
-{
-    match value_at(node, "id") {
-        Some(value) => check_fresh(before, value),
-        None => None,
-    }
-}
-
-fn check_ids(parts: &[Node]) -> Option<Refusal>
-    ensures { result ≡ spec.ids_refusal (nodes_view parts.now) }
-{
-    let mut found = None;
-    for (at, part) in parts.iter().enumerate() {
-        found = sooner(found, check_id(&parts[..at], part));
-    }
-    found
-}
-
 fn check_steps(alloc: Global, node: &Node) -> Result<Option<Refusal>, Fault>
     ensures ok { IfOk result (λ r. r ≡ spec.steps_refusal (node_view node.now)) }
     ensures err { IfErr result (λ e. e ≡ Fault.Memory) }
 {
     let parts = parts_of(node);
     let steps = sooner(check_list(node), check_all_steps(alloc, parts)?);
-    Ok(sooner(steps, check_ids(parts)))
+    let ids = check_ids(alloc, parts)?;
+    Ok(sooner(steps, ids))
 }
 
 /// The steps of a pipeline.

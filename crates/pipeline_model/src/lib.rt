@@ -9,6 +9,7 @@ mod checks;
 mod concerning;
 mod conditions;
 mod copying;
+mod ids;
 mod items;
 mod pipeline;
 mod reading;
