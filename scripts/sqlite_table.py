@@ -1,8 +1,8 @@
 #!/usr/bin/env python3
 """Makes a SQLite table of events in the form that the queries need, runs queries on it, and checks a table that is there.
 
-    sqlite_table.py EVENTS.jsonl QUERIES.sql [--database FILE] [--count]
-    sqlite_table.py --check FILE [QUERIES.sql] [--table NAME]
+    sqlite_table.py EVENTS.jsonl QUERIES.sql [--schema SCHEMA.json] [--database FILE] [--count]
+    sqlite_table.py --check FILE [QUERIES.sql] [--schema SCHEMA.json] [--table NAME]
 
 EVENTS.jsonl has a JSON object on each line, QUERIES.sql a query on each line, as `sigma convert` writes them; `-` is the
 standard input. The table `events` gets a TEXT column with BINARY collation for each key of an event and each name of a
@@ -10,9 +10,13 @@ query, and no index. A number becomes its text and a truth value `true` or `fals
 a list is its JSON text, null is no value. For each query the events that it selects are printed, each as its line of
 EVENTS.jsonl, or with --count their number. The table is made in memory, or in FILE, which must not be there yet.
 
---check names each column and index of a table (`events`) by which a query could select too little or too much: columns
-that aren't TEXT with BINARY collation, indexes with a column that isn't COLLATE NOCASE, values that are no texts, and
-columns that a query tests and the table lacks. The exit status is 1 where it names something, and where a query fails.
+With --schema the table has the schema's name and a column for each of its fields, filled from where the field stands in an
+event: INTEGER for `whole`, and else TEXT. A line in which such a field is no whole number is told and left out.
+
+--check names each column and index of a table (`events`, or the schema's) by which a query could select too little or too
+much: columns that aren't TEXT with BINARY collation (INTEGER where the schema says `whole`), indexes with a column that isn't
+COLLATE NOCASE, values of another kind, and columns that a query tests and the table lacks. The exit status is 1 where it
+names something, where a line is left out, and where a query fails.
 
 It needs Python 3 with its `sqlite3` alone.
 """
@@ -64,27 +68,83 @@ def text_of(value):
     return json.dumps(value, ensure_ascii=False)
 
 
+# ---- the schema
+
+
+class NoWhole(ValueError):
+    pass
+
+
+def schema_of(path):
+    """The table's name, and for each field its name, its keys in an event, and whether it takes whole numbers."""
+    with open(path, encoding="utf-8") as file:
+        schema = json.load(file)
+    fields = [(field["name"], field.get("at", [field["name"]]), field["kind"] == "whole") for field in schema["fields"]]
+    return schema.get("table", "events"), fields
+
+
+def found_in(event, keys):
+    for key in keys:
+        event = event.get(key) if isinstance(event, dict) else None
+    return event
+
+
+def whole_of(name, value):
+    if value is None:
+        return None
+    is_decimal = isinstance(value, str) and re.fullmatch("0|-?[1-9][0-9]*", value)
+    if is_decimal or isinstance(value, int) and not isinstance(value, bool):
+        if abs(int(value)) < 2**63:
+            return int(value)
+    raise NoWhole(f"{name} is no whole number, or one out of range: {text_of(value)}")
+
+
+def rows_of(lines, fields):
+    """The row of each line, or None where it is left out, and whether none is."""
+    good, rows = True, []
+    for number, line in enumerate(lines, 1):
+        event = json.loads(line)
+        try:
+            values = [(name, found_in(event, keys), is_whole) for name, keys, is_whole in fields]
+            rows.append([whole_of(name, value) if is_whole else text_of(value) for name, value, is_whole in values])
+        except NoWhole as why:
+            print(f"line {number}: {why}", file=sys.stderr)
+            good = False
+            rows.append(None)
+    return rows, good
+
+
 # ---- the table that is made
 
 
+def filled(database, table, columns, rows):
+    """Makes the table of columns and their types, with the number of its line as each row's rowid; the rowid's name."""
+    database.execute(f"CREATE TABLE {quoted(table)} ({', '.join(f'{quoted(name)} {kind}' for name, kind in columns)})")
+    taken = {folded(name) for name, _ in columns}
+    number_of_row = next(name for name in ("rowid", "_rowid_", "oid") if name not in taken)
+    names = ", ".join([number_of_row] + [quoted(name) for name, _ in columns])
+    insert = f"INSERT INTO {quoted(table)} ({names}) VALUES ({', '.join('?' * (len(columns) + 1))})"
+    database.executemany(insert, ([number, *row] for number, row in enumerate(rows, 1) if row is not None))
+    database.commit()
+    return number_of_row
+
+
 def made(database, lines, queries):
-    """Makes the table, with the number of its line as each event's rowid."""
+    """Makes the table of all keys and of all names in queries; the rowid's name."""
     events = [list(flat(json.loads(line))) for line in lines]
     columns = {}
     for name in [name for event in events for name, _ in event] + [name for query in queries for name in names_of(query)]:
         columns.setdefault(folded(name), name)
     if not columns:
         sys.exit("no event has a key, and no query a column")
-    database.execute(f"CREATE TABLE events ({', '.join(f'{quoted(name)} TEXT COLLATE BINARY' for name in columns.values())})")
     places = {name: place for place, name in enumerate(columns)}
-    insert = f"INSERT INTO events VALUES ({', '.join('?' * len(columns))})"
+    rows = []
     for event in events:
         row = [None] * len(columns)
         for name, value in event:
             row[places[folded(name)]] = text_of(value)
-        database.execute(insert, row)
-    database.commit()
-    return next(name for name in ("rowid", "_rowid_", "oid") if name not in columns)
+        rows.append(row)
+    return filled(database, "events", [(name, "TEXT COLLATE BINARY") for name in columns.values()], rows)
 
 
 def ran(database, lines, queries, count, number_of_row):
@@ -117,16 +177,30 @@ def collations(sql, table, columns):
     return found
 
 
-def column_faults(database, table, sql):
+def kind_fault(name, kind, is_whole):
+    """What is wrong with a column's type, by the rules that SQLite has for types."""
+    is_integer, is_text = "INT" in kind.upper(), re.search("CHAR|CLOB|TEXT", kind.upper())
+    if is_whole and not is_integer:
+        return f"column {quoted(name)}: its type is {kind or 'not given'} and not INTEGER, so numbers may be compared as texts"
+    if not is_whole and (is_integer or not is_text):
+        return f"column {quoted(name)}: its type is {kind or 'not given'} and not TEXT, so values are compared as other kinds than texts"
+    return None
+
+
+def column_faults(database, table, sql, wholes):
     columns = database.execute(f"PRAGMA table_info({quoted(table)})").fetchall()
     names = [column[1] for column in columns]
     for (_, name, kind, *_), collation in zip(columns, collations(sql, table, names)):
-        if not re.search("CHAR|CLOB|TEXT", kind.upper()) or "INT" in kind.upper():
-            yield f"column {quoted(name)}: its type is {kind or 'not given'} and not TEXT, so values are compared as other kinds than texts"
+        is_whole = folded(name) in wholes
+        fault = kind_fault(name, kind, is_whole)
+        if fault:
+            yield fault
         if collation.upper() != "BINARY":
             yield f"column {quoted(name)}: its collation is {collation} and not BINARY, so a cased test is decided by it"
-        for what, test in (("no texts", "typeof({0}) NOT IN ('text', 'null')"), ("texts with U+0000", "instr({0}, char(0)) > 0")):
-            number = database.execute(f"SELECT count(*) FROM {quoted(table)} WHERE {test.format(quoted(name))}").fetchone()[0]
+        held = "integer" if is_whole else "text"
+        tests = [(f"no {held}s", f"typeof({quoted(name)}) NOT IN ('{held}', 'null')"), ("texts with U+0000", f"instr({quoted(name)}, char(0)) > 0")]
+        for what, test in tests:
+            number = database.execute(f"SELECT count(*) FROM {quoted(table)} WHERE {test}").fetchone()[0]
             if number:
                 yield f"column {quoted(name)}: {number} of its values are {what}"
 
@@ -140,7 +214,7 @@ def index_faults(database, table):
             yield f"{kind} {quoted(name)}: {', '.join(map(quoted, bad))} without COLLATE NOCASE, so a list of plain values can select too little"
 
 
-def checked(path, table, queries):
+def checked(path, table, queries, fields):
     """Names what is wrong; whether nothing is."""
     database = sqlite3.connect(f"file:{os.path.abspath(path).replace('?', '%3f').replace('#', '%23')}?mode=ro", uri=True)
     found = database.execute("SELECT name, sql FROM sqlite_master WHERE type = 'table' AND lower(name) = lower(?)", (table,)).fetchone()
@@ -150,7 +224,9 @@ def checked(path, table, queries):
     names = {folded(column[1]) for column in database.execute(f"PRAGMA table_info({quoted(table)})")}
     lacking = {folded(name): name for query in queries for name in names_of(query) if folded(name) not in names}
     faults = [f"column {quoted(name)}: the table lacks it, and SQLite takes its name for a text" for name in lacking.values()]
-    faults += list(column_faults(database, table, sql)) + list(index_faults(database, table))
+    wholes = {folded(name) for name, _, is_whole in fields if is_whole}
+    faults += [f"column {quoted(name)}: the table lacks this field of the schema" for name, *_ in fields if folded(name) not in names]
+    faults += list(column_faults(database, table, sql, wholes)) + list(index_faults(database, table))
     for fault in faults:
         print(fault)
     return not faults
@@ -160,21 +236,29 @@ def main():
     parser = argparse.ArgumentParser(description=__doc__, formatter_class=argparse.RawDescriptionHelpFormatter)
     parser.add_argument("files", nargs="*", metavar="FILE", help="EVENTS.jsonl and QUERIES.sql, or with --check QUERIES.sql alone")
     parser.add_argument("--check", metavar="FILE", help="a database that is there")
-    parser.add_argument("--table", default="events", help="its table (events)")
+    parser.add_argument("--table", help="its table (the schema's, or events)")
+    parser.add_argument("--schema", metavar="FILE", help="the schema under which the queries were made")
     parser.add_argument("--database", metavar="FILE", help="where the table is made")
     parser.add_argument("--count", action="store_true", help="print how many events each query selects")
     told = parser.parse_args()
     if len(told.files) not in ((0, 1) if told.check else (2,)):
         parser.error("other files are wanted")
     queries = lines_of(told.files[-1]) if told.files else []
+    table, fields = schema_of(told.schema) if told.schema else ("events", [])
     if told.check:
-        sys.exit(0 if checked(told.check, told.table, queries) else 1)
+        sys.exit(0 if checked(told.check, told.table or table, queries, fields) else 1)
     if told.database and os.path.exists(told.database):
         sys.exit(f"{told.database} is there already")
     lines = lines_of(told.files[0])
     database = sqlite3.connect(told.database or ":memory:")
-    number_of_row = made(database, lines, queries)
-    sys.exit(0 if ran(database, lines, queries, told.count, number_of_row) else 1)
+    good = True
+    if fields:
+        rows, good = rows_of(lines, fields)
+        kinds = [(name, "INTEGER" if is_whole else "TEXT COLLATE BINARY") for name, _, is_whole in fields]
+        number_of_row = filled(database, table, kinds, rows)
+    else:
+        number_of_row = made(database, lines, queries)
+    sys.exit(0 if ran(database, lines, queries, told.count, number_of_row) and good else 1)
 
 
 if __name__ == "__main__":
