@@ -106,20 +106,30 @@ fn dashes_are_chosen(rt: HostRuntime) -> Result<(), Fail> {
 const OUTSIDE: &str =
     "title: T\nlogsource:\n  category: c\ndetection:\n  s:\n    A|cidr: 10.0.0.0/8\n  condition: not s\n";
 
+/// What stands before an octet's pattern, in a list of 256 that is written in halves.
+fn before(octet: u32) -> &'static str {
+    if octet == 0 {
+        return "SELECT * FROM \"events\" WHERE ";
+    }
+    if octet == 128 {
+        return ") OR (";
+    }
+    if octet == 64 || octet == 192 {
+        return " OR (";
+    }
+    " OR "
+}
+
 /// A pattern for each first octet; the same in Lucene, and below `not`.
 #[test]
 fn networks_are_chosen(rt: HostRuntime) -> Result<(), Fail> {
     let alloc = rt.alloc();
     let mut sql = String::new(alloc);
     for octet in 0..256u32 {
-        let start = if octet == 0 {
-            "SELECT * FROM \"events\" WHERE "
-        } else {
-            " OR "
-        };
+        let start = before(octet);
         sql.push_str(&format!(in alloc; "{start}\"A\" LIKE '{octet}.%' ESCAPE '\\'")?)?;
     }
-    sql.push('\n')?;
+    sql.push_str("))\n")?;
     let rule = rule_of(alloc, "A|cidr: 0.0.0.0/0")?;
     let ran = converted(alloc, &TO_SQLITE, rule.as_str())?;
     check(&rt, &ran, 0, sql.as_str(), "");
