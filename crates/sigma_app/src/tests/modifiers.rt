@@ -106,15 +106,12 @@ fn dashes_are_chosen(rt: HostRuntime) -> Result<(), Fail> {
 const OUTSIDE: &str =
     "title: T\nlogsource:\n  category: c\ndetection:\n  s:\n    A|cidr: 10.0.0.0/8\n  condition: not s\n";
 
-/// What stands before an octet's pattern, in a list of 256 that is written in halves.
+/// What stands before an octet's pattern, in a list of 128 that is written in halves.
 fn before(octet: u32) -> &'static str {
     if octet == 0 {
         return "SELECT * FROM \"events\" WHERE ";
     }
-    if octet == 128 {
-        return ") OR (";
-    }
-    if octet == 64 || octet == 192 {
+    if octet == 64 {
         return " OR (";
     }
     " OR "
@@ -125,12 +122,12 @@ fn before(octet: u32) -> &'static str {
 fn networks_are_chosen(rt: HostRuntime) -> Result<(), Fail> {
     let alloc = rt.alloc();
     let mut sql = String::new(alloc);
-    for octet in 0..256u32 {
+    for octet in 0..128u32 {
         let start = before(octet);
         sql.push_str(&format!(in alloc; "{start}\"A\" LIKE '{octet}.%' ESCAPE '\\'")?)?;
     }
-    sql.push_str("))\n")?;
-    let rule = rule_of(alloc, "A|cidr: 0.0.0.0/0")?;
+    sql.push_str(")\n")?;
+    let rule = rule_of(alloc, "A|cidr: 0.0.0.0/1")?;
     let ran = converted(alloc, &TO_SQLITE, rule.as_str())?;
     check(&rt, &ran, 0, sql.as_str(), "");
     let rule = rule_of(alloc, "A|cidr: 10.0.0.0/7")?;
