@@ -1,6 +1,6 @@
 -- A rule made ready for the events of a schema: each name is the number of its field. What a rule means stands in
 -- `rule_matching`; here stands how it's kept, and what is asked of an event's values by their numbers.
-use Rattle.std.specs.Prelude.{ℕ, ◌≡◌, ◌↔◌, Bool, IsTrue, List, map}
+use Rattle.std.specs.Prelude.{ℕ, ◌≡◌, ◌↔◌, Bool, IsTrue, List, map, Option, option_and_then}
 use Rattle.std.specs.List.{AllZip}
 use Rattle.event_schema.specs.Lists.{EachOf, SomeOf}
 use Rattle.event_schema.specs.Rows.{field_number, field_values, values_if_any}
@@ -15,35 +15,41 @@ use Rattle.rule_matching.specs.Matching.{JoinedHolds}
 use Rattle.rule_model.specs.Plain.{PlainRule}
 use Rattle.sig_conditions.specs.Formulas.{PlainFormula, forms_view}
 use Rattle.sig_modifiers.specs.Holds.{Holds}
+use Rattle.sig_modifiers.specs.References.{reference_of}
 use Rattle.modifier_chains.specs.declared.modifier.Joined.{Joined}
 use Rattle.sig_modifiers.specs.declared.test.Test.{Test}
 use Rattle.detection_eval.specs.declared.numbered.Asked.{Asked}
 use Rattle.detection_eval.specs.declared.numbered.Asked.TheVariants.{Searched, Numbers}
 use Rattle.detection_eval.specs.declared.numbered.NumberedItem.{NumberedItem}
+use Rattle.detection_eval.specs.declared.numbered.NumberedTest.{NumberedTest}
 use Rattle.detection_eval.specs.declared.ready.Ready.{Ready}
 
 -- ---- what is asked of an event's values
 
+-- a test holds of a field's values in an event's row, which has those that it compares them with at its number
+abbrev pub NumberedHolds : List (List Value) → List Value → NumberedTest → Type 0
+NumberedHolds row values numbered = Holds (λ (name : List ℕ). values_if_any row numbered.other) numbered.test values
+
 -- a value of an item is satisfied where one of its tests holds of a field's values
-abbrev pub Satisfies : List Value → List Test → Type 0
-Satisfies values tests = SomeOf (λ test. Holds test values) tests
+abbrev pub Satisfies : List (List Value) → List Value → List NumberedTest → Type 0
+Satisfies row values tests = SomeOf (NumberedHolds row values) tests
 
 -- with the numbers of the fields that keywords search, and an event's values
 module _ (searched : List ℕ) (row : List (List Value)) where
   -- a keyword is satisfied by some field of these
-  abbrev pub SearchSatisfies : List Test → Type 0
-  SearchSatisfies tests = SomeOf (λ n. Satisfies (field_values row n) tests) searched
+  abbrev pub SearchSatisfies : List NumberedTest → Type 0
+  SearchSatisfies tests = SomeOf (λ n. Satisfies row (field_values row n) tests) searched
 
-  abbrev pub AskedHolds : Joined → List (List Test) → Asked → Type 0
+  abbrev pub AskedHolds : Joined → List (List NumberedTest) → Asked → Type 0
   AskedHolds joined values Searched = JoinedHolds joined SearchSatisfies values
-  AskedHolds joined values (Numbers numbers) = SomeOf (λ number. JoinedHolds joined (Satisfies (values_if_any row number)) values) numbers
+  AskedHolds joined values (Numbers numbers) = SomeOf (λ number. JoinedHolds joined (Satisfies row (values_if_any row number)) values) numbers
 
-  abbrev pub NumberedHolds : NumberedItem → Type 0
-  NumberedHolds i = AskedHolds i.joined i.tests i.asked
+  abbrev pub NumberedItemHolds : NumberedItem → Type 0
+  NumberedItemHolds i = AskedHolds i.joined i.tests i.asked
 
   -- some alternative has all of its items
   abbrev pub AlternativesHold : List (List NumberedItem) → Type 0
-  AlternativesHold alternatives = SomeOf (λ items. EachOf NumberedHolds items) alternatives
+  AlternativesHold alternatives = SomeOf (λ items. EachOf NumberedItemHolds items) alternatives
 
   -- for each detection whether it holds
   abbrev pub AreTruths : List Bool → List (List (List NumberedItem)) → Type 0
@@ -56,8 +62,12 @@ module _ (fields : List Field) where
   asked_of Keyword = Searched
   asked_of (Names names) = Numbers (map (field_number fields) names)
 
+  -- a test with the number of the field that it compares with, if there is such a field
+  abbrev pub numbered_test : Test → NumberedTest
+  numbered_test test = record { test = test; other = option_and_then (reference_of test) (field_number fields) }
+
   abbrev pub numbered_item : Item → NumberedItem
-  numbered_item i = record { asked = asked_of i.fields; joined = i.joined; tests = i.tests }
+  numbered_item i = record { asked = asked_of i.fields; joined = i.joined; tests = map (map numbered_test) i.tests }
 
   abbrev pub numbered_detection : Detection → List (List NumberedItem)
   numbered_detection d = map (map numbered_item) d.alternatives

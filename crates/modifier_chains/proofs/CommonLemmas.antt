@@ -1,13 +1,15 @@
 -- Chains of positions, `all`, `cased` and `exists`; chains with encodings.
 use Rattle.std.proofs.Common.{ℕ, ◌≡◌, Bool, true, false, ◌&&◌, ◌||◌, not, nat_le, List, [], ◌∷◌, refl, ap, ◌∙◌, cond, count_by}
+use Rattle.std.specs.Prelude.{Option, Some, None, is_some, if◌then◌else◌}
 use Rattle.std.specs.List.{list_all, list_any}
 use Rattle.std.proofs.lemmas.Bool.{and_parts, and_from}
 use Rattle.std.proofs.lemmas.List.Sums.{sum_by-cons}
-use Rattle.modifier_chains.specs.Chains.{is_chain, is_empty, is_presence, is_network_chain, is_text_chain, at_most_one, units_lead, encodings_lead, has_some_of}
+use Rattle.modifier_chains.specs.Chains.{is_chain, is_empty, is_presence, is_network_chain, is_order_chain, order_of, is_all_or_none, is_reference, is_text_chain, at_most_one, units_lead, encodings_lead, has_some_of}
 use Rattle.modifier_chains.specs.CommonChains.{is_common_text_word, is_common_word, is_common_chain}
-use Rattle.modifier_chains.specs.Kinds.{is_position, is_all, is_cased, is_windash, is_units, is_encoding, is_cidr, is_text_word, text_kinds, unencoded_kinds}
+use Rattle.modifier_chains.specs.Kinds.{is_position, is_all, is_cased, is_exists, is_windash, is_units, is_encoding, is_cidr, order_in, is_fieldref, is_text_word, text_kinds, unencoded_kinds}
 use Rattle.modifier_chains.specs.declared.modifier.Modifier.{Modifier}
-use Rattle.modifier_chains.specs.declared.modifier.Modifier.TheVariants.{Position, All, Cased, Windash, Units, Encoding, Exists, Cidr}
+use Rattle.modifier_chains.specs.declared.modifier.Op.{Op}
+use Rattle.modifier_chains.specs.declared.modifier.Modifier.TheVariants.{Position, All, Cased, Windash, Units, Encoding, Exists, Cidr, Order, Fieldref}
 
 -- what a common word is and isn't
 record IsPlain (m : Modifier) : Type 0 where
@@ -16,16 +18,20 @@ record IsPlain (m : Modifier) : Type 0 where
   no_units : is_units m ≡ false
   no_encoding : is_encoding m ≡ false
   no_cidr : is_cidr m ≡ false
+  no_order : order_in m ≡ None
+  no_fieldref : is_fieldref m ≡ false
 
 plain : (m : Modifier) → is_common_word m ≡ true → IsPlain m
-plain (Position p) h = record { word = refl; no_windash = refl; no_units = refl; no_encoding = refl; no_cidr = refl }
-plain All h = record { word = refl; no_windash = refl; no_units = refl; no_encoding = refl; no_cidr = refl }
-plain Cased h = record { word = refl; no_windash = refl; no_units = refl; no_encoding = refl; no_cidr = refl }
+plain (Position p) h = record { word = refl; no_windash = refl; no_units = refl; no_encoding = refl; no_cidr = refl; no_order = refl; no_fieldref = refl }
+plain All h = record { word = refl; no_windash = refl; no_units = refl; no_encoding = refl; no_cidr = refl; no_order = refl; no_fieldref = refl }
+plain Cased h = record { word = refl; no_windash = refl; no_units = refl; no_encoding = refl; no_cidr = refl; no_order = refl; no_fieldref = refl }
 plain Windash h = absurd cc
 plain (Units form) h = absurd cc
 plain (Encoding e) h = absurd cc
-plain Exists h = record { word = refl; no_windash = refl; no_units = refl; no_encoding = refl; no_cidr = refl }
+plain Exists h = record { word = refl; no_windash = refl; no_units = refl; no_encoding = refl; no_cidr = refl; no_order = refl; no_fieldref = refl }
 plain Cidr h = absurd cc
+plain (Order op) h = absurd cc
+plain Fieldref h = absurd cc
 
 -- what a list of common words has and hasn't
 record ArePlain (ms : List Modifier) : Type 0 where
@@ -73,6 +79,19 @@ no_network : (ms : List Modifier) → list_all is_common_word ms ≡ true → is
 no_network [] h = refl
 no_network (m ∷ ms) h = let first : IsPlain m = plain m (and_parts (is_common_word m) (list_all is_common_word ms) h).0 in rw first.no_cidr refl
 
+no_order : (ms : List Modifier) → list_all is_common_word ms ≡ true → is_order_chain ms ≡ false
+no_order [] h = refl
+no_order (m ∷ ms) h =
+    let first : IsPlain m = plain m (and_parts (is_common_word m) (list_all is_common_word ms) h).0 in by (is_all_or_none ms) (order_in m) first.no_order
+  where
+    by : (b : Bool) (o : Option Op) → o ≡ None → is_some (if b then o else None) ≡ false
+    by true o none = rw none refl
+    by false o none = refl
+
+no_reference : (ms : List Modifier) → list_all is_common_word ms ≡ true → is_reference ms ≡ false
+no_reference [] h = refl
+no_reference (m ∷ ms) h = let first : IsPlain m = plain m (and_parts (is_common_word m) (list_all is_common_word ms) h).0 in rw first.no_fieldref refl
+
 -- the text chains among them, by what is said of each part
 text_chain : (words position all cased units leads encoding : Bool) (windashes encodings : ℕ)
     → windashes ≡ 0 → encodings ≡ 0 → units ≡ true → leads ≡ true → encoding ≡ false → (unencoded : Bool)
@@ -98,15 +117,17 @@ at_keyword true presence text common h = refl
 at_keyword false true text common h = h
 at_keyword false false text common h = h
 
-at_field : (empty presence network text common : Bool) → network ≡ false → text ≡ common
-    → (empty || presence || network || text) ≡ (empty || (presence && true) || common)
-at_field true presence network text common n h = refl
-at_field false true network text common n h = refl
-at_field false false network text common n h = rw n h
+at_field : (empty presence network order reference text common : Bool) → network ≡ false → order ≡ false → reference ≡ false → text ≡ common
+    → (empty || presence || network || order || reference || text) ≡ (empty || (presence && true) || common)
+at_field true presence network order reference text common n o r h = refl
+at_field false true network order reference text common n o r h = refl
+at_field false false network order reference text common n o r h = rw (n, o, r) h
 
 pub common : (keyword : Bool) (ms : List Modifier) → list_all is_common_word ms ≡ true → is_chain keyword ms ≡ is_common_chain keyword ms
 common true ms h = at_keyword (is_empty ms) (is_presence ms) (is_text_chain ms) _ (common_text ms h)
-common false ms h = at_field (is_empty ms) (is_presence ms) (is_network_chain ms) (is_text_chain ms) _ (no_network ms h) (common_text ms h)
+common false ms h =
+    at_field (is_empty ms) (is_presence ms) (is_network_chain ms) (is_order_chain ms) (is_reference ms) (is_text_chain ms) _
+    (no_network ms h) (no_order ms h) (no_reference ms h) (common_text ms h)
 
 -- ---- encodings and dashes
 
@@ -124,55 +145,125 @@ text_apart ms h =
     last_of (list_all is_text_word ms) (list_all (λ is_kind. at_most_one is_kind ms) text_kinds) (units_lead ms) (encodings_lead ms)
     (list_any is_encoding ms) (list_any is_windash ms) h
 
+-- a chain that begins with a modifier which is no encoding, and goes on with `all` at most, has no encoding
+tail_apart : (ms : List Modifier) → is_all_or_none ms ≡ true → list_any is_encoding ms ≡ false
+tail_apart [] h = refl
+tail_apart (All ∷ []) h = refl
+tail_apart (All ∷ m ∷ ms) h = absurd cc
+tail_apart (Position p ∷ ms) h = absurd cc
+tail_apart (Cased ∷ ms) h = absurd cc
+tail_apart (Windash ∷ ms) h = absurd cc
+tail_apart (Units form ∷ ms) h = absurd cc
+tail_apart (Encoding e ∷ ms) h = absurd cc
+tail_apart (Exists ∷ ms) h = absurd cc
+tail_apart (Cidr ∷ ms) h = absurd cc
+tail_apart (Order op ∷ ms) h = absurd cc
+tail_apart (Fieldref ∷ ms) h = absurd cc
+
+empty_apart : (ms : List Modifier) → is_empty ms ≡ true → list_any is_encoding ms ≡ false
+empty_apart [] h = refl
+empty_apart (m ∷ ms) h = absurd cc
+
+presence_alone : (m : Modifier) → is_exists m ≡ true → is_encoding m ≡ false
+presence_alone Exists h = refl
+presence_alone (Position p) h = refl
+presence_alone All h = refl
+presence_alone Cased h = refl
+presence_alone Windash h = refl
+presence_alone (Units form) h = refl
+presence_alone (Encoding e) h = absurd cc
+presence_alone Cidr h = refl
+presence_alone (Order op) h = refl
+presence_alone Fieldref h = refl
+
+network_alone : (m : Modifier) → is_cidr m ≡ true → is_encoding m ≡ false
+network_alone Cidr h = refl
+network_alone (Position p) h = refl
+network_alone All h = refl
+network_alone Cased h = refl
+network_alone Windash h = refl
+network_alone (Units form) h = refl
+network_alone (Encoding e) h = absurd cc
+network_alone Exists h = refl
+network_alone (Order op) h = refl
+network_alone Fieldref h = refl
+
+order_alone : (m : Modifier) → is_some (order_in m) ≡ true → is_encoding m ≡ false
+order_alone (Order op) h = refl
+order_alone (Position p) h = refl
+order_alone All h = refl
+order_alone Cased h = refl
+order_alone Windash h = refl
+order_alone (Units form) h = refl
+order_alone (Encoding e) h = absurd cc
+order_alone Exists h = refl
+order_alone Cidr h = refl
+order_alone Fieldref h = refl
+
+reference_alone : (m : Modifier) → is_fieldref m ≡ true → is_encoding m ≡ false
+reference_alone Fieldref h = refl
+reference_alone (Position p) h = refl
+reference_alone All h = refl
+reference_alone Cased h = refl
+reference_alone Windash h = refl
+reference_alone (Units form) h = refl
+reference_alone (Encoding e) h = absurd cc
+reference_alone Exists h = refl
+reference_alone Cidr h = refl
+reference_alone (Order op) h = refl
+
+no_encoding_in : (m : Modifier) (ms : List Modifier) → is_encoding m ≡ false → list_any is_encoding ms ≡ false → list_any is_encoding (m ∷ ms) ≡ false
+no_encoding_in m ms first rest = rw (first, rest) refl
+
 presence_apart : (ms : List Modifier) → is_presence ms ≡ true → list_any is_encoding ms ≡ false
 presence_apart [] h = refl
-presence_apart (Position p ∷ ms) h = absurd cc
-presence_apart (All ∷ ms) h = absurd cc
-presence_apart (Cased ∷ ms) h = absurd cc
-presence_apart (Windash ∷ ms) h = absurd cc
-presence_apart (Units form ∷ ms) h = absurd cc
-presence_apart (Encoding e ∷ ms) h = absurd cc
-presence_apart (Exists ∷ []) h = refl
-presence_apart (Exists ∷ m ∷ ms) h = absurd cc
-presence_apart (Cidr ∷ ms) h = absurd cc
+presence_apart (m ∷ ms) h =
+    let both = and_parts (is_exists m) (is_empty ms) h in no_encoding_in m ms (presence_alone m both.0) (empty_apart ms both.1)
 
 network_apart : (ms : List Modifier) → is_network_chain ms ≡ true → list_any is_encoding ms ≡ false
 network_apart [] h = refl
-network_apart (Position p ∷ ms) h = absurd cc
-network_apart (All ∷ ms) h = absurd cc
-network_apart (Cased ∷ ms) h = absurd cc
-network_apart (Windash ∷ ms) h = absurd cc
-network_apart (Units form ∷ ms) h = absurd cc
-network_apart (Encoding e ∷ ms) h = absurd cc
-network_apart (Exists ∷ ms) h = absurd cc
-network_apart (Cidr ∷ []) h = refl
-network_apart (Cidr ∷ All ∷ []) h = refl
-network_apart (Cidr ∷ All ∷ m ∷ ms) h = absurd cc
-network_apart (Cidr ∷ Position p ∷ ms) h = absurd cc
-network_apart (Cidr ∷ Cased ∷ ms) h = absurd cc
-network_apart (Cidr ∷ Windash ∷ ms) h = absurd cc
-network_apart (Cidr ∷ Units form ∷ ms) h = absurd cc
-network_apart (Cidr ∷ Encoding e ∷ ms) h = absurd cc
-network_apart (Cidr ∷ Exists ∷ ms) h = absurd cc
-network_apart (Cidr ∷ Cidr ∷ ms) h = absurd cc
+network_apart (m ∷ ms) h =
+    let both = and_parts (is_cidr m) (is_all_or_none ms) h in no_encoding_in m ms (network_alone m both.0) (tail_apart ms both.1)
+
+order_apart : (ms : List Modifier) → is_order_chain ms ≡ true → list_any is_encoding ms ≡ false
+order_apart [] h = refl
+order_apart (m ∷ ms) h = by (is_all_or_none ms) refl h
+  where
+    by : (b : Bool) → is_all_or_none ms ≡ b → is_some (if b then order_in m else None) ≡ true → list_any is_encoding (m ∷ ms) ≡ false
+    by true is some = no_encoding_in m ms (order_alone m some) (tail_apart ms is)
+    by false is some = absurd cc
+
+reference_apart : (ms : List Modifier) → is_reference ms ≡ true → list_any is_encoding ms ≡ false
+reference_apart [] h = refl
+reference_apart (m ∷ ms) h =
+    let both = and_parts (is_fieldref m) (is_empty ms) h in no_encoding_in m ms (reference_alone m both.0) (empty_apart ms both.1)
 
 without : (e w : Bool) → e ≡ false → (e && w) ≡ false
 without e w h = rw h refl
 
-by_kind : (ms : List Modifier) (empty presence network text : Bool) → is_empty ms ≡ empty → is_presence ms ≡ presence → is_network_chain ms ≡ network → is_text_chain ms ≡ text
-    → (empty || presence || network || text) ≡ true → (list_any is_encoding ms && list_any is_windash ms) ≡ false
-by_kind [] true presence network text e p n t h = refl
-by_kind (m ∷ ms) true presence network text e p n t h = absurd cc
-by_kind ms false true network text e p n t h = without (list_any is_encoding ms) (list_any is_windash ms) (presence_apart ms p)
-by_kind ms false false true text e p n t h = without (list_any is_encoding ms) (list_any is_windash ms) (network_apart ms n)
-by_kind ms false false false text e p n t h = text_apart ms (t ∙ h)
+by_kind : (ms : List Modifier) (empty presence network order reference text : Bool) → is_empty ms ≡ empty → is_presence ms ≡ presence
+    → is_network_chain ms ≡ network → is_order_chain ms ≡ order → is_reference ms ≡ reference → is_text_chain ms ≡ text
+    → (empty || presence || network || order || reference || text) ≡ true → (list_any is_encoding ms && list_any is_windash ms) ≡ false
+by_kind ms true presence network order reference text e p n o r t h = without (list_any is_encoding ms) (list_any is_windash ms) (empty_apart ms e)
+by_kind ms false true network order reference text e p n o r t h = without (list_any is_encoding ms) (list_any is_windash ms) (presence_apart ms p)
+by_kind ms false false true order reference text e p n o r t h = without (list_any is_encoding ms) (list_any is_windash ms) (network_apart ms n)
+by_kind ms false false false true reference text e p n o r t h = without (list_any is_encoding ms) (list_any is_windash ms) (order_apart ms o)
+by_kind ms false false false false true text e p n o r t h = without (list_any is_encoding ms) (list_any is_windash ms) (reference_apart ms r)
+by_kind ms false false false false false text e p n o r t h = text_apart ms (t ∙ h)
+
+-- what keywords take fields take too
+wider : (empty presence network order reference text : Bool) → (empty || text) ≡ true → (empty || presence || network || order || reference || text) ≡ true
+wider true presence network order reference text h = refl
+wider false true network order reference text h = refl
+wider false false true order reference text h = refl
+wider false false false true reference text h = refl
+wider false false false false true text h = refl
+wider false false false false false text h = h
+
+field_apart : (ms : List Modifier) → is_chain false ms ≡ true → (list_any is_encoding ms && list_any is_windash ms) ≡ false
+field_apart ms h =
+    by_kind ms (is_empty ms) (is_presence ms) (is_network_chain ms) (is_order_chain ms) (is_reference ms) (is_text_chain ms) refl refl refl refl refl refl h
 
 pub apart : (keyword : Bool) (ms : List Modifier) → is_chain keyword ms ≡ true → (list_any is_encoding ms && list_any is_windash ms) ≡ false
-apart true ms h = by_kind ms (is_empty ms) (is_presence ms) (is_network_chain ms) (is_text_chain ms) refl refl refl refl (wider (is_empty ms) (is_presence ms) (is_network_chain ms) (is_text_chain ms) h)
-  where
-    wider : (a p n t : Bool) → (a || t) ≡ true → (a || p || n || t) ≡ true
-    wider true p n t h = refl
-    wider false true n t h = refl
-    wider false false true t h = refl
-    wider false false false t h = h
-apart false ms h = by_kind ms (is_empty ms) (is_presence ms) (is_network_chain ms) (is_text_chain ms) refl refl refl refl h
+apart true ms h = field_apart ms (wider (is_empty ms) (is_presence ms) (is_network_chain ms) (is_order_chain ms) (is_reference ms) (is_text_chain ms) h)
+apart false ms h = field_apart ms h

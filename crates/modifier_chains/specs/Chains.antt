@@ -1,18 +1,19 @@
 -- Which words make a chain of modifiers, and why others don't (Sigma specification 2.0, modifiers).
-use Rattle.std.specs.Prelude.{ℕ, Bool, true, false, ◌&&◌, ◌||◌, not, nat_le, List, [], ◌∷◌, count_by, find, if◌then◌else◌, Option, Some, None}
+use Rattle.std.specs.Prelude.{ℕ, Bool, true, false, ◌&&◌, ◌||◌, not, nat_le, List, [], ◌∷◌, count_by, find, if◌then◌else◌, Option, Some, None, is_some}
 use Rattle.std.specs.List.{filter_map, list_all, list_any}
 use Rattle.sig_base.specs.declared.refusal.Place.{Place}
 use Rattle.sig_base.specs.declared.refusal.Refusal.{Refusal}
 use Rattle.sig_base.specs.declared.refusal.Detail.TheVariants as details
 use Rattle.sig_base.specs.Judged.{must, first}
-use Rattle.modifier_chains.specs.Kinds.{is_position, is_all, is_cased, is_units, is_encoding, is_exists, is_cidr, text_kinds, unencoded_kinds, is_text_word}
+use Rattle.modifier_chains.specs.Kinds.{is_position, is_all, is_cased, is_units, is_encoding, is_exists, is_cidr, order_in, is_fieldref, text_kinds, unencoded_kinds, is_text_word}
 use Rattle.modifier_chains.specs.Words.{modifier_of, is_unknown}
 use Rattle.modifier_chains.specs.Written.{Written}
 use Rattle.modifier_chains.specs.declared.form.ChainForm.{ChainForm}
-use Rattle.modifier_chains.specs.declared.form.ChainForm.TheVariants.{Bare, Presence, Networks, Texts}
+use Rattle.modifier_chains.specs.declared.form.ChainForm.TheVariants.{Bare, Presence, Networks, Orders, Reference, Texts}
 use Rattle.modifier_chains.specs.declared.modifier.Joined.{Joined}
 use Rattle.modifier_chains.specs.declared.modifier.Joined.TheVariants as joinings
 use Rattle.modifier_chains.specs.declared.modifier.Modifier.{Modifier}
+use Rattle.modifier_chains.specs.declared.modifier.Op.{Op}
 
 abbrev pub is_empty : List Modifier → Bool
 is_empty [] = true
@@ -42,6 +43,19 @@ is_all_or_none (modifier ∷ modifiers) = is_all modifier && is_empty modifiers
 abbrev pub is_network_chain : List Modifier → Bool
 is_network_chain [] = false
 is_network_chain (modifier ∷ modifiers) = is_cidr modifier && is_all_or_none modifiers
+
+-- how values have to stand to a number: one word for that, and then perhaps `all`
+abbrev pub order_of : List Modifier → Option Op
+order_of [] = None
+order_of (modifier ∷ modifiers) = if is_all_or_none modifiers then order_in modifier else None
+
+abbrev pub is_order_chain : List Modifier → Bool
+is_order_chain modifiers = is_some (order_of modifiers)
+
+-- `fieldref` alone
+abbrev pub is_reference : List Modifier → Bool
+is_reference [] = false
+is_reference (modifier ∷ modifiers) = is_fieldref modifier && is_empty modifiers
 
 -- units stand directly before an encoding, and nowhere else
 abbrev pub units_lead : List Modifier → Bool
@@ -73,6 +87,8 @@ is_field_chain modifiers =
     is_empty modifiers
     || is_presence modifiers
     || is_network_chain modifiers
+    || is_order_chain modifiers
+    || is_reference modifiers
     || is_text_chain modifiers
 
 -- the chains of keywords: no modifier, and a line for each kind of chain that keywords take
@@ -112,12 +128,21 @@ joined_of chain = if list_any is_all chain.modifiers then joinings.All else join
 abbrev pub takes_null : List Modifier → Bool
 takes_null modifiers = list_all (λ modifier. is_all modifier || is_cased modifier) modifiers
 
--- the kind of a chain at a field
-abbrev pub field_form : List Modifier → ChainForm
-field_form modifiers =
+-- the kind of a chain that asks for no order
+abbrev pub unordered_form : List Modifier → ChainForm
+unordered_form modifiers =
     if is_empty modifiers then Bare
     else (if is_presence modifiers then Presence
-    else (if is_network_chain modifiers then Networks else Texts (takes_null modifiers)))
+    else (if is_network_chain modifiers then Networks
+    else (if is_reference modifiers then Reference else Texts (takes_null modifiers))))
+
+abbrev pub ordered_form : Option Op → List Modifier → ChainForm
+ordered_form None modifiers = unordered_form modifiers
+ordered_form (Some op) modifiers = Orders op
+
+-- the kind of a chain at a field
+abbrev pub field_form : List Modifier → ChainForm
+field_form modifiers = ordered_form (order_of modifiers) modifiers
 
 -- a keyword takes text chains alone, also without a modifier, and no null
 abbrev pub form_of : Written → ChainForm

@@ -1,8 +1,9 @@
 -- The kinds of modifiers.
-use Rattle.std.specs.Prelude.{Bool, true, false, List, [], ◌∷◌, ◌||◌}
+use Rattle.std.specs.Prelude.{Bool, true, false, List, [], ◌∷◌, ◌||◌, Option, Some, None}
 use Rattle.std.specs.List.{list_any}
 use Rattle.modifier_chains.specs.declared.modifier.Modifier.{Modifier}
-use Rattle.modifier_chains.specs.declared.modifier.Modifier.TheVariants.{Position, All, Cased, Windash, Units, Encoding, Exists, Cidr}
+use Rattle.modifier_chains.specs.declared.modifier.Modifier.TheVariants.{Position, All, Cased, Windash, Units, Encoding, Exists, Cidr, Order, Fieldref}
+use Rattle.modifier_chains.specs.declared.modifier.Op.{Op}
 
 -- says where in a text the pattern is looked for
 abbrev pub is_position : Modifier → Bool
@@ -43,6 +44,16 @@ is_exists _ = false
 abbrev pub is_cidr : Modifier → Bool
 is_cidr Cidr = true
 is_cidr _ = false
+
+-- how the value has to stand to a number, if the modifier asks for that
+abbrev pub order_in : Modifier → Option Op
+order_in (Order op) = Some op
+order_in _ = None
+
+-- asks for the text of another field
+abbrev pub is_fieldref : Modifier → Bool
+is_fieldref Fieldref = true
+is_fieldref _ = false
 
 -- the kinds of which a text chain has at most one modifier each
 abbrev pub text_kinds : List (Modifier → Bool)

@@ -7,7 +7,8 @@ use Rattle.sig_base.specs.Texts.{is_ascii}
 use Rattle.sig_encode.specs.declared.utf16.Form.TheVariants.{Le, Be, Marked}
 use Rattle.modifier_chains.specs.declared.modifier.Encoding.TheVariants.{Base64, Base64Offset}
 use Rattle.modifier_chains.specs.declared.modifier.Modifier.{Modifier}
-use Rattle.modifier_chains.specs.declared.modifier.Modifier.TheVariants.{Position, All, Cased, Windash, Units, Encoding, Exists, Cidr}
+use Rattle.modifier_chains.specs.declared.modifier.Modifier.TheVariants.{Position, All, Cased, Windash, Units, Encoding, Exists, Cidr, Order, Fieldref}
+use Rattle.modifier_chains.specs.declared.modifier.Op.TheVariants.{Lt, Lte, Gt, Gte}
 use Rattle.modifier_chains.specs.declared.modifier.Position.TheVariants.{Around, After, Before}
 
 -- each word, and what it asks for; of what kind a word is, the chains below tell by its modifier alone
@@ -27,6 +28,11 @@ modifier_words =
     ∷ (codes "base64offset", Encoding Base64Offset)
     ∷ (codes "exists", Exists)
     ∷ (codes "cidr", Cidr)
+    ∷ (codes "lt", Order Lt)
+    ∷ (codes "lte", Order Lte)
+    ∷ (codes "gt", Order Gt)
+    ∷ (codes "gte", Order Gte)
+    ∷ (codes "fieldref", Fieldref)
     ∷ []
 
 abbrev pub modifier_in : List (List ℕ × Modifier) → List ℕ → Option Modifier

@@ -6,7 +6,8 @@ ghost use Rattle.modifier_chains.specs.Chains as chains;
 ghost use Rattle.modifier_chains.specs.Kinds as kinds;
 
 use crate::counting::{
-    is_all, is_cased, is_empty, is_network_chain, is_position, is_presence, takes_null,
+    is_all, is_cased, is_empty, is_network_chain, is_position, is_presence, is_reference, order_of,
+    takes_null,
 };
 use crate::form::ChainForm;
 use crate::modifier::{Joined, Modifier};
@@ -94,6 +95,16 @@ impl Chain {
         if self.is_keyword() {
             return ChainForm::Texts { nulls: false };
         }
+        if let Some(op) = order_of(self.modifiers()) {
+            return ChainForm::Orders(op);
+        }
+        self.unordered_form()
+    }
+
+    /// The kind of the chain at a field, if it asks for no order.
+    fn unordered_form(&self) -> ChainForm
+        ensures { result ≡ chains.unordered_form self.now.modifiers }
+    {
         if is_empty(self.modifiers()) {
             return ChainForm::Bare;
         }
@@ -102,6 +113,9 @@ impl Chain {
         }
         if is_network_chain(self.modifiers()) {
             return ChainForm::Networks;
+        }
+        if is_reference(self.modifiers()) {
+            return ChainForm::Reference;
         }
         ChainForm::Texts {
             nulls: takes_null(self.modifiers()),

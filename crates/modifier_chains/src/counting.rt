@@ -5,7 +5,7 @@ ghost use Rattle.std.specs.List.{list_all, list_any};
 ghost use Rattle.modifier_chains.specs.Chains as chains;
 ghost use Rattle.modifier_chains.specs.Kinds as kinds;
 
-use crate::modifier::Modifier;
+use crate::modifier::{Modifier, Op};
 
 pub fn is_position(modifier: &Modifier) -> bool
     ensures { result ≡ kinds.is_position modifier.now }
@@ -53,6 +53,22 @@ fn is_cidr(modifier: &Modifier) -> bool
     ensures { result ≡ kinds.is_cidr modifier.now }
 {
     matches!(modifier, Modifier::Cidr)
+}
+
+/// How the value has to stand to a number, if the modifier asks for that.
+fn order_in(modifier: &Modifier) -> Option<Op>
+    ensures { result ≡ kinds.order_in modifier.now }
+{
+    match modifier {
+        Modifier::Order(op) => Some(*op),
+        _ => None,
+    }
+}
+
+fn is_fieldref(modifier: &Modifier) -> bool
+    ensures { result ≡ kinds.is_fieldref modifier.now }
+{
+    matches!(modifier, Modifier::Fieldref)
 }
 
 fn is_text_word(modifier: &Modifier) -> bool
@@ -214,6 +230,35 @@ pub fn is_network_chain(modifiers: &[Modifier]) -> bool
     is_cidr(modifier) && is_all_or_none(rest)
 }
 
+/// How values have to stand to a number, where that is asked for alone or with `all` behind.
+pub fn order_of(modifiers: &[Modifier]) -> Option<Op>
+    ensures { result ≡ chains.order_of modifiers.now }
+{
+    let Some((modifier, rest)) = modifiers.split_first() else {
+        return None;
+    };
+    if !is_all_or_none(rest) {
+        return None;
+    }
+    order_in(modifier)
+}
+
+fn is_order_chain(modifiers: &[Modifier]) -> bool
+    ensures { result ≡ chains.is_order_chain modifiers.now }
+{
+    order_of(modifiers).is_some()
+}
+
+/// Whether `fieldref` stands there alone.
+pub fn is_reference(modifiers: &[Modifier]) -> bool
+    ensures { result ≡ chains.is_reference modifiers.now }
+{
+    let Some((modifier, rest)) = modifiers.split_first() else {
+        return false;
+    };
+    is_fieldref(modifier) && is_empty(rest)
+}
+
 /// Whether null is taken beside texts.
 pub fn takes_null(modifiers: &[Modifier]) -> bool
     ensures { result ≡ chains.takes_null modifiers.now }
@@ -227,6 +272,8 @@ fn is_field_chain(modifiers: &[Modifier]) -> bool
     is_empty(modifiers)
         || is_presence(modifiers)
         || is_network_chain(modifiers)
+        || is_order_chain(modifiers)
+        || is_reference(modifiers)
         || is_text_chain(modifiers)
 }
 

@@ -1,5 +1,7 @@
 //! What kinds of chains there are.
 
+use crate::modifier::Op;
+
 /// The kind of a chain, which decides what values it takes and what for.
 #[derive(Clone, Copy, Debug, PartialEq, Eq)]
 pub enum ChainForm {
@@ -9,6 +11,10 @@ pub enum ChainForm {
     Presence,
     /// networks, and perhaps `all`
     Networks,
+    /// how values stand to a number, and perhaps `all`
+    Orders(Op),
+    /// `fieldref`
+    Reference,
     /// a text chain, and whether it takes null too
     Texts { nulls: bool },
 }

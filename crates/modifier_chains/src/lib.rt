@@ -4,7 +4,7 @@
 pub use chain::Chain;
 pub use form::ChainForm;
 pub use law::{common_chains, encodings_without_dashes};
-pub use modifier::{Encoding, Joined, Modifier, Position};
+pub use modifier::{Encoding, Joined, Modifier, Op, Position};
 
 mod chain;
 mod counting;

@@ -26,6 +26,19 @@ pub enum Encoding {
     Base64Offset,
 }
 
+/// How a whole number stands to one that a rule gives.
+#[derive(Clone, Copy, Debug, PartialEq, Eq)]
+pub enum Op {
+    /// below it
+    Lt,
+    /// at most it
+    Lte,
+    /// above it
+    Gt,
+    /// at least it
+    Gte,
+}
+
 /// What a word behind a field's name asks for. What tells words of one kind apart is the kind's argument.
 #[derive(Clone, Copy, Debug, PartialEq, Eq)]
 pub enum Modifier {
@@ -45,6 +58,10 @@ pub enum Modifier {
     Exists,
     /// that the value is an address of a network
     Cidr,
+    /// that the value is a whole number which stands so to this one
+    Order(Op),
+    /// that the value is that of another field
+    Fieldref,
 }
 
 /// Whether all values of an item have to be satisfied, or one of them.
@@ -55,7 +72,7 @@ pub enum Joined {
 }
 
 /// Each word, and what it asks for.
-const WORDS: [(&str, Modifier); 14] = [
+const WORDS: [(&str, Modifier); 19] = [
     ("contains", Modifier::Position(Position::Around)),
     ("startswith", Modifier::Position(Position::After)),
     ("endswith", Modifier::Position(Position::Before)),
@@ -70,6 +87,11 @@ const WORDS: [(&str, Modifier); 14] = [
     ("base64offset", Modifier::Encoding(Encoding::Base64Offset)),
     ("exists", Modifier::Exists),
     ("cidr", Modifier::Cidr),
+    ("lt", Modifier::Order(Op::Lt)),
+    ("lte", Modifier::Order(Op::Lte)),
+    ("gt", Modifier::Order(Op::Gt)),
+    ("gte", Modifier::Order(Op::Gte)),
+    ("fieldref", Modifier::Fieldref),
 ];
 
 /// The modifier that a word names in these rows.

@@ -1,6 +1,6 @@
 //! Rows of the table of chains, reckoned by hand.
 
-use crate::{Chain, ChainForm, Joined};
+use crate::{Chain, ChainForm, Joined, Op};
 use sig_base::{Detail, Fault, Place, Refusal, Text};
 use std::alloc::Global;
 use std::test::Fail;
@@ -37,6 +37,23 @@ cased|cidr~41~41
 cidr|all|all~41~41
 exists|cidr~41~41
 CIDR~40 CIDR~40 CIDR
+lt~below any~41
+lte|all~at most all~41
+gt~above any~41
+gte~at least any~41
+all|gt~41~41
+gt|lt~41~41
+gt|gt~41~41
+gt|all|all~41~41
+gte|contains~41~41
+cased|lt~41~41
+neq~40 neq~40 neq
+fieldref~reference any~41
+fieldref|all~41~41
+cased|fieldref~41~41
+fieldref|contains~41~41
+fieldref|fieldref~41~41
+gt|fieldref~41~41
 windash~texts any~texts any
 windash|contains|all~texts all~texts all
 contains|windash~texts any~texts any
@@ -93,6 +110,11 @@ fn form_word(form: ChainForm) -> &'static str {
         ChainForm::Bare => "bare",
         ChainForm::Presence => "exists",
         ChainForm::Networks => "networks",
+        ChainForm::Orders(Op::Lt) => "below",
+        ChainForm::Orders(Op::Lte) => "at most",
+        ChainForm::Orders(Op::Gt) => "above",
+        ChainForm::Orders(Op::Gte) => "at least",
+        ChainForm::Reference => "reference",
         ChainForm::Texts { nulls: true } => "nulls",
         ChainForm::Texts { nulls: false } => "texts",
     }
@@ -135,6 +157,6 @@ fn words_make_chains(rt: HostRuntime) -> Result<(), Fail> {
             "{row}"
         );
     }
-    assert_eq!(rt; ROWS.lines().count(), 52);
+    assert_eq!(rt; ROWS.lines().count(), 69);
     Ok(())
 }

@@ -7,6 +7,8 @@ use Rattle.backend_core.specs.Sound.{kind_at}
 use Rattle.backend_core.specs.Trees.{Plain, any, negated, leaf, never, no_parts}
 use Rattle.backend_core.specs.declared.tree.LeafTest.{LeafTest}
 use Rattle.backend_core.specs.declared.tree.LeafTest.TheVariants as leaf_tests
+use Rattle.backend_core.specs.declared.tree.Op.{Op as LeafOp}
+use Rattle.backend_core.specs.declared.tree.Op.TheVariants as leaf_ops
 use Rattle.event_schema.specs.declared.schema.Field.{Field}
 use Rattle.event_schema.specs.declared.schema.FieldKind.{FieldKind}
 use Rattle.event_schema.specs.declared.schema.FieldKind.TheVariants as kinds
@@ -22,6 +24,8 @@ use Rattle.sig_base.specs.declared.refusal.Place.{Place}
 use Rattle.sig_conditions.specs.Formulas.{PlainFormula, FDetection, FNot, FAnd, FOr, PlainFormulas, no_forms, form}
 use Rattle.modifier_chains.specs.declared.modifier.Joined.{Joined}
 use Rattle.modifier_chains.specs.declared.modifier.Joined.TheVariants.{All, Any}
+use Rattle.modifier_chains.specs.declared.modifier.Op.{Op}
+use Rattle.modifier_chains.specs.declared.modifier.Op.TheVariants as ops
 use Rattle.sig_encode.specs.Networks.{patterns_of}
 use Rattle.sig_modifiers.specs.declared.test.Test.{Test}
 use Rattle.sig_modifiers.specs.declared.test.Test.TheVariants as tests
@@ -30,31 +34,44 @@ use Rattle.sig_strings.specs.declared.part.Part.TheVariants.{Char}
 use Rattle.rule_lowering.specs.Joining.{join}
 use Rattle.rule_lowering.specs.WholeNumbers.{if_whole, written_number}
 
--- What a leaf asks of a field of texts or addresses: a value, none, or a text; a number's text is its decimal. No leaf asks
--- for a network, which patterns stand for.
-abbrev pub text_test : Test → Option LeafTest
-text_test tests.Absent = Some leaf_tests.Absent
-text_test (tests.Exists true) = Some leaf_tests.Has
-text_test (tests.Exists false) = Some leaf_tests.Absent
-text_test (tests.Fits pattern cased) = Some (leaf_tests.Fits pattern cased)
-text_test (tests.Equals n) = Some (leaf_tests.Fits (map Char (signed_decimal n)) false)
-text_test (tests.Inside n) = None
+-- how a number stands to another, in a leaf
+abbrev pub leaf_op : Op → LeafOp
+leaf_op ops.Lt = leaf_ops.Lt
+leaf_op ops.Lte = leaf_ops.Lte
+leaf_op ops.Gt = leaf_ops.Gt
+leaf_op ops.Gte = leaf_ops.Gte
 
--- What a leaf asks of a field of whole numbers, if a value can pass the test: a value, none, a number, or that a number's
--- decimal fits a pattern with a wildcard. A pattern without one asks for the number whose decimal it is.
-abbrev pub whole_test : Test → Option LeafTest
-whole_test tests.Absent = Some leaf_tests.Absent
-whole_test (tests.Exists true) = Some leaf_tests.Has
-whole_test (tests.Exists false) = Some leaf_tests.Absent
-whole_test (tests.Fits pattern cased) =
+-- What a leaf asks of a field of texts or addresses: a value, none, a text, or the text of another field; a number's text is
+-- its decimal. No leaf asks for a network, which patterns stand for, and no text stands so to a number.
+abbrev pub text_test : List Field → Test → Option LeafTest
+text_test fields tests.Absent = Some leaf_tests.Absent
+text_test fields (tests.Exists true) = Some leaf_tests.Has
+text_test fields (tests.Exists false) = Some leaf_tests.Absent
+text_test fields (tests.Fits pattern cased) = Some (leaf_tests.Fits pattern cased)
+text_test fields (tests.Equals n) = Some (leaf_tests.Fits (map Char (signed_decimal n)) false)
+text_test fields (tests.Inside n) = None
+text_test fields (tests.Compare op n) = None
+text_test fields (tests.SameAs name) = Some (leaf_tests.SameAs (number_of fields name))
+
+-- What a leaf asks of a field of whole numbers, if a value can pass the test: a value, none, a number, how it stands to one,
+-- the number of another field, or that a number's decimal fits a pattern with a wildcard. A pattern without one asks for the
+-- number whose decimal it is.
+abbrev pub whole_test : List Field → Test → Option LeafTest
+whole_test fields tests.Absent = Some leaf_tests.Absent
+whole_test fields (tests.Exists true) = Some leaf_tests.Has
+whole_test fields (tests.Exists false) = Some leaf_tests.Absent
+whole_test fields (tests.Fits pattern cased) =
     if has_wildcard pattern then Some (leaf_tests.Fits pattern cased) else option_map leaf_tests.Equals (written_number (plain_text pattern))
-whole_test (tests.Equals n) = option_map leaf_tests.Equals (if_whole n)
-whole_test (tests.Inside n) = None
+whole_test fields (tests.Equals n) = option_map leaf_tests.Equals (if_whole n)
+whole_test fields (tests.Inside n) = None
+whole_test fields (tests.Compare op n) = Some (leaf_tests.Compare (leaf_op op) n)
+whole_test fields (tests.SameAs name) = Some (leaf_tests.SameAs (number_of fields name))
 
-abbrev pub leaf_test : FieldKind → Test → Option LeafTest
-leaf_test kinds.Text test = text_test test
-leaf_test kinds.Whole test = whole_test test
-leaf_test kinds.Address test = text_test test
+-- what a leaf asks of a field of this kind, among these fields
+abbrev pub leaf_test : List Field → FieldKind → Test → Option LeafTest
+leaf_test fields kinds.Text test = text_test fields test
+leaf_test fields kinds.Whole test = whole_test fields test
+leaf_test fields kinds.Address test = text_test fields test
 
 -- where no value can pass, what never holds
 abbrev pub leaf_if_any : Place → ℕ → Option LeafTest → Plain
@@ -62,8 +79,8 @@ leaf_if_any place field None = never
 leaf_if_any place field (Some test) = leaf (record { field = field; test = test; place = place })
 
 -- what a query language can say of a test at the field of this number, which is of this kind
-abbrev pub written_tree : Place → FieldKind → ℕ → Test → Plain
-written_tree place kind field test = leaf_if_any place field (leaf_test kind test)
+abbrev pub written_tree : List Field → Place → FieldKind → ℕ → Test → Plain
+written_tree fields place kind field test = leaf_if_any place field (leaf_test fields kind test)
 
 -- the tests that stand for a test where a language has neither a place for any dash nor networks: for a pattern one for
 -- each choice of dashes, and for a network one for each of its patterns
@@ -73,26 +90,28 @@ written_tests (tests.Exists there) = tests.Exists there ∷ []
 written_tests (tests.Fits pattern cased) = map (λ chosen. tests.Fits chosen cased) (choices pattern)
 written_tests (tests.Equals n) = tests.Equals n ∷ []
 written_tests (tests.Inside n) = map (λ pattern. tests.Fits pattern false) (patterns_of n)
+written_tests (tests.Compare op n) = tests.Compare op n ∷ []
+written_tests (tests.SameAs name) = tests.SameAs name ∷ []
 
 -- a test is any of those that stand for it
-abbrev pub test_tree : Place → FieldKind → ℕ → Test → Plain
-test_tree place kind field test = join Any (map (written_tree place kind field) (written_tests test))
+abbrev pub test_tree : List Field → Place → FieldKind → ℕ → Test → Plain
+test_tree fields place kind field test = join Any (map (written_tree fields place kind field) (written_tests test))
 
 -- a value is any of its tests
-abbrev pub value_tree : Place → FieldKind → ℕ → List Test → Plain
-value_tree place kind field tests = join Any (map (test_tree place kind field) tests)
+abbrev pub value_tree : List Field → Place → FieldKind → ℕ → List Test → Plain
+value_tree fields place kind field tests = join Any (map (test_tree fields place kind field) tests)
 
-abbrev pub values_tree : Place → Joined → List (List Test) → FieldKind → ℕ → Plain
-values_tree place joined values kind field = join joined (map (value_tree place kind field) values)
+abbrev pub values_tree : List Field → Place → Joined → List (List Test) → FieldKind → ℕ → Plain
+values_tree fields place joined values kind field = join joined (map (value_tree fields place kind field) values)
 
 module _ (fields : List Field) where
   -- a keyword is any of the fields that keywords search
   abbrev pub keyword_tree : Place → List Test → Plain
-  keyword_tree place tests = join Any (map (λ field. value_tree place (kind_at fields field) field tests) (searched fields))
+  keyword_tree place tests = join Any (map (λ field. value_tree fields place (kind_at fields field) field tests) (searched fields))
 
   -- the values of an item at the field of this number
   abbrev pub number_tree : Place → Joined → List (List Test) → ℕ → Plain
-  number_tree place joined values field = values_tree place joined values (kind_at fields field) field
+  number_tree place joined values field = values_tree fields place joined values (kind_at fields field) field
 
   -- an item over names is any of the names
   abbrev pub fields_tree : Place → Joined → List (List Test) → Fields → Plain

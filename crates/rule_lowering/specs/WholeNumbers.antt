@@ -1,13 +1,9 @@
 -- The numbers that fields of whole numbers have, and the texts that are their decimals.
-use Rattle.std.specs.Prelude.{ℕ, ◌-◌, ◌^◌, nat_lt, ℤ, pos, negsuc, Bool, if◌then◌else◌, List, Option, Some, None}
+use Rattle.std.specs.Prelude.{ℕ, ℤ, if◌then◌else◌, List, Option, Some, None}
 use Rattle.std.specs.Fmt.{signed_decimal}
 use Rattle.std.specs.Str.{bytes_eq}
 use Rattle.std.specs.Str.Parse.{signed_digits_value}
-
--- a whole number from -(2^63 - 1) to 2^63 - 1
-abbrev pub is_whole : ℤ → Bool
-is_whole (pos n) = nat_lt n (2 ^ 63)
-is_whole (negsuc n) = nat_lt n (2 ^ 63 - 1)
+use Rattle.value_patterns.specs.Numbers.{is_whole}
 
 abbrev pub if_whole : ℤ → Option ℤ
 if_whole n = if is_whole n then Some n else None

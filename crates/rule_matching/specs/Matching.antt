@@ -22,9 +22,13 @@ JoinedHolds Any Satisfied values = SomeOf Satisfied values
 
 -- Of an event that has for each of these fields a list of values: the row has them in the fields' order.
 module _ (fields : List Field) (row : List (List Value)) where
+  -- the values of the field of a name
+  abbrev pub named : List ℕ → List Value
+  named name = values_if_any row (field_number fields name)
+
   -- a value is satisfied by a field where one of its tests holds of the field's values
   abbrev pub FieldSatisfies : List ℕ → List Test → Type 0
-  FieldSatisfies name tests = SomeOf (λ test. Holds test (values_if_any row (field_number fields name))) tests
+  FieldSatisfies name tests = SomeOf (λ test. Holds named test (named name)) tests
 
   -- a keyword is satisfied by some field that keywords search
   abbrev pub KeywordSatisfied : List Test → Type 0

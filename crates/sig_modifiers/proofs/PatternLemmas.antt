@@ -11,7 +11,7 @@ use Rattle.modifier_chains.specs.Chains.{form_of}
 use Rattle.modifier_chains.specs.Kinds.{is_cased}
 use Rattle.modifier_chains.specs.Written.{Written}
 use Rattle.modifier_chains.specs.declared.form.ChainForm.{ChainForm}
-use Rattle.modifier_chains.specs.declared.form.ChainForm.TheVariants.{Bare, Presence, Networks, Texts}
+use Rattle.modifier_chains.specs.declared.form.ChainForm.TheVariants.{Bare, Presence, Networks, Orders, Reference, Texts}
 use Rattle.sig_base.specs.Texts.{is_ascii}
 use Rattle.sig_base.specs.declared.refusal.Place.{Place}
 use Rattle.sig_base.specs.declared.refusal.Refusal.{Refusal}
@@ -23,7 +23,9 @@ use Rattle.sig_encode.specs.Networks.{Net, IsNetwork}
 use Rattle.sig_strings.specs.declared.part.Part.{Part}
 use Rattle.value_patterns.specs.Parts.{has_nul}
 use Rattle.value_patterns.specs.PlainPatterns.{IsDashedPattern}
-use Rattle.value_patterns.specs.Uses.{Use, unused, absent, existing, pattern, network, number, use_refusal, ArePatterns}
+use Rattle.value_patterns.specs.Uses.{Use, unused, absent, existing, pattern, network, number, ordered, reference, use_refusal, ArePatterns}
+use Rattle.value_patterns.proofs.JudgedLemmas.{ordered_taken, reference_taken}
+use Rattle.value_patterns.proofs.Numbers.{whole_holds}
 use Rattle.yaml_tree.specs.Nodes.{place_of}
 use Rattle.yaml_tree.specs.Texts.{IsScalarText, HasScalarTexts}
 use Rattle.yaml_tree.specs.Tree.{Scalar, null, truth, whole, text, Tree, scalar, list, map}
@@ -81,6 +83,8 @@ IsScalarUse (existing b) = Unit {0}
 IsScalarUse (pattern t) = all_scalars t ≡ true
 IsScalarUse (network t) = Unit {0}
 IsScalarUse (number n) = Unit {0}
+IsScalarUse (ordered op n) = Unit {0}
+IsScalarUse (reference t) = all_scalars t ≡ true
 
 truth_scalars : (b : Bool) → all_scalars (truth_text b) ≡ true
 truth_scalars true = refl
@@ -103,6 +107,14 @@ scalar_uses Networks null h = tt
 scalar_uses Networks (truth b) h = tt
 scalar_uses Networks (whole n) h = tt
 scalar_uses Networks (text t) h = tt
+scalar_uses (Orders op) null h = tt
+scalar_uses (Orders op) (truth b) h = tt
+scalar_uses (Orders op) (whole n) h = tt
+scalar_uses (Orders op) (text t) h = tt
+scalar_uses Reference null h = tt
+scalar_uses Reference (truth b) h = tt
+scalar_uses Reference (whole n) h = tt
+scalar_uses Reference (text t) h = h
 scalar_uses (Texts nulls) null h = null_scalars nulls
 scalar_uses (Texts nulls) (truth b) h = truth_scalars b
 scalar_uses (Texts nulls) (whole n) h = ascii_scalars (signed_decimal n) (decimal_ascii n)
@@ -142,6 +154,10 @@ module _ (dashed : (chain : Written) (t : List ℕ) (patterns : List (List Part)
       (each_plain chain h.patterns (dashed chain t h.patterns scalars (no_nul most dashes chain place t none) h.are_patterns))
   use_plain most dashes place chain (network t) ts none scalars h = subst ArePlainTests (sym h.2) (plain_network t h.0 h.1, tt)
   use_plain most dashes place chain (number n) ts none scalars h = subst ArePlainTests (sym h) (tt, tt)
+  use_plain most dashes place chain (ordered op n) ts none scalars h =
+      subst ArePlainTests (sym h) (whole_holds n (ordered_taken most dashes chain place op n none), tt)
+  use_plain most dashes place chain (reference t) ts none scalars h =
+      subst ArePlainTests (sym h) (record { legal = reference_taken most dashes chain place t none; scalars = scalars }, tt)
 
   pub value_plain : (most dashes : ℕ) (chain : Written) (t : Tree) (ts : List Test) → value_refusal most dashes chain t ≡ None → HasScalarTexts t
       → TestsOf chain t ts → ArePlainTests ts

@@ -12,7 +12,7 @@ use Rattle.sig_strings.specs.Edits.{plain_text}
 use Rattle.sig_strings.specs.declared.part.Part.{Part}
 use Rattle.value_patterns.specs.Edited.{pattern_of}
 use Rattle.value_patterns.specs.Encoded.{encoding_of, units_of, bytes_in, as_pattern, AreTexts, AreAlternatives}
-use Rattle.value_patterns.specs.Uses.{Use, unused, absent, existing, pattern, network, number, use_refusal, ArePatterns}
+use Rattle.value_patterns.specs.Uses.{Use, unused, absent, existing, pattern, network, number, ordered, reference, use_refusal, ArePatterns}
 use Rattle.yaml_tree.specs.Nodes.{place_of}
 use Rattle.yaml_tree.specs.Tree.{Tree}
 use Rattle.sig_modifiers.specs.TestsOf.{UseTests, TestsOf, use_of, fits_of, value_refusal}
@@ -30,6 +30,8 @@ module _ (same : (chain : Written) (t : List ℕ) (patterns others : List (List 
       p.tests_are ∙ (ap (λ (all : List (List Part)). list_map (fits_of chain) all) (same chain t p.patterns q.patterns p.are_patterns q.are_patterns) ∙ sym q.tests_are)
   use_one chain (network t) a b p q = p.2 ∙ (ap (λ (n : Net). tests.Inside n ∷ []) (same_network t p.0 q.0 p.1 q.1) ∙ sym q.2)
   use_one chain (number n) a b p q = p ∙ sym q
+  use_one chain (ordered op n) a b p q = p ∙ sym q
+  use_one chain (reference t) a b p q = p ∙ sym q
 
   pub one_list : (chain : Written) (value : Tree) (a b : List Test) → TestsOf chain value a → TestsOf chain value b → a ≡ b
   one_list chain value a b p q = use_one chain (use_of chain value) a b p q
@@ -50,6 +52,8 @@ module _ (some : (chain : Written) (t : List ℕ) → (patterns : List (List Par
       let p : (n : Net) × IsNetwork t n = some_network most dashes chain place t h in
       (tests.Inside p.0 ∷ [], (p.0, p.1, refl))
   use_some most dashes chain place (number n) h = (tests.Equals n ∷ [], refl)
+  use_some most dashes chain place (ordered op n) h = (tests.Compare op n ∷ [], refl)
+  use_some most dashes chain place (reference t) h = (tests.SameAs t ∷ [], refl)
 
   pub some_list : (most dashes : ℕ) (chain : Written) (value : Tree) → value_refusal most dashes chain value ≡ None
       → (ts : List Test) × TestsOf chain value ts
@@ -91,6 +95,8 @@ use_has chain (pattern t) ts h =
     subst (λ (us : List Test). HasElement us) (sym h.tests_are) (some_map (fits_of chain) h.patterns (some_pattern chain t h.patterns h.are_patterns))
 use_has chain (network t) ts h = subst (λ (us : List Test). HasElement us) (sym h.2) tt
 use_has chain (number n) ts h = subst (λ (us : List Test). HasElement us) (sym h) tt
+use_has chain (ordered op n) ts h = subst (λ (us : List Test). HasElement us) (sym h) tt
+use_has chain (reference t) ts h = subst (λ (us : List Test). HasElement us) (sym h) tt
 
 pub has_test : (chain : Written) (value : Tree) (ts : List Test) → TestsOf chain value ts → HasElement ts
 has_test chain value ts h = use_has chain (use_of chain value) ts h

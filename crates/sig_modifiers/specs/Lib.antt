@@ -1,4 +1,5 @@
 pub mod Holds
 pub mod PlainTests
+pub mod References
 pub mod Resolved
 pub mod TestsOf

@@ -1,10 +1,13 @@
--- Tests whose patterns have no placeholder and no U+0000, and whose networks are of 32 bits.
+-- Tests whose patterns have no placeholder and no U+0000, whose networks are of 32 bits, which compare with numbers that
+-- fields have, and which name fields by legal names.
 use Rattle.std.specs.Prelude.{◌<◌, ◌≤◌, ◌^◌, List, ⊤}
+use Rattle.event_schema.specs.Events.{IsWholeNumber}
 use Rattle.event_schema.specs.Lists.{EachOf}
+use Rattle.event_schema.specs.Names.{IsName}
 use Rattle.sig_encode.specs.Networks.{Net}
 use Rattle.value_patterns.specs.PlainPatterns.{IsDashedPattern}
 use Rattle.sig_modifiers.specs.declared.test.Test.{Test}
-use Rattle.sig_modifiers.specs.declared.test.Test.TheVariants.{Absent, Exists, Fits, Equals, Inside}
+use Rattle.sig_modifiers.specs.declared.test.Test.TheVariants.{Absent, Exists, Fits, Equals, Inside, Compare, SameAs}
 
 -- an address's number, and a prefix of its bits
 abbrev pub IsPlainNetwork : Net → Type 0
@@ -16,6 +19,8 @@ IsPlainTest (Exists there) = ⊤
 IsPlainTest (Fits pattern cased) = IsDashedPattern pattern
 IsPlainTest (Equals n) = ⊤
 IsPlainTest (Inside n) = IsPlainNetwork n
+IsPlainTest (Compare op n) = IsWholeNumber n
+IsPlainTest (SameAs name) = IsName name
 
 abbrev pub ArePlainTests : List Test → Type 0
 ArePlainTests tests = EachOf IsPlainTest tests
@@ -27,3 +32,5 @@ IsPatternTest (Exists there) = ⊥
 IsPatternTest (Fits pattern cased) = ⊤
 IsPatternTest (Equals n) = ⊥
 IsPatternTest (Inside n) = ⊥
+IsPatternTest (Compare op n) = ⊥
+IsPatternTest (SameAs name) = ⊥

@@ -1,16 +1,16 @@
 -- Which tests a chain of modifiers makes of a value (Sigma specification 2.0, modifiers).
-use Rattle.std.specs.Prelude.{ℕ, ◌≡◌, Bool, true, false, List, [], ◌∷◌, map as list_map, codes, if◌then◌else◌, Option}
+use Rattle.std.specs.Prelude.{ℕ, ℤ, ◌≡◌, Bool, true, false, List, [], ◌∷◌, map as list_map, codes, if◌then◌else◌, Option}
 use Rattle.std.specs.Fmt.{signed_decimal}
 use Rattle.std.specs.List.{list_any}
 use Rattle.modifier_chains.specs.Chains.{form_of}
 use Rattle.modifier_chains.specs.Kinds.{is_cased}
 use Rattle.modifier_chains.specs.Written.{Written}
 use Rattle.modifier_chains.specs.declared.form.ChainForm.{ChainForm}
-use Rattle.modifier_chains.specs.declared.form.ChainForm.TheVariants.{Bare, Presence, Networks, Texts}
+use Rattle.modifier_chains.specs.declared.form.ChainForm.TheVariants.{Bare, Presence, Networks, Orders, Reference, Texts}
 use Rattle.sig_base.specs.declared.refusal.Refusal.{Refusal}
 use Rattle.sig_encode.specs.Networks.{Net, IsNetwork}
 use Rattle.sig_strings.specs.declared.part.Part.{Part}
-use Rattle.value_patterns.specs.Uses.{Use, unused, absent, existing, pattern, network, number, use_refusal, ArePatterns}
+use Rattle.value_patterns.specs.Uses.{Use, unused, absent, existing, pattern, network, number, ordered, reference, use_refusal, ArePatterns}
 use Rattle.yaml_tree.specs.Nodes.{place_of}
 use Rattle.yaml_tree.specs.Tree.{Scalar, null, truth, whole, text, Tree, scalar, list, map}
 use Rattle.sig_modifiers.specs.declared.test.Test.{Test}
@@ -35,6 +35,14 @@ scalar_use Networks null = unused
 scalar_use Networks (truth b) = unused
 scalar_use Networks (whole n) = unused
 scalar_use Networks (text t) = network t
+scalar_use (Orders op) null = unused
+scalar_use (Orders op) (truth b) = unused
+scalar_use (Orders op) (whole n) = ordered op n
+scalar_use (Orders op) (text t) = unused
+scalar_use Reference null = unused
+scalar_use Reference (truth b) = unused
+scalar_use Reference (whole n) = unused
+scalar_use Reference (text t) = reference t
 scalar_use (Texts nulls) null = if nulls then absent else unused
 scalar_use (Texts nulls) (truth b) = pattern (truth_text b)
 scalar_use (Texts nulls) (whole n) = pattern (signed_decimal n)
@@ -74,6 +82,8 @@ UseTests chain (existing b) ts = ts ≡ tests.Exists b ∷ []
 UseTests chain (pattern t) ts = AreFits chain t ts
 UseTests chain (network t) ts = AreInside t ts
 UseTests chain (number n) ts = ts ≡ tests.Equals n ∷ []
+UseTests chain (ordered op n) ts = ts ≡ tests.Compare op n ∷ []
+UseTests chain (reference t) ts = ts ≡ tests.SameAs t ∷ []
 
 -- these are the tests that the chain makes of the value
 abbrev pub TestsOf : Written → Tree → List Test → Type 0

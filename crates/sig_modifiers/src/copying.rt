@@ -3,7 +3,7 @@
 ghost use Rattle.std.specs.Prelude.{◌≡◌, IfOk, IfErr};
 
 use crate::test::Test;
-use sig_base::{Fault, TryCopy};
+use sig_base::{Fault, Text, TryCopy};
 use std::alloc::Global;
 
 impl Test {
@@ -17,6 +17,11 @@ impl Test {
             Test::Exists(exists) => Ok(Test::Exists(*exists)),
             Test::Equals(number) => Ok(Test::Equals(*number)),
             Test::Inside(network) => Ok(Test::Inside(network.copy())),
+            Test::Compare { op, number } => Ok(Test::Compare {
+                op: *op,
+                number: *number,
+            }),
+            Test::SameAs(name) => Ok(Test::SameAs(Text::copy(alloc, name.as_str())?)),
             Test::Fits { pattern, cased } => {
                 let pattern = pattern.copy()?;
                 Ok(Test::Fits {

@@ -3,7 +3,7 @@
 ghost use Rattle.std.specs.Prelude.{◌≡◌, ◌∷◌, [], map, IfOk, IfErr};
 ghost use Rattle.std.specs.Str.{chars};
 ghost use Rattle.sig_base.specs.Judged.{Judged};
-ghost use Rattle.value_patterns.specs.Uses.{network, pattern};
+ghost use Rattle.value_patterns.specs.Uses.{network, ordered, pattern, reference};
 ghost use Rattle.sig_modifiers.specs.PlainTests.{ArePlainTests};
 ghost use Rattle.sig_modifiers.specs.Resolved.{UseJudged, ScalarJudged};
 ghost use Rattle.sig_modifiers.specs.TestsOf as uses;
@@ -14,11 +14,13 @@ ghost use Rattle.yaml_tree.specs.View.{node_view};
 use crate::test::{Test, Tests};
 use event_schema::decimal_in;
 use itoa::Buffer;
-use modifier_chains::{Chain, ChainForm};
+use modifier_chains::{Chain, ChainForm, Op};
 use sig_base::{Code, Fault, Limits, Place, Text, refused};
 use sig_strings::SharedPattern;
 use std::alloc::Global;
-use value_patterns::{networks_are_bounded, read_network, read_patterns};
+use value_patterns::{
+    check_ordered, networks_are_bounded, read_network, read_patterns, read_reference,
+};
 use yaml_tree::{Kind, Node};
 
 fn one_test(alloc: Global, test: Test) -> Result<Tests, Fault>
@@ -84,15 +86,54 @@ fn resolve_network(
     one_test(alloc, Test::Inside(network))
 }
 
+/// The test that a value stands so to a number.
+fn resolve_ordered(
+    alloc: Global,
+    limits: &Limits,
+    chain: &Chain,
+    op: Op,
+    number: &i64,
+    place: Place,
+) -> Result<Tests, Fault>
+    ensures judged { UseJudged chain.now limits.now place (ordered op number.now) result }
+    ensures plain { IfOk result ArePlainTests }
+{
+    check_ordered(*number, place)?;
+    one_test(
+        alloc,
+        Test::Compare {
+            op,
+            number: *number,
+        },
+    )
+}
+
+/// The test that a value is that of the field of this name.
+fn resolve_reference(
+    alloc: Global,
+    limits: &Limits,
+    chain: &Chain,
+    text: &Text,
+    place: Place,
+) -> Result<Tests, Fault>
+    ensures judged { UseJudged chain.now limits.now place (reference text.now) result }
+    ensures plain { IfOk result ArePlainTests }
+{
+    let name = read_reference(alloc, limits, text, place)?;
+    one_test(alloc, Test::SameAs(name))
+}
+
 fn resolve_null(alloc: Global, limits: &Limits, chain: &Chain, place: Place) -> Result<Tests, Fault>
     ensures judged { ScalarJudged chain.now limits.now place null result }
     ensures plain { IfOk result ArePlainTests }
 {
     match chain.form() {
         ChainForm::Bare | ChainForm::Texts { nulls: true } => one_test(alloc, Test::Absent),
-        ChainForm::Presence | ChainForm::Networks | ChainForm::Texts { nulls: false } => Err(
-            refused(Code::VALUE_NOT_ALLOWED, place),
-        ),
+        ChainForm::Presence
+        | ChainForm::Networks
+        | ChainForm::Orders(_)
+        | ChainForm::Reference
+        | ChainForm::Texts { nulls: false } => Err(refused(Code::VALUE_NOT_ALLOWED, place)),
     }
 }
 
@@ -108,7 +149,9 @@ fn resolve_truth(
 {
     match chain.form() {
         ChainForm::Presence => one_test(alloc, Test::Exists(value)),
-        ChainForm::Networks => Err(refused(Code::VALUE_NOT_ALLOWED, place)),
+        ChainForm::Networks | ChainForm::Orders(_) | ChainForm::Reference => {
+            Err(refused(Code::VALUE_NOT_ALLOWED, place))
+        }
         ChainForm::Bare | ChainForm::Texts { .. } => {
             resolve_text(alloc, limits, chain, truth_text(value), place)
         }
@@ -127,9 +170,10 @@ fn resolve_whole(
 {
     match chain.form() {
         ChainForm::Bare => one_test(alloc, Test::Equals(*value)),
-        ChainForm::Presence | ChainForm::Networks => {
+        ChainForm::Presence | ChainForm::Networks | ChainForm::Reference => {
             Err(refused(Code::VALUE_NOT_ALLOWED, place))
         }
+        ChainForm::Orders(op) => resolve_ordered(alloc, limits, chain, op, value, place),
         ChainForm::Texts { .. } => {
             let mut buffer = Buffer::new();
             let text = decimal_in(&mut buffer, *value);
@@ -149,7 +193,10 @@ fn resolve_string(
     ensures plain { IfOk result ArePlainTests }
 {
     match chain.form() {
-        ChainForm::Presence => Err(refused(Code::VALUE_NOT_ALLOWED, place)),
+        ChainForm::Presence | ChainForm::Orders(_) => {
+            Err(refused(Code::VALUE_NOT_ALLOWED, place))
+        }
+        ChainForm::Reference => resolve_reference(alloc, limits, chain, value, place),
         ChainForm::Networks => resolve_network(alloc, limits, chain, value.as_str(), place),
         ChainForm::Bare | ChainForm::Texts { .. } => {
             resolve_text(alloc, limits, chain, value.as_str(), place)
@@ -159,8 +206,8 @@ fn resolve_string(
 
 /// The tests that a chain makes of a value, which are its alternatives. At the value's place, a value that the chain
 /// doesn't take is refused 42, a text of more characters than `value_chars` 49, one with U+0000 50, a wildcard in what is
-/// encoded 43, one byte under `base64offset` 42, one that is no network under `cidr` 44, and more dash places than `dashes`
-/// 46, the first of these in this order.
+/// encoded 43, one byte under `base64offset` or no legal name under `fieldref` 42, one that is no network under `cidr` 44,
+/// -2^63 under `lt`, `lte`, `gt` and `gte` 45, and more dash places than `dashes` 46, the first of these in this order.
 pub fn resolve(alloc: Global, limits: &Limits, chain: &Chain, value: &Node) -> Result<Tests, Fault>
     ensures judged { Judged (λ tests. uses.TestsOf chain.now (node_view value.now) tests)
         (uses.value_refusal limits.now.value_chars limits.now.dashes chain.now (node_view value.now)) result }

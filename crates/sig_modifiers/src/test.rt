@@ -1,6 +1,7 @@
 //! Tests of a field's values.
 
-use sig_base::Sequence;
+use modifier_chains::Op;
+use sig_base::{Sequence, Text};
 use sig_encode::Network;
 use sig_strings::SharedPattern;
 
@@ -18,6 +19,11 @@ pub enum Test {
     Equals(i64),
     /// some value's text is an address of the network
     Inside(Network),
+    /// some value is a whole number that stands so to this one, which isn't -2^63
+    Compare { op: Op, number: i64 },
+    /// some value's text is that of some value of the field of this name, without regard to the case of A to Z; a number's
+    /// text is its decimal
+    SameAs(Text),
 }
 
 /// Tests in order, which contracts see as a list.

@@ -1,6 +1,6 @@
 -- What is answered for a pattern and for a network is what the table of uses says.
 use Rattle.std.proofs.Common.{◌≡◌, ℕ, Bool, true, false, not, nat_le, List, [], ◌∷◌, length, map, refl, sym, ap, ◌∙◌, subst, arith}
-use Rattle.std.specs.Prelude.{Option, Some, None, Result, Ok, Err, is_some}
+use Rattle.std.specs.Prelude.{ℤ, Option, Some, None, Result, Ok, Err, is_some}
 use Rattle.std.proofs.lemmas.Bool.{le-leb}
 use Rattle.std.proofs.lemmas.Simd.{map-map}
 use Rattle.sig_base.specs.declared.refusal.Fault.{Fault}
@@ -10,7 +10,9 @@ use Rattle.sig_base.specs.declared.refusal.Refusal.{Refusal}
 use Rattle.sig_base.specs.Judged.{Judged, must, first}
 use Rattle.dash_choices.specs.Choices.{dash_count}
 use Rattle.modifier_chains.specs.Written.{Written}
+use Rattle.event_schema.specs.Names.{is_legal}
 use Rattle.modifier_chains.specs.declared.modifier.Encoding.{Encoding}
+use Rattle.modifier_chains.specs.declared.modifier.Op.{Op}
 use Rattle.sig_encode.specs.Answers.{NetworkRead}
 use Rattle.sig_encode.specs.Networks.{Net, IsNetwork}
 use Rattle.sig_encode.specs.Written.{net_in}
@@ -20,7 +22,8 @@ use Rattle.sig_strings.specs.declared.part.Part.{Part}
 use Rattle.value_patterns.specs.Edited.{pattern_of}
 use Rattle.value_patterns.specs.Encoded.{encoding_of, units_of, as_pattern, AreAlternatives}
 use Rattle.value_patterns.specs.Parts.{has_nul}
-use Rattle.value_patterns.specs.Uses.{pattern, network, text_checks, encoding_checks, use_refusal, no_wildcard, enough_bytes, dash_places_of, ArePatterns, AreEditedTexts}
+use Rattle.value_patterns.specs.Numbers.{is_whole}
+use Rattle.value_patterns.specs.Uses.{pattern, network, ordered, reference, text_checks, encoding_checks, use_refusal, no_wildcard, enough_bytes, dash_places_of, ArePatterns, AreEditedTexts}
 use Rattle.value_patterns.proofs.PartsLemmas.{spelled_is}
 
 -- a text's own checks pass, so the later lines of the table decide
@@ -33,7 +36,7 @@ later false b place more h = absurd cc
 -- the lines of the table for a pattern, by its encoding
 abbrev pattern_lines : ℕ → Option Encoding → Written → Place → List ℕ → Option Refusal
 pattern_lines dashes encoding chain place t =
-    first (must 43 place (no_wildcard encoding t) ∷ must 42 place (enough_bytes encoding chain t) ∷ None ∷ must 46 place (nat_le (dash_places_of encoding chain t) dashes) ∷ [])
+    first (must 43 place (no_wildcard encoding t) ∷ must 42 place (enough_bytes encoding chain t) ∷ None ∷ None ∷ None ∷ must 46 place (nat_le (dash_places_of encoding chain t) dashes) ∷ [])
 
 -- a text's own checks decide where one of them refuses
 pub sooner : (a b : Bool) (place : Place) (more : List (Option Refusal)) (r : Refusal) → first (must 49 place a ∷ must 50 place b ∷ []) ≡ Some r
@@ -47,12 +50,12 @@ no_places : (dashes : ℕ) → nat_le 0 dashes ≡ true
 no_places dashes = le-leb 0 dashes (omega arith)
 
 -- two lines, and then nothing else that is refused
-two_lines : (a b c : Bool) (place : Place) → c ≡ true → first (must 43 place a ∷ must 42 place b ∷ None ∷ must 46 place c ∷ []) ≡ first (must 43 place a ∷ must 42 place b ∷ [])
+two_lines : (a b c : Bool) (place : Place) → c ≡ true → first (must 43 place a ∷ must 42 place b ∷ None ∷ None ∷ None ∷ must 46 place c ∷ []) ≡ first (must 43 place a ∷ must 42 place b ∷ [])
 two_lines true true c place h = rw h refl
 two_lines true false c place h = refl
 two_lines false b c place h = refl
 
-one_line : (a : Bool) (place : Place) → first (None ∷ None ∷ None ∷ must 46 place a ∷ []) ≡ must 46 place a
+one_line : (a : Bool) (place : Place) → first (None ∷ None ∷ None ∷ None ∷ None ∷ must 46 place a ∷ []) ≡ must 46 place a
 one_line true place = refl
 one_line false place = refl
 
@@ -111,7 +114,7 @@ refused_sooner most dashes chain place t r h = sooner (nat_le (length t) most) (
 
 -- ---- networks
 
-network_line : (place : Place) (b c : Bool) → c ≡ true → first (None ∷ None ∷ must 44 place b ∷ must 46 place c ∷ []) ≡ must 44 place b
+network_line : (place : Place) (b c : Bool) → c ≡ true → first (None ∷ None ∷ None ∷ must 44 place b ∷ None ∷ must 46 place c ∷ []) ≡ must 44 place b
 network_line place true c h = rw h refl
 network_line place false c h = refl
 
@@ -133,3 +136,48 @@ network_judged most dashes chain place t r short free h =
     let lines : use_refusal most dashes chain place (network t) ≡ must 44 place (is_some (net_in t)) =
     later (nat_le (length t) most) (not (has_nul t)) place _ taken ∙ network_line place (is_some (net_in t)) (nat_le 0 dashes) (no_places dashes) in
     subst (λ (o : Option Refusal). Judged (λ n. IsNetwork t n) o r) (sym lines) (network_decides place t r h)
+
+-- ---- numbers that others stand to, and names of fields
+
+ordered_line : (place : Place) (b c : Bool) → c ≡ true
+    → first (None ∷ None ∷ None ∷ None ∷ None ∷ None ∷ None ∷ must 45 place b ∷ must 46 place c ∷ []) ≡ must 45 place b
+ordered_line place true c h = rw h refl
+ordered_line place false c h = refl
+
+-- an empty text is short, whatever the greatest length is
+pub ordered_lines : (most dashes : ℕ) (chain : Written) (place : Place) (op : Op) (n : ℤ)
+    → use_refusal most dashes chain place (ordered op n) ≡ must 45 place (is_whole n)
+ordered_lines most dashes chain place op n =
+    let short : nat_le 0 most ≡ true = le-leb 0 most (omega arith) in
+    later (nat_le 0 most) true place _ (rw short refl) ∙ ordered_line place (is_whole n) (nat_le 0 dashes) (no_places dashes)
+
+name_line : (place : Place) (b c : Bool) → c ≡ true
+    → first (None ∷ None ∷ must 42 place b ∷ None ∷ None ∷ must 46 place c ∷ []) ≡ must 42 place b
+name_line place true c h = rw h refl
+name_line place false c h = refl
+
+pub reference_lines : (most dashes : ℕ) (chain : Written) (place : Place) (t : List ℕ)
+    → first (text_checks most place t) ≡ None → use_refusal most dashes chain place (reference t) ≡ must 42 place (is_legal t)
+reference_lines most dashes chain place t taken =
+    later (nat_le (length t) most) (not (has_nul t)) place _ taken ∙ name_line place (is_legal t) (nat_le 0 dashes) (no_places dashes)
+
+-- ---- what isn't refused
+
+passes : (code : ℕ) (place : Place) (b : Bool) → must code place b ≡ None → b ≡ true
+passes code place true h = refl
+passes code place false h = absurd cc
+
+pub ordered_taken : (most dashes : ℕ) (chain : Written) (place : Place) (op : Op) (n : ℤ)
+    → use_refusal most dashes chain place (ordered op n) ≡ None → is_whole n ≡ true
+ordered_taken most dashes chain place op n h = passes 45 place (is_whole n) (sym (ordered_lines most dashes chain place op n) ∙ h)
+
+third_passes : (a b c : Bool) (place : Place) (more : List (Option Refusal))
+    → first (must 49 place a ∷ must 50 place b ∷ None ∷ None ∷ must 42 place c ∷ more) ≡ None → c ≡ true
+third_passes true true true place more h = refl
+third_passes true true false place more h = absurd cc
+third_passes true false c place more h = absurd cc
+third_passes false b c place more h = absurd cc
+
+pub reference_taken : (most dashes : ℕ) (chain : Written) (place : Place) (t : List ℕ)
+    → use_refusal most dashes chain place (reference t) ≡ None → is_legal t ≡ true
+reference_taken most dashes chain place t h = third_passes (nat_le (length t) most) (not (has_nul t)) (is_legal t) place _ h

@@ -4,6 +4,7 @@ pub mod Existing
 pub mod JudgedLemmas
 pub mod Keeping
 pub mod NetworkPatterns
+pub mod Numbers
 pub mod PartsLemmas
 pub mod Passing
 pub mod Plain

@@ -4,14 +4,17 @@ use Rattle.sig_base.specs.declared.refusal.Place.{Place}
 use Rattle.sig_base.specs.declared.refusal.Refusal.{Refusal}
 use Rattle.sig_base.specs.Judged.{must, first}
 use Rattle.dash_choices.specs.Choices.{dash_count}
+use Rattle.event_schema.specs.Names.{is_legal}
 use Rattle.modifier_chains.specs.Written.{Written}
 use Rattle.modifier_chains.specs.declared.modifier.Encoding.{Encoding}
+use Rattle.modifier_chains.specs.declared.modifier.Op.{Op}
 use Rattle.sig_encode.specs.Written.{net_in}
 use Rattle.sig_strings.specs.Edits.{has_wildcard, plain_text}
 use Rattle.sig_strings.specs.Spells.{Spells}
 use Rattle.sig_strings.specs.declared.part.Part.{Part}
 use Rattle.value_patterns.specs.Edited.{pattern_of}
 use Rattle.value_patterns.specs.Encoded.{encoding_of, units_of, bytes_in, least_bytes, as_pattern, AreTexts, AreAlternatives}
+use Rattle.value_patterns.specs.Numbers.{is_whole}
 use Rattle.value_patterns.specs.Parts.{parts_of, has_nul}
 
 -- what a chain takes a value for
@@ -28,6 +31,10 @@ pub data Use : Type 0 where
   network : List ℕ → Use
   -- this number
   number : ℤ → Use
+  -- the numbers that stand so to this one
+  ordered : Op → ℤ → Use
+  -- the field of this name
+  reference : List ℕ → Use
 
 abbrev pub is_used : Use → Bool
 is_used unused = false
@@ -36,6 +43,8 @@ is_used (existing b) = true
 is_used (pattern t) = true
 is_used (network t) = true
 is_used (number n) = true
+is_used (ordered op n) = true
+is_used (reference t) = true
 
 -- the text that is read, if one is
 abbrev pub text_of : Use → List ℕ
@@ -45,6 +54,8 @@ text_of (existing b) = []
 text_of (pattern t) = t
 text_of (network t) = t
 text_of (number n) = []
+text_of (ordered op n) = []
+text_of (reference t) = t
 
 -- what the text is encoded as, if it's one of a pattern and its chain encodes it
 abbrev pub encoding_in : Written → Use → Option Encoding
@@ -54,6 +65,8 @@ encoding_in chain (existing b) = None
 encoding_in chain (pattern t) = encoding_of chain.modifiers
 encoding_in chain (network t) = None
 encoding_in chain (number n) = None
+encoding_in chain (ordered op n) = None
+encoding_in chain (reference t) = None
 
 -- what is encoded has no wildcard
 abbrev pub no_wildcard : Option Encoding → List ℕ → Bool
@@ -65,6 +78,17 @@ enough_bytes None chain t = true
 enough_bytes (Some encoding) chain t =
     nat_le (least_bytes encoding) (length (bytes_in (units_of chain.modifiers) (plain_text (parts_of false t))))
 
+-- a field's name is legal
+abbrev pub is_name_text : Use → Bool
+is_name_text unused = true
+is_name_text absent = true
+is_name_text (existing b) = true
+is_name_text (pattern t) = true
+is_name_text (network t) = true
+is_name_text (number n) = true
+is_name_text (ordered op n) = true
+is_name_text (reference t) = is_legal t
+
 -- a network's text is one
 abbrev pub is_network_text : Use → Bool
 is_network_text unused = true
@@ -73,6 +97,19 @@ is_network_text (existing b) = true
 is_network_text (pattern t) = true
 is_network_text (network t) = is_some (net_in t)
 is_network_text (number n) = true
+is_network_text (ordered op n) = true
+is_network_text (reference t) = true
+
+-- a number that others stand to is one that fields have
+abbrev pub is_in_range : Use → Bool
+is_in_range unused = true
+is_in_range absent = true
+is_in_range (existing b) = true
+is_in_range (pattern t) = true
+is_in_range (network t) = true
+is_in_range (number n) = true
+is_in_range (ordered op n) = is_whole n
+is_in_range (reference t) = true
 
 -- the dash places of the pattern that is made of a text; what is encoded has none, since no chain has `windash` beside an
 -- encoding
@@ -87,10 +124,12 @@ dash_places chain (existing b) = 0
 dash_places chain (pattern t) = dash_places_of (encoding_of chain.modifiers) chain t
 dash_places chain (network t) = 0
 dash_places chain (number n) = 0
+dash_places chain (ordered op n) = 0
+dash_places chain (reference t) = 0
 
 -- what has to hold of a use, in the order in which it's judged: the value is taken; its text has at most so many
--- characters, and no U+0000; what is encoded has no wildcard, and bytes enough; a network is one; and there are at most
--- so many dash places
+-- characters, and no U+0000; what is encoded has no wildcard, and bytes enough; a field's name is legal, and a network is
+-- one; a number that others stand to is one that fields have; and there are at most so many dash places
 abbrev pub use_checks : ℕ → ℕ → Written → Place → Use → List (Option Refusal)
 use_checks most dashes chain place u =
     must 42 place (is_used u)
@@ -98,7 +137,9 @@ use_checks most dashes chain place u =
     ∷ must 50 place (not (has_nul (text_of u)))
     ∷ must 43 place (no_wildcard (encoding_in chain u) (text_of u))
     ∷ must 42 place (enough_bytes (encoding_in chain u) chain (text_of u))
+    ∷ must 42 place (is_name_text u)
     ∷ must 44 place (is_network_text u)
+    ∷ must 45 place (is_in_range u)
     ∷ must 46 place (nat_le (dash_places chain u) dashes)
     ∷ []
 

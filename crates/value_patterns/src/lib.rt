@@ -13,4 +13,4 @@ pub use law::{
     networks_are_bounded, one_list_of_patterns, one_network, parts_are_spelled,
     patterns_are_dashed,
 };
-pub use reading::{read_network, read_patterns};
+pub use reading::{check_ordered, read_network, read_patterns, read_reference};

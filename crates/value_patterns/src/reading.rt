@@ -1,10 +1,11 @@
 //! The patterns that texts stand for, and why they're refused.
 
-ghost use Rattle.std.specs.Prelude.{◌≡◌, ◌∷◌, [], map, nat_le, false, IfOk, IfErr};
+ghost use Rattle.std.specs.Prelude.{◌≡◌, ℕ, ◌∷◌, [], map, nat_le, false, IfOk, IfErr};
 ghost use Rattle.std.specs.Str.{chars};
 ghost use Rattle.dash_choices.specs.Choices as choices;
 ghost use Rattle.event_schema.specs.Lists.{EachOf};
 ghost use Rattle.modifier_chains.specs.Written.{Written};
+ghost use Rattle.modifier_chains.specs.declared.modifier.Op.{Op};
 ghost use Rattle.sig_base.specs.Judged.{Judged, first, must};
 ghost use Rattle.sig_encode.specs.Networks.{IsNetwork};
 ghost use Rattle.sig_strings.specs.Spells.{Spells};
@@ -17,6 +18,7 @@ ghost use Rattle.value_patterns.specs.Uses as uses;
 use crate::editing::pattern_of;
 use crate::encoding::{bytes_in, encoding_of, least_bytes, texts_of, units_of};
 use dash_choices::dash_count;
+use event_schema::is_legal;
 use modifier_chains::{Chain, Encoding};
 use sig_base::{Code, Fault, Limits, Place, Text, count_of, refused};
 use sig_encode::Network;
@@ -148,4 +150,34 @@ pub fn read_network(limits: &Limits, text: &str, place: Place) -> Result<Network
         return Err(refused(Code::NUL_IN_VALUE, place));
     }
     Network::read(text, place)
+}
+
+/// Judges a number that others stand to, which a chain takes; takes no memory. At `place`, -2^63 is refused 45: no field
+/// has it.
+pub fn check_ordered(number: i64, place: Place) -> Result<(), Fault>
+    ensures { (most dashes : ℕ) (chain : Written) (op : Op) → Judged (λ done. Unit {0})
+        (uses.use_refusal most dashes chain place (uses.ordered op number)) result }
+{
+    if number == i64::MIN {
+        return Err(refused(Code::NUMBER_RANGE, place));
+    }
+    Ok(())
+}
+
+/// The name of the field that a text is, under a chain that takes it for one. At `place`, a text of more characters than
+/// `value_chars` is refused 49, one with U+0000 50, and one that is no legal name 42, the first of these in this order.
+pub fn read_reference(alloc: Global, limits: &Limits, text: &Text, place: Place) -> Result<Text, Fault>
+    ensures { (chain : Written) → Judged (λ name. name ≡ text.now)
+        (uses.use_refusal limits.now.value_chars limits.now.dashes chain place (uses.reference text.now)) result }
+{
+    if count_of(text.as_str()) > limits.value_chars {
+        return Err(refused(Code::VALUE_TOO_LONG, place));
+    }
+    if has_nul(text.as_str()) {
+        return Err(refused(Code::NUL_IN_VALUE, place));
+    }
+    if !is_legal(text) {
+        return Err(refused(Code::VALUE_NOT_ALLOWED, place));
+    }
+    Text::copy(alloc, text.as_str())
 }

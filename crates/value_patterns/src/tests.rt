@@ -1,6 +1,6 @@
 //! Patterns and refusals reckoned by hand.
 
-use crate::{read_network, read_patterns};
+use crate::{check_ordered, read_network, read_patterns, read_reference};
 use modifier_chains::Chain;
 use sig_base::{Fault, Limits, Place, Refusal, Text};
 use sig_strings::{Part, SharedPattern};
@@ -61,6 +61,17 @@ const NETWORKS: &str = "192.168.0.0/14~4
 10.0.0.0/8\0~50
 10.0.0.0/000000000008~49
 aaaaaaaaaaaaaaaaaaaa\0~49";
+
+/// Texts of at most 20 characters, and the name of the field, or the number of a refusal.
+const REFERENCES: &str = "Image~Image
+a.b c~a.b c
+~42
+a|b~42
+a\t~42
+*~*
+a|b\0~50
+a|bcdefghijklmnopqrst~49
+aaaaaaaaaaaaaaaaaaaaa~49";
 
 fn chain(alloc: Global, joined: &str, keyword: bool) -> Result<Chain, Fail> {
     let mut words = Vec::new(alloc);
@@ -128,6 +139,14 @@ fn answered_network(alloc: Global, text: &str) -> Result<String, Fail> {
     }
 }
 
+fn answered_reference(alloc: Global, text: &str) -> Result<String, Fail> {
+    match read_reference(alloc, &limits(), &Text::copy(alloc, text)?, VALUE) {
+        Ok(name) => Ok(format!(in alloc; "{}", name.as_str())?),
+        Err(Fault::Refused(refusal)) => refused(alloc, &refusal),
+        Err(Fault::Memory) => Ok(String::new(alloc)),
+    }
+}
+
 /// A row's three parts.
 fn row(line: &str) -> Option<(&str, &str, &str)> {
     let (joined, rest) = line.split_once('~')?;
@@ -167,5 +186,29 @@ fn texts_are_networks(rt: HostRuntime) -> Result<(), Fail> {
         };
         assert_eq!(rt; answered_network(alloc, text)?.as_str(), want, "{line}");
     }
+    Ok(())
+}
+
+#[test]
+fn texts_name_fields(rt: HostRuntime) -> Result<(), Fail> {
+    let alloc = rt.alloc();
+    for line in REFERENCES.lines() {
+        let Some((text, want)) = line.split_once('~') else {
+            panic!(rt; "{line}");
+        };
+        assert_eq!(rt; answered_reference(alloc, text)?.as_str(), want, "{line}");
+    }
+    Ok(())
+}
+
+#[test]
+fn the_least_number_is_out_of_range(rt: HostRuntime) -> Result<(), Fail> {
+    let alloc = rt.alloc();
+    let Err(Fault::Refused(refusal)) = check_ordered(i64::MIN, VALUE) else {
+        panic!(rt; "taken");
+    };
+    assert_eq!(rt; refused(alloc, &refusal)?.as_str(), "45");
+    assert!(rt; check_ordered(i64::MIN + 1, VALUE).is_ok());
+    assert!(rt; check_ordered(i64::MAX, VALUE).is_ok());
     Ok(())
 }
