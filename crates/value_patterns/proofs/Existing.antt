@@ -152,7 +152,7 @@ same_networks t m n a b = some_same (sym (network_read t m a) ∙ network_read t
     some_same : Some m ≡ Some n → m ≡ n
     some_same e = ap taken e
 
-network_taken : (a b c d : Bool) (place : Place) → first (must 49 place a ∷ must 50 place b ∷ None ∷ None ∷ must 44 place c ∷ must 46 place d ∷ []) ≡ None → c ≡ true
+network_taken : (a b c d : Bool) (place : Place) → first (must 49 place a ∷ must 50 place b ∷ None ∷ None ∷ None ∷ must 44 place c ∷ None ∷ must 46 place d ∷ []) ≡ None → c ≡ true
 network_taken true true true d place h = refl
 network_taken true true false d place h = absurd cc
 network_taken true false c d place h = absurd cc

@@ -30,7 +30,9 @@ fn edited(modifier: Modifier, pattern: Pattern) -> Result<Pattern, Fault>
         | Modifier::Units(_)
         | Modifier::Encoding(_)
         | Modifier::Exists
-        | Modifier::Cidr => Ok(pattern),
+        | Modifier::Cidr
+        | Modifier::Order(_)
+        | Modifier::Fieldref => Ok(pattern),
     }
 }
 
