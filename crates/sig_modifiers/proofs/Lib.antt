@@ -1,4 +1,5 @@
 mod Inside
 pub mod PatternLemmas
+mod Same
 mod TestsLemmas
 mod ViewLemmas

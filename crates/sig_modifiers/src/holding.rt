@@ -2,10 +2,9 @@
 
 ghost use Rattle.std.specs.Prelude.{◌≡◌, ◌↔◌, IsTrue, List, ℕ};
 ghost use Rattle.std.specs.Fmt.{signed_decimal};
-ghost use Rattle.std.specs.Str.{chars};
+ghost use Rattle.std.specs.Str.{bytes_eq, chars};
 ghost use Rattle.event_schema.specs.Lists.{SomeOf, HasNoElement};
 ghost use Rattle.event_schema.specs.Rows.{value_text, values_at};
-ghost use Rattle.event_schema.specs.declared.value.Value.{Value as PlainValue};
 ghost use Rattle.sig_encode.specs.Networks.{InNetwork};
 ghost use Rattle.sig_base.specs.Folding.{folded};
 ghost use Rattle.sig_modifiers.specs.References.{IsReference};
@@ -164,21 +163,26 @@ fn has_text(value: &Value, text: &str) -> bool
 
 /// Whether two texts are one, where A to Z are taken for a to z.
 fn same_folded(a: &str, b: &str) -> bool
-    ensures { IsTrue result ↔ (folded (chars a.now) ≡ folded (chars b.now)) }
+    ensures { result ≡ bytes_eq (folded (chars a.now)) (folded (chars b.now)) }
 {
     let mut left = a;
     let mut right = b;
     while let Some((c, rest)) = first_char(left) {
-        let Some((d, behind)) = first_char(right) else {
-            return false;
-        };
-        if fold(c) != fold(d) {
-            return false;
+        match first_char(right) {
+            Some((d, more)) => {
+                if fold(c) != fold(d) {
+                    return false;
+                }
+                left = rest;
+                right = more;
+            }
+            None => return false,
         }
-        left = rest;
-        right = behind;
     }
-    right.is_empty()
+    match first_char(right) {
+        Some(_) => false,
+        None => true,
+    }
 }
 
 fn same_as_some(value: &Value, others: &[Value]) -> bool

@@ -92,20 +92,14 @@ fn resolve_ordered(
     limits: &Limits,
     chain: &Chain,
     op: Op,
-    number: &i64,
+    number: i64,
     place: Place,
 ) -> Result<Tests, Fault>
-    ensures judged { UseJudged chain.now limits.now place (ordered op number.now) result }
+    ensures judged { UseJudged chain.now limits.now place (ordered op number) result }
     ensures plain { IfOk result ArePlainTests }
 {
-    check_ordered(*number, place)?;
-    one_test(
-        alloc,
-        Test::Compare {
-            op,
-            number: *number,
-        },
-    )
+    check_ordered(number, place)?;
+    one_test(alloc, Test::Compare { op, number })
 }
 
 /// The test that a value is that of the field of this name.
@@ -173,7 +167,7 @@ fn resolve_whole(
         ChainForm::Presence | ChainForm::Networks | ChainForm::Reference => {
             Err(refused(Code::VALUE_NOT_ALLOWED, place))
         }
-        ChainForm::Orders(op) => resolve_ordered(alloc, limits, chain, op, value, place),
+        ChainForm::Orders(op) => resolve_ordered(alloc, limits, chain, op, *value, place),
         ChainForm::Texts { .. } => {
             let mut buffer = Buffer::new();
             let text = decimal_in(&mut buffer, *value);

@@ -4,6 +4,7 @@ ghost use Rattle.std.specs.Prelude.{◌≡◌, ℕ, ◌∷◌, [], map, nat_le, 
 ghost use Rattle.std.specs.Str.{chars};
 ghost use Rattle.dash_choices.specs.Choices as choices;
 ghost use Rattle.event_schema.specs.Lists.{EachOf};
+ghost use Rattle.event_schema.specs.Names.{IsName};
 ghost use Rattle.modifier_chains.specs.Written.{Written};
 ghost use Rattle.modifier_chains.specs.declared.modifier.Op.{Op};
 ghost use Rattle.sig_base.specs.Judged.{Judged, first, must};
@@ -166,9 +167,15 @@ pub fn check_ordered(number: i64, place: Place) -> Result<(), Fault>
 
 /// The name of the field that a text is, under a chain that takes it for one. At `place`, a text of more characters than
 /// `value_chars` is refused 49, one with U+0000 50, and one that is no legal name 42, the first of these in this order.
-pub fn read_reference(alloc: Global, limits: &Limits, text: &Text, place: Place) -> Result<Text, Fault>
-    ensures { (chain : Written) → Judged (λ name. name ≡ text.now)
+pub fn read_reference(
+    alloc: Global,
+    limits: &Limits,
+    text: &Text,
+    place: Place,
+) -> Result<Text, Fault>
+    ensures judged { (chain : Written) → Judged (λ name. name ≡ text.now)
         (uses.use_refusal limits.now.value_chars limits.now.dashes chain place (uses.reference text.now)) result }
+    ensures legal { IfOk result (λ name. IsName name) }
 {
     if count_of(text.as_str()) > limits.value_chars {
         return Err(refused(Code::VALUE_TOO_LONG, place));

@@ -5,3 +5,6 @@ returns-in-Fits c = rw c.in-Fits.is c.some_fits.ensures
 
 pub returns-in-Equals : goal.returns-in-Equals
 returns-in-Equals c = rw c.in-Equals.is c.some_is_number.ensures
+
+pub returns-in-Compare : goal.returns-in-Compare
+returns-in-Compare c = rw c.in-Compare.is c.some_stands.ensures
