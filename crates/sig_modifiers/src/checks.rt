@@ -1,7 +1,7 @@
 //! The tests that chains make of values, reckoned by hand.
 
 use crate::{Test, Tests};
-use modifier_chains::Chain;
+use modifier_chains::{Chain, Op};
 use sig_base::{Fault, Limits, Place, Refusal, Text, TryCopy};
 use sig_strings::{Part, SharedPattern};
 use std::alloc::Global;
@@ -66,6 +66,15 @@ fn shown_pattern(alloc: Global, pattern: &SharedPattern) -> Result<String, Fail>
     Ok(shown)
 }
 
+fn sign(op: Op) -> &'static str {
+    match op {
+        Op::Lt => "<",
+        Op::Lte => "<=",
+        Op::Gt => ">",
+        Op::Gte => ">=",
+    }
+}
+
 fn shown(alloc: Global, test: &Test) -> Result<String, Fail> {
     match test {
         Test::Absent => Ok(format!(in alloc; "absent")?),
@@ -75,6 +84,8 @@ fn shown(alloc: Global, test: &Test) -> Result<String, Fail> {
             "inside {}",
             network.patterns(alloc)?.len()
         )?),
+        Test::Compare { op, number } => Ok(format!(in alloc; "{} {number}", sign(*op))?),
+        Test::SameAs(name) => Ok(format!(in alloc; "same as {}", name.as_str())?),
         Test::Fits { pattern, cased } => {
             let text = shown_pattern(alloc, pattern)?;
             let end = if *cased { " cased" } else { "" };
@@ -251,6 +262,33 @@ inside 1~field|cidr|all~10.0.0.1
 }
 
 #[test]
+fn numbers_and_fields_are_compared_with(rt: HostRuntime) -> Result<(), Fail> {
+    let alloc = rt.alloc();
+    let table = "< -7~field|lt~-7
+<= 1234~field|lte|all~1234
+> 1234~field|gt~1234
+>= -7~field|gte~-7
+45~field|gte~least
+42~field|gt~null
+42~field|gt~true
+42~field|gt~5x
+42~field|gt~list
+same as Image~field|fieldref~Image
+same as *~field|fieldref~*
+42~field|fieldref~
+42~field|fieldref~a|b
+42~field|fieldref~null
+42~field|fieldref~true
+42~field|fieldref~1234
+42~field|fieldref~map";
+    assert_eq!(rt;
+        wrong_value(alloc, &Limits::standard(), table)?.as_str(),
+        ""
+    );
+    Ok(())
+}
+
+#[test]
 fn the_first_cause_is_told(rt: HostRuntime) -> Result<(), Fail> {
     let alloc = rt.alloc();
     let mut limits = Limits::standard();
@@ -270,6 +308,11 @@ exists false~field|exists~false
 49~field|cidr~\0\0\0\0
 50~field|cidr~\0
 44~field|cidr~abc
+49~field|fieldref~|||\0
+50~field|fieldref~|\0
+42~field|fieldref~|
+same as abc~field|fieldref~abc
+> 1234~field|gt~1234
 50~field|base64~*\0
 YWJj~field|base64~abc
 ~field~";

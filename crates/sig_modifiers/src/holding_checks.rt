@@ -2,6 +2,7 @@
 
 use crate::Test;
 use event_schema::{Event, Field, FieldKind, FieldList, FieldValues, Schema, Value};
+use modifier_chains::Op;
 use sig_base::{Limits, Place, Text, Texts};
 use sig_encode::Network;
 use sig_strings::{Pattern, SharedPattern};
@@ -48,7 +49,24 @@ fn fits(alloc: Global, text: &str, cased: bool) -> Result<Test, Fail> {
     Ok(Test::Fits { pattern, cased })
 }
 
-/// The test of `absent`, `exists`, `exists not`, `inside NETWORK`, `= NUMBER`, `cased PATTERN` or else `PATTERN`.
+/// The test of a sign and a number, if it's that.
+fn comparison_of(written: &str) -> Result<Option<Test>, Fail> {
+    let Some((sign, number)) = written.split_once(' ') else {
+        return Ok(None);
+    };
+    let op = match sign {
+        "<" => Op::Lt,
+        "<=" => Op::Lte,
+        ">" => Op::Gt,
+        ">=" => Op::Gte,
+        _ => return Ok(None),
+    };
+    let number = number.parse::<i64>()?;
+    Ok(Some(Test::Compare { op, number }))
+}
+
+/// The test of `absent`, `exists`, `exists not`, `inside NETWORK`, `= NUMBER`, `SIGN NUMBER`, `same as NAME`, `cased PATTERN`
+/// or else `PATTERN`.
 fn test_of(alloc: Global, written: &str) -> Result<Test, Fail> {
     match written {
         "absent" => return Ok(Test::Absent),
@@ -61,6 +79,12 @@ fn test_of(alloc: Global, written: &str) -> Result<Test, Fail> {
     }
     if let Some(number) = written.strip_prefix("= ") {
         return Ok(Test::Equals(number.parse::<i64>()?));
+    }
+    if let Some(name) = written.strip_prefix("same as ") {
+        return Ok(Test::SameAs(Text::copy(alloc, name)?));
+    }
+    if let Some(test) = comparison_of(written)? {
+        return Ok(test);
     }
     match written.strip_prefix("cased ") {
         Some(pattern) => fits(alloc, pattern, true),
@@ -120,6 +144,29 @@ yes~image~absent";
 }
 
 #[test]
+fn comparisons_of_values(rt: HostRuntime) -> Result<(), Fail> {
+    let alloc = rt.alloc();
+    let event = event(alloc, "-7", -7)?;
+    let table = "yes~Size~< -6
+no~Size~< -7
+yes~Size~<= -7
+no~Size~<= -8
+yes~Size~> -8
+no~Size~> -7
+yes~Size~>= -7
+no~Size~>= -6
+no~Image~< -6
+no~Image~>= -7
+yes~Image~same as Size
+yes~Size~same as Image
+yes~Image~same as Image
+no~Image~same as Ip
+no~Image~same as image";
+    assert_eq!(rt; wrong_test(alloc, &event, table)?.as_str(), "");
+    Ok(())
+}
+
+#[test]
 fn tests_without_values(rt: HostRuntime) -> Result<(), Fail> {
     let alloc = rt.alloc();
     let mut values = Vec::new(alloc);
@@ -141,7 +188,11 @@ no~Ip~*
 no~Image~= 0
 no~Size~= 0
 no~Ip~= 0
-no~Ip~inside 0.0.0.0/0";
+no~Ip~inside 0.0.0.0/0
+no~Size~> -1
+no~Size~<= 0
+no~Image~same as Ip
+no~Image~same as Image";
     assert_eq!(rt;
         wrong_test(alloc, &Event::new(values, None), table)?.as_str(),
         ""
@@ -215,7 +266,13 @@ yes~Ip~192.168.*
 yes~Ip~HOST
 no~Ip~192.168.0.?0
 yes~Ip~inside 192.168.0.0/16
-no~Ip~inside 192.169.0.0/16";
+no~Ip~inside 192.169.0.0/16
+yes~Size~> 299
+no~Size~> 300
+yes~Size~< -19
+no~Size~< -20
+no~Image~same as Size
+no~Ip~same as Image";
     assert_eq!(rt; wrong_test(alloc, &several(alloc)?, table)?.as_str(), "");
     Ok(())
 }
@@ -229,6 +286,24 @@ fn a_list_without_values(rt: HostRuntime) -> Result<(), Fail> {
     let table = "yes~Size~absent
 no~Size~exists
 yes~Size~exists not";
+    assert_eq!(rt;
+        wrong_test(alloc, &Event::new(values, None), table)?.as_str(),
+        ""
+    );
+    Ok(())
+}
+
+#[test]
+fn texts_are_compared_without_case(rt: HostRuntime) -> Result<(), Fail> {
+    let alloc = rt.alloc();
+    let mut values = Vec::new(alloc);
+    values.push(texts(alloc, "x HOST")?)?;
+    values.push(FieldValues::one(Value::Whole(12)))?;
+    values.push(texts(alloc, "y host 12")?)?;
+    let table = "yes~Image~same as Ip
+yes~Ip~same as Image
+yes~Ip~same as Size
+no~Image~same as Size";
     assert_eq!(rt;
         wrong_test(alloc, &Event::new(values, None), table)?.as_str(),
         ""
