@@ -4,7 +4,7 @@
     python3 bench/against_sqlite.py PROGRAM [--rules N] [--seed S] [--indexes] [--schema] [--run] [--query] [--lucene]
 
 PROGRAM is the built program, as crates/sigma_app/out/sigma_app. It makes N small rules of odd values (wildcards, escapes, quotes,
-signs of LIKE and GLOB, letters beyond ASCII, numbers, null, lists, networks, each modifier, conditions that nest; one in 200 has a list of
+signs of LIKE and GLOB, letters beyond ASCII, numbers, null, lists, networks, comparisons with numbers and with other fields, each modifier, conditions that nest; one in 200 has a list of
 1,000 to 4,096 values), has the program
 convert them, and runs each query over random events in a table of texts. The rows that SQLite selects have to be those
 that the rule matches by a plain reading of what was made, which shares no code with the program. It prints each rule that differs, and the
@@ -36,8 +36,10 @@ import subprocess
 import sys
 import tempfile
 
-FIELDS = ["Image", "User", "Cmd", "a b", "Ip"]
+FIELDS = ["Image", "User", "Cmd", "a b", "Ip", "Size"]
 ADDRESSED = ["Ip"]  # the fields that networks are asked of
+COMPARED = ["Size"]  # the fields that are compared with numbers alone
+ORDERS = {"lt": int.__lt__, "lte": int.__le__, "gt": int.__gt__, "gte": int.__ge__}
 SIGNS = list("aAbB*?\\%_[]-/'\" .éÉ1")
 CHAINS = [[], [], ["contains"], ["startswith"], ["endswith"], ["contains", "all"], ["cased"], ["cased", "contains"], ["all"],
           ["endswith", "cased"], ["windash"], ["windash", "contains"], ["cased", "windash", "startswith"], ["base64"], ["base64", "contains"], ["base64offset", "contains"],
@@ -98,6 +100,10 @@ def some_encoded(rng):
 def some_item(rng):
     """A field, its modifiers and its values."""
     field = rng.choice(FIELDS)
+    if field in COMPARED or field in WHOLE and rng.randrange(4) == 0:
+        return field, [rng.choice(list(ORDERS))] + rng.choice([[], ["all"]]), [some_number(rng) for _ in range(rng.choice([1, 1, 2]))]
+    if rng.randrange(10) == 0:
+        return field, ["fieldref"], [rng.choice([name for name in FIELDS if name not in COMPARED and (name in WHOLE) == (field in WHOLE)])]
     if rng.randrange(12) == 0:
         return field, ["exists"], [rng.choice([True, False])]
     if field in ADDRESSED and rng.randrange(3):
@@ -137,7 +143,7 @@ def some_event(rng):
             return str(rng.randrange(-20, 20))
         return rng.choice(["true", "False", ""]) if kind == 2 else some_text(rng)
 
-    return {field: rng.choice([None, some_number(rng)]) if field in WHOLE else some_address(rng) if field in ADDRESSED else value() for field in FIELDS}
+    return {field: rng.choice([None, some_number(rng)]) if field in WHOLE + COMPARED else some_address(rng) if field in ADDRESSED else value() for field in FIELDS}
 
 
 # ---- how it is written
@@ -209,7 +215,7 @@ def some_long_rule(rng):
     """A rule of one list of 1,000 to 4,096 values, each with letters of its own."""
     chain = rng.choice([chain for chain in CHAINS if not {"windash", *ENCODINGS} & set(chain)])
     values = [some_text(rng) + str(rng.randrange(10 ** 6)) + some_text(rng) for _ in range(rng.randrange(1000, 4097))]
-    item = (rng.choice(FIELDS), chain, values)
+    item = (rng.choice([field for field in FIELDS if field not in COMPARED]), chain, values)
     condition = rng.choice(["sel", "not sel", "1 of sel*", "not 1 of them"])
     lines = ["title: t", "logsource:", "  category: c", "detection:", "  sel:"] + item_lines(rng, "    ", item)
     return "\n".join(lines + [f"  condition: {condition}"]) + "\n", {"sel": [[item]]}, condition
@@ -273,6 +279,8 @@ def satisfied(chain, value, found):
     """Whether what an event has in a field satisfies one value."""
     if value is None or found is None:
         return value is None and found is None
+    if chain and chain[0] in ORDERS:
+        return ORDERS[chain[0]](found, value)
     if "cidr" in chain:
         try:
             return ipaddress.IPv4Address(found) in ipaddress.IPv4Network(value, strict=False)
@@ -301,6 +309,9 @@ def holds(item, event):
     field, chain, values = item
     if chain == ["exists"]:
         return (event[field] is not None) == values[0]
+    if chain == ["fieldref"]:
+        pair = event[field], event[values[0]]
+        return None not in pair and [fold(sign) for sign in str(pair[0])] == [fold(sign) for sign in str(pair[1])]
     places = chain if field or PLACES & set(chain) else chain + ["contains"]
     return (all if "all" in chain else any)(
         any(satisfied(places, value, found) for found in ([event[name] for name in SEARCHED] if field is None else [event[field]])) for value in values)
@@ -356,7 +367,7 @@ def schema_words(folder, always=False):
     """The option for the schema's file, which is written here, if there is one or if it's wanted always."""
     if not WHOLE and not always:
         return []
-    fields = [{"name": field, "kind": "whole" if field in WHOLE else "address" if field in ADDRESSED else "text", "search": field in SEARCHED, "cased": field not in WHOLE} for field in FIELDS]
+    fields = [{"name": field, "kind": "whole" if field in WHOLE + COMPARED else "address" if field in ADDRESSED else "text", "search": field in SEARCHED, "cased": field not in WHOLE + COMPARED} for field in FIELDS]
     with open(os.path.join(folder, "schema.json"), "w", encoding="utf-8") as file:
         json.dump({"fields": fields}, file)
     return ["--schema", "schema.json"]
@@ -395,7 +406,7 @@ def tables(indexes):
     databases = []
     for collation in [None, " collate nocase", ""] if indexes else [None]:
         database = sqlite3.connect(":memory:")
-        columns = [f'"{field}" {"integer" if field in WHOLE else "text"}' for field in FIELDS]
+        columns = [f'"{field}" {"integer" if field in WHOLE + COMPARED else "text"}' for field in FIELDS]
         database.execute(f"create table events (number integer, {', '.join(columns)})")
         if collation is not None:
             for number, field in enumerate(FIELDS):
@@ -415,7 +426,7 @@ def swapped(rng, detections):
     """An event whose values are values of the rule, in another case."""
     values = [value for alternatives in detections.values() for items in alternatives for _, _, values in items for value in values]
     numbers = [value for value in values if isinstance(value, int) and not isinstance(value, bool)]
-    return {field: rng.choice(numbers + [None]) if field in WHOLE else some_address(rng) if field in ADDRESSED else str(rng.choice(values + [""])).swapcase()
+    return {field: rng.choice(numbers + [None]) if field in WHOLE + COMPARED else some_address(rng) if field in ADDRESSED else str(rng.choice(values + [""])).swapcase()
             for field in FIELDS}
 
 
