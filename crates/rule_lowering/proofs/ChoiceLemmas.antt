@@ -11,9 +11,11 @@ use Rattle.backend_core.specs.View.{tree_view}
 use Rattle.backend_core.specs.declared.tree.LeafTest.{LeafTest}
 use Rattle.backend_core.specs.declared.tree.Tree.{Tree}
 use Rattle.dash_choices.specs.Choices.{choices, before_each, dash_count, is_dash_place}
+use Rattle.event_schema.specs.declared.schema.Field.{Field}
 use Rattle.event_schema.specs.declared.schema.FieldKind.{FieldKind}
 use Rattle.sig_base.specs.declared.refusal.Place.{Place}
 use Rattle.modifier_chains.specs.declared.modifier.Joined.TheVariants.{Any}
+use Rattle.modifier_chains.specs.declared.modifier.Op.{Op}
 use Rattle.sig_modifiers.specs.declared.test.Test.{Test}
 use Rattle.sig_modifiers.specs.declared.test.Test.TheVariants as tests
 use Rattle.sig_strings.specs.declared.part.Part.{Part}
@@ -63,15 +65,20 @@ pub alone_fits : (parts : List Part) (cased : Bool) → dash_count parts ≡ 0
 alone_fits parts cased none = ap (λ (all : List (List Part)). map (λ chosen. tests.Fits chosen cased) all) (one_choice parts none)
 
 -- no pattern
-pub no_pattern : (test : Test) → (test ≡ tests.Absent) ⊎ (((there : Bool) × (test ≡ tests.Exists there)) ⊎ ((n : ℤ) × (test ≡ tests.Equals n)))
+pub no_pattern : (test : Test)
+    → (test ≡ tests.Absent) ⊎ (((there : Bool) × (test ≡ tests.Exists there)) ⊎ (((n : ℤ) × (test ≡ tests.Equals n))
+    ⊎ (((op : Op) × (n : ℤ) × (test ≡ tests.Compare op n)) ⊎ ((name : List ℕ) × (test ≡ tests.SameAs name)))))
     → written_tests test ≡ test ∷ []
 no_pattern test is = elim is [
   | inl absent ↦ rw absent refl
-  | inr other ↦ elim other [ inl exists ↦ rw exists.1 refl | inr equals ↦ rw equals.1 refl ]
+  | inr other ↦ elim other [
+    | inl exists ↦ rw exists.1 refl
+    | inr number ↦ elim number [ inl equals ↦ rw equals.1 refl | inr more ↦ elim more [ inl orders ↦ rw orders.2 refl | inr same ↦ rw same.1 refl ] ]
+  ]
 ]
 
-abbrev pub choice_tree : Place → FieldKind → ℕ → Bool → List Part → Plain
-choice_tree place kind field cased chosen = written_tree place kind field (tests.Fits chosen cased)
+abbrev pub choice_tree : List Field → Place → FieldKind → ℕ → Bool → List Part → Plain
+choice_tree fields place kind field cased chosen = written_tree fields place kind field (tests.Fits chosen cased)
 
 -- ---- the trees of the choices
 
@@ -106,41 +113,41 @@ one_part : (place : Place) (field : ℕ) (test : Option LeafTest) → parts_of A
 one_part place field None = refl
 one_part place field (Some test) = refl
 
-flat : (place : Place) (kind : FieldKind) (field : ℕ) (ts : List Test)
-    → flat_map (parts_of Any) (map (written_tree place kind field) ts) ≡ map (written_tree place kind field) ts
-flat place kind field [] = refl
-flat place kind field (t ∷ ts) =
-    ap (λ (us : List Plain). us ++ flat_map (parts_of Any) (map (written_tree place kind field) ts)) (one_part place field (leaf_test kind t))
-    ∙ ap (λ (us : List Plain). written_tree place kind field t ∷ us) (flat place kind field ts)
+flat : (fields : List Field) (place : Place) (kind : FieldKind) (field : ℕ) (ts : List Test)
+    → flat_map (parts_of Any) (map (written_tree fields place kind field) ts) ≡ map (written_tree fields place kind field) ts
+flat fields place kind field [] = refl
+flat fields place kind field (t ∷ ts) =
+    ap (λ (us : List Plain). us ++ flat_map (parts_of Any) (map (written_tree fields place kind field) ts)) (one_part place field (leaf_test fields kind t))
+    ∙ ap (λ (us : List Plain). written_tree fields place kind field t ∷ us) (flat fields place kind field ts)
 
-mapped : (place : Place) (kind : FieldKind) (field : ℕ) (cased : Bool) (patterns : List (List Part))
-    → map (written_tree place kind field) (map (λ chosen. tests.Fits chosen cased) patterns) ≡ map (choice_tree place kind field cased) patterns
-mapped place kind field cased [] = refl
-mapped place kind field cased (p ∷ ps) = ap (λ (us : List Plain). choice_tree place kind field cased p ∷ us) (mapped place kind field cased ps)
+mapped : (fields : List Field) (place : Place) (kind : FieldKind) (field : ℕ) (cased : Bool) (patterns : List (List Part))
+    → map (written_tree fields place kind field) (map (λ chosen. tests.Fits chosen cased) patterns) ≡ map (choice_tree fields place kind field cased) patterns
+mapped fields place kind field cased [] = refl
+mapped fields place kind field cased (p ∷ ps) = ap (λ (us : List Plain). choice_tree fields place kind field cased p ∷ us) (mapped fields place kind field cased ps)
 
-parts_are : (place : Place) (kind : FieldKind) (field : ℕ) (cased : Bool) (patterns : List (List Part))
-    → map (choice_tree place kind field cased) patterns
-    ≡ flat_map (parts_of Any) (map (written_tree place kind field) (map (λ chosen. tests.Fits chosen cased) patterns))
-parts_are place kind field cased patterns =
-    sym (mapped place kind field cased patterns) ∙ sym (flat place kind field (map (λ chosen. tests.Fits chosen cased) patterns))
+parts_are : (fields : List Field) (place : Place) (kind : FieldKind) (field : ℕ) (cased : Bool) (patterns : List (List Part))
+    → map (choice_tree fields place kind field cased) patterns
+    ≡ flat_map (parts_of Any) (map (written_tree fields place kind field) (map (λ chosen. tests.Fits chosen cased) patterns))
+parts_are fields place kind field cased patterns =
+    sym (mapped fields place kind field cased patterns) ∙ sym (flat fields place kind field (map (λ chosen. tests.Fits chosen cased) patterns))
 
 past : (patterns : List (List Part)) (k : ℕ) (found : Option (List Part)) → found ≡ slice_get patterns k → found ≡ None → length patterns ≤ k
 past patterns k found looked none =
     let missing : slice_get patterns k ≡ None = sym looked ∙ none in
     elim (slice_get_cases patterns k).1 [ inl there ↦ absurd cc | inr behind ↦ behind.0 ]
 
-pub choices_end : (place : Place) (kind : FieldKind) (field : ℕ) (cased : Bool) (parts : List Part) (items : List Tree) (tree : Tree) (found : Option (List Part))
-    → map tree_view items ++ map (choice_tree place kind field cased) (drop (length items) (choices parts)) ≡ map (choice_tree place kind field cased) (choices parts)
+pub choices_end : (fields : List Field) (place : Place) (kind : FieldKind) (field : ℕ) (cased : Bool) (parts : List Part) (items : List Tree) (tree : Tree) (found : Option (List Part))
+    → map tree_view items ++ map (choice_tree fields place kind field cased) (drop (length items) (choices parts)) ≡ map (choice_tree fields place kind field cased) (choices parts)
     → found ≡ slice_get (choices parts) (length items) → found ≡ None → tree_view tree ≡ closed Any (map tree_view items)
-    → tree_view tree ≡ test_tree place kind field (tests.Fits parts cased)
+    → tree_view tree ≡ test_tree fields place kind field (tests.Fits parts cased)
 unfolding join
-choices_end place kind field cased parts items tree found built looked none is =
+choices_end fields place kind field cased parts items tree found built looked none is =
     let all_done : drop (length items) (choices parts) ≡ [] =
     drop_all (length items) (choices parts) (past (choices parts) (length items) found looked none) in
-    let done : map tree_view items ≡ map (choice_tree place kind field cased) (choices parts) =
+    let done : map tree_view items ≡ map (choice_tree fields place kind field cased) (choices parts) =
     sym (append-nil (map tree_view items))
-    ∙ (sym (ap (λ (ps : List (List Part)). map tree_view items ++ map (choice_tree place kind field cased) ps) all_done) ∙ built) in
-    is ∙ ap (closed Any) (done ∙ parts_are place kind field cased (choices parts))
+    ∙ (sym (ap (λ (ps : List (List Part)). map tree_view items ++ map (choice_tree fields place kind field cased) ps) all_done) ∙ built) in
+    is ∙ ap (closed Any) (done ∙ parts_are fields place kind field cased (choices parts))
 
 -- ---- the trees of a network's patterns
 
@@ -155,12 +162,12 @@ patterns_go f items new part parts shared left rest whole step before same made 
     ∙ (append_assoc (map tree_view items) (f parts ∷ []) (map f rest)
     ∙ (sym (ap (λ (ps : List (List Part)). map tree_view items ++ map f ps) step) ∙ before))
 
-pub patterns_end : (place : Place) (kind : FieldKind) (field : ℕ) (cased : Bool) (patterns left : List (List Part)) (items : List Tree) (tree : Tree) (count : ℕ)
+pub patterns_end : (fields : List Field) (place : Place) (kind : FieldKind) (field : ℕ) (cased : Bool) (patterns left : List (List Part)) (items : List Tree) (tree : Tree) (count : ℕ)
     → count ≡ 0 → count ≡ length left
-    → map tree_view items ++ map (choice_tree place kind field cased) left ≡ map (choice_tree place kind field cased) patterns
+    → map tree_view items ++ map (choice_tree fields place kind field cased) left ≡ map (choice_tree fields place kind field cased) patterns
     → tree_view tree ≡ closed Any (map tree_view items)
-    → tree_view tree ≡ join Any (map (written_tree place kind field) (map (λ chosen. tests.Fits chosen cased) patterns))
+    → tree_view tree ≡ join Any (map (written_tree fields place kind field) (map (λ chosen. tests.Fits chosen cased) patterns))
 unfolding join
-patterns_end place kind field cased patterns [] items tree count none many built is =
-    is ∙ ap (closed Any) (sym (append-nil (map tree_view items)) ∙ (built ∙ parts_are place kind field cased patterns))
-patterns_end place kind field cased patterns (p ∷ left) items tree count none many built is = absurd (omega arith)
+patterns_end fields place kind field cased patterns [] items tree count none many built is =
+    is ∙ ap (closed Any) (sym (append-nil (map tree_view items)) ∙ (built ∙ parts_are fields place kind field cased patterns))
+patterns_end fields place kind field cased patterns (p ∷ left) items tree count none many built is = absurd (omega arith)

@@ -129,23 +129,25 @@ module _ (counted : (parts : List Part) → length (choices parts) ≡ 5 ^ dash_
   written_count (tests.Fits parts cased) = length-map (choices parts) (λ chosen. tests.Fits chosen cased) ∙ counted parts
   written_count (tests.Equals n) = refl
   written_count (tests.Inside n) = length-map (patterns_of n) (λ pattern. tests.Fits pattern false) ∙ networks_counted n
-
-  test_leaves : (place : Place) (kind : FieldKind) (n : ℕ) (test : Test) → leaves (test_tree place kind n test) ≡ test_count test
-  test_leaves place kind n test =
-      join_map_leaves Any (written_tree place kind n) (λ t. 1) (λ t. one_leaf place n (leaf_test kind t)) (written_tests test)
-      ∙ (sum_ones (written_tests test) ∙ written_count test)
-
-  value_leaves : (place : Place) (kind : FieldKind) (n : ℕ) (ts : List Test) → leaves (value_tree place kind n ts) ≡ value_count ts
-  value_leaves place kind n ts = join_map_leaves Any (test_tree place kind n) test_count (test_leaves place kind n) ts
-
-  values_leaves : (place : Place) (j : Joined) (values : List (List Test)) (kind : FieldKind) (n : ℕ)
-      → leaves (values_tree place j values kind n) ≡ values_count values
-  values_leaves place j values kind n = join_map_leaves j (value_tree place kind n) value_count (value_leaves place kind n) values
+  written_count (tests.Compare op n) = refl
+  written_count (tests.SameAs name) = refl
 
   module _ (fields : List Field) where
+    test_leaves : (place : Place) (kind : FieldKind) (n : ℕ) (test : Test) → leaves (test_tree fields place kind n test) ≡ test_count test
+    test_leaves place kind n test =
+        join_map_leaves Any (written_tree fields place kind n) (λ t. 1) (λ t. one_leaf place n (leaf_test fields kind t)) (written_tests test)
+        ∙ (sum_ones (written_tests test) ∙ written_count test)
+
+    value_leaves : (place : Place) (kind : FieldKind) (n : ℕ) (ts : List Test) → leaves (value_tree fields place kind n ts) ≡ value_count ts
+    value_leaves place kind n ts = join_map_leaves Any (test_tree fields place kind n) test_count (test_leaves place kind n) ts
+
+    values_leaves : (place : Place) (j : Joined) (values : List (List Test)) (kind : FieldKind) (n : ℕ)
+        → leaves (values_tree fields place j values kind n) ≡ values_count values
+    values_leaves place j values kind n = join_map_leaves j (value_tree fields place kind n) value_count (value_leaves place kind n) values
+
     keyword_leaves : (place : Place) (ts : List Test) → leaves (keyword_tree fields place ts) ≡ value_count ts * length (searched fields)
     keyword_leaves place ts =
-        join_map_leaves Any (λ n. value_tree place (kind_at fields n) n ts) (λ n. value_count ts) (λ n. value_leaves place (kind_at fields n) n ts) (searched fields)
+        join_map_leaves Any (λ n. value_tree fields place (kind_at fields n) n ts) (λ n. value_count ts) (λ n. value_leaves place (kind_at fields n) n ts) (searched fields)
         ∙ sum_same (value_count ts) (searched fields)
 
     fields_leaves : (place : Place) (j : Joined) (values : List (List Test)) (fs : Fields)

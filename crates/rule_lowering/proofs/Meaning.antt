@@ -14,7 +14,7 @@ use Rattle.event_schema.specs.declared.schema.Schema.{Schema}
 use Rattle.event_schema.specs.declared.value.Value.{Value}
 use Rattle.event_schema.specs.declared.value.Value.TheVariants as values
 use Rattle.event_schema.specs.Lists.{EachOf, SomeOf}
-use Rattle.rule_matching.specs.Matching.{JoinedHolds, FieldSatisfies, KeywordSatisfied, FieldsHold, ItemHolds, DetectionHolds, NumberHolds, FormHolds, AllFormsHold, SomeFormHolds, Matches}
+use Rattle.rule_matching.specs.Matching.{named, JoinedHolds, FieldSatisfies, KeywordSatisfied, FieldsHold, ItemHolds, DetectionHolds, NumberHolds, FormHolds, AllFormsHold, SomeFormHolds, Matches}
 use Rattle.rule_items.specs.Whole.{IsWholeValue, AreWholeFields, IsWholeItem, IsWholeAlternative, IsWholeDetection}
 use Rattle.rule_model.specs.Plain.{PlainRule}
 use Rattle.rule_model.specs.Whole.{IsWhole}
@@ -86,13 +86,13 @@ some_fits [] text cased = iff_same
 some_fits (parts ∷ patterns) text cased = iff_either iff_same (some_fits patterns text cased)
 
 -- of patterns some fits some value exactly where some value is fitted by some of them
-patterns_turned : (patterns : List (List Part)) (cased : Bool) (values : List Value)
-    → SomeOf (λ t. Holds t values) (map (λ chosen. tests.Fits chosen cased) patterns)
+patterns_turned : (named : List ℕ → List Value) (patterns : List (List Part)) (cased : Bool) (values : List Value)
+    → SomeOf (λ t. Holds named t values) (map (λ chosen. tests.Fits chosen cased) patterns)
     ↔ SomeOf (λ value. SomeOf (λ chosen. Fits chosen (value_text value) cased) patterns) values
-patterns_turned patterns cased values =
+patterns_turned named patterns cased values =
     let of_values : List Part → Value → Type 0 = λ chosen value. Fits chosen (value_text value) cased in
     iff_then
-    (over_map Any (λ chosen. tests.Fits chosen cased) (λ t. Holds t values) (λ chosen. SomeOf (of_values chosen) values) (λ chosen. iff_same) patterns)
+    (over_map Any (λ chosen. tests.Fits chosen cased) (λ t. Holds named t values) (λ chosen. SomeOf (of_values chosen) values) (λ chosen. iff_same) patterns)
     (turned of_values patterns values, turned (λ value chosen. of_values chosen value) values patterns)
 
 abbrev ChoicesFit : Type 0
@@ -109,19 +109,22 @@ address_fits networks_fit n plain (values.Text text) known =
 address_fits networks_fit n plain (values.Whole m) known = absurd known
 
 -- what stands for a test holds exactly where the test does, on a field of a kind that takes it
-written_hold : ChoicesFit → NetworksFit → (kind : FieldKind) (test : Test) → IsMet kind test → (all : List Value) → EachOf (IsOfKind kind) all
-    → SomeOf (λ t. Holds t all) (written_tests test) ↔ Holds test all
-written_hold choices_fit networks_fit kind tests.Absent met all known = some_one (λ t. Holds t all) tests.Absent
-written_hold choices_fit networks_fit kind (tests.Exists there) met all known = some_one (λ t. Holds t all) (tests.Exists there)
-written_hold choices_fit networks_fit kind (tests.Equals n) met all known = some_one (λ t. Holds t all) (tests.Equals n)
-written_hold choices_fit networks_fit kind (tests.Fits parts cased) met all known =
-    iff_then (patterns_turned (choices parts) cased all)
-    (some_same (λ value. SomeOf (λ chosen. Fits chosen (value_text value) cased) (choices parts)) (λ value. Fits parts (value_text value) cased)
-    (λ value. iff_back (iff_then (choices_fit parts (value_text value) cased) (some_fits (choices parts) (value_text value) cased))) all)
-written_hold choices_fit networks_fit kind (tests.Inside n) met all known =
-    iff_then (patterns_turned (patterns_of n) false all)
-    (some_each (IsOfKind kinds.Address) (λ value. SomeOf (λ parts. Fits parts (value_text value) false) (patterns_of n)) (λ value. InNetwork n (value_text value))
-    (address_fits networks_fit n met.0) all (subst (λ (k : FieldKind). EachOf (IsOfKind k) all) met.1 known))
+module _ (fields : List Field) (named : List ℕ → List Value) where
+  written_hold : ChoicesFit → NetworksFit → (kind : FieldKind) (test : Test) → IsMet fields kind test → (all : List Value) → EachOf (IsOfKind kind) all
+      → SomeOf (λ t. Holds named t all) (written_tests test) ↔ Holds named test all
+  written_hold choices_fit networks_fit kind tests.Absent met all known = some_one (λ t. Holds named t all) tests.Absent
+  written_hold choices_fit networks_fit kind (tests.Exists there) met all known = some_one (λ t. Holds named t all) (tests.Exists there)
+  written_hold choices_fit networks_fit kind (tests.Equals n) met all known = some_one (λ t. Holds named t all) (tests.Equals n)
+  written_hold choices_fit networks_fit kind (tests.Fits parts cased) met all known =
+      iff_then (patterns_turned named (choices parts) cased all)
+      (some_same (λ value. SomeOf (λ chosen. Fits chosen (value_text value) cased) (choices parts)) (λ value. Fits parts (value_text value) cased)
+      (λ value. iff_back (iff_then (choices_fit parts (value_text value) cased) (some_fits (choices parts) (value_text value) cased))) all)
+  written_hold choices_fit networks_fit kind (tests.Inside n) met all known =
+      iff_then (patterns_turned named (patterns_of n) false all)
+      (some_each (IsOfKind kinds.Address) (λ value. SomeOf (λ parts. Fits parts (value_text value) false) (patterns_of n)) (λ value. InNetwork n (value_text value))
+      (address_fits networks_fit n met.0) all (subst (λ (k : FieldKind). EachOf (IsOfKind k) all) met.1 known))
+  written_hold choices_fit networks_fit kind (tests.Compare op n) met all known = some_one (λ t. Holds named t all) (tests.Compare op n)
+  written_hold choices_fit networks_fit kind (tests.SameAs name) met all known = some_one (λ t. Holds named t all) (tests.SameAs name)
 
 each_fits : (patterns : List (List Part)) (cased : Bool) → EachOf IsLeafTest (map (λ chosen. tests.Fits chosen cased) patterns)
 each_fits [] cased = tt
@@ -134,6 +137,8 @@ each_leaf (tests.Exists there) = (tt, tt)
 each_leaf (tests.Fits parts cased) = each_fits (choices parts) cased
 each_leaf (tests.Equals n) = (tt, tt)
 each_leaf (tests.Inside n) = each_fits (patterns_of n) false
+each_leaf (tests.Compare op n) = (tt, tt)
+each_leaf (tests.SameAs name) = (tt, tt)
 
 -- patterns of characters alone fit their own text, exactly or after folding
 module _
@@ -149,35 +154,40 @@ module _
     named_kind name = kind (number_of fields name)
 
     abbrev named_values : List ℕ → List Value
-    named_values name = values_if_any row (field_number fields name)
+    named_values name = named fields row name
+
+    named_same : (name : List ℕ) → field_values row (number_of fields name) ≡ named_values name
+    named_same name = numbered_values fields row event (field_number fields name)
 
     named_known : (name : List ℕ) → EachOf (IsOfKind (named_kind name)) (named_values name)
     named_known name =
-        subst (λ (all : List Value). EachOf (IsOfKind (named_kind name)) all) (numbered_values fields row event (field_number fields name))
-        (values_of_kind fields row event (number_of fields name))
+        subst (λ (all : List Value). EachOf (IsOfKind (named_kind name)) all) (named_same name) (values_of_kind fields row event (number_of fields name))
+
+    abbrev NamedHold : List ℕ → Test → Type 0
+    NamedHold name test = Holds named_values test (named_values name)
 
     written_means : (place : Place) (name : List ℕ) (test : Test) → IsLeafTest test
-        → TreeHolds row (written_tree place (named_kind name) (number_of fields name) test) ↔ Holds test (named_values name)
+        → TreeHolds row (written_tree fields place (named_kind name) (number_of fields name) test) ↔ NamedHold name test
     written_means place name test plain =
         let n = number_of fields name in
-        let there : Passes row (leaf_test (kind n) test) (field_values row n) ↔ Holds test (named_values name) =
-        subst (λ (all : List Value). Passes row (leaf_test (kind n) test) (field_values row n) ↔ Holds test all)
-        (numbered_values fields row event (field_number fields name))
-        (test_means plain_cased plain_folded row (kind n) test (field_values row n) plain (values_of_kind fields row event n)) in
-        iff_then (leaf_holds row place n (leaf_test (kind n) test)) there
+        let there : Passes row (leaf_test fields (kind n) test) (field_values row n) ↔ NamedHold name test =
+        subst (λ (all : List Value). Passes row (leaf_test fields (kind n) test) (field_values row n) ↔ Holds named_values test all)
+        (named_same name)
+        (test_means plain_cased plain_folded row fields named_values named_same (kind n) test (field_values row n) plain (values_of_kind fields row event n)) in
+        iff_then (leaf_holds row place n (leaf_test fields (kind n) test)) there
 
-    one_means : (place : Place) (name : List ℕ) (test : Test) → IsMet (named_kind name) test
-        → TreeHolds row (test_tree place (named_kind name) (number_of fields name) test) ↔ Holds test (named_values name)
+    one_means : (place : Place) (name : List ℕ) (test : Test) → IsMet fields (named_kind name) test
+        → TreeHolds row (test_tree fields place (named_kind name) (number_of fields name) test) ↔ NamedHold name test
     one_means place name test met =
         iff_then
-        (join_good row Any (written_tree place (named_kind name) (number_of fields name)) (λ t. Holds t (named_values name)) IsLeafTest
+        (join_good row Any (written_tree fields place (named_kind name) (number_of fields name)) (NamedHold name) IsLeafTest
         (written_means place name) (written_tests test) (each_leaf test))
-        (written_hold choices_fit networks_fit (named_kind name) test met (named_values name) (named_known name))
+        (written_hold fields named_values choices_fit networks_fit (named_kind name) test met (named_values name) (named_known name))
 
-    value_means : (place : Place) (name : List ℕ) (ts : List Test) → AreMet (named_kind name) ts
-        → TreeHolds row (value_tree place (named_kind name) (number_of fields name) ts) ↔ FieldSatisfies fields row name ts
+    value_means : (place : Place) (name : List ℕ) (ts : List Test) → AreMet fields (named_kind name) ts
+        → TreeHolds row (value_tree fields place (named_kind name) (number_of fields name) ts) ↔ FieldSatisfies fields row name ts
     value_means place name ts met =
-        join_good row Any (test_tree place (named_kind name) (number_of fields name)) (λ t. Holds t (named_values name)) (IsMet (named_kind name))
+        join_good row Any (test_tree fields place (named_kind name) (number_of fields name)) (NamedHold name) (IsMet fields (named_kind name))
         (one_means place name) ts met
 
     joined_means : (j : Joined) (f : List Test → Plain) (Q Good : List Test → Type 0) → ((ts : List Test) → Good ts → TreeHolds row (f ts) ↔ Q ts)
@@ -188,9 +198,9 @@ module _
     keyword_means : (place : Place) (ts : List Test) → EachOf IsPatternTest ts → TreeHolds row (keyword_tree fields place ts) ↔ KeywordSatisfied fields row ts
     keyword_means place ts patterns =
         iff_then
-        (join_map row Any (λ n. value_tree place (kind n) n ts) (λ n. TreeHolds row (value_tree place (kind n) n ts)) (λ n. iff_same) (searched fields))
-        (some_filtered (λ f. f.search) (λ f. number_of fields f.name) (λ n. TreeHolds row (value_tree place (kind n) n ts))
-        (λ f. FieldSatisfies fields row f.name ts) (λ f. value_means place f.name ts (patterns_met (named_kind f.name) ts patterns)) fields)
+        (join_map row Any (λ n. value_tree fields place (kind n) n ts) (λ n. TreeHolds row (value_tree fields place (kind n) n ts)) (λ n. iff_same) (searched fields))
+        (some_filtered (λ f. f.search) (λ f. number_of fields f.name) (λ n. TreeHolds row (value_tree fields place (kind n) n ts))
+        (λ f. FieldSatisfies fields row f.name ts) (λ f. value_means place f.name ts (patterns_met fields (named_kind f.name) ts patterns)) fields)
 
     fields_mean : (place : Place) (j : Joined) (values : List (List Test)) (fs : Fields) → AreWholeFields fs values → EachOf IsWholeValue values
         → fields_refusal fields place values fs ≡ None → TreeHolds row (fields_tree fields place j values fs) ↔ FieldsHold fields row j values fs
@@ -198,10 +208,10 @@ module _
         joined_means j (keyword_tree fields place) (KeywordSatisfied fields row) (λ ts. EachOf IsPatternTest ts) (keyword_means place) values patterns
     fields_mean place j values (Names names) patterns whole fits =
         join_good row Any (λ name. number_tree fields place j values (number_of fields name)) (λ name. JoinedHolds j (FieldSatisfies fields row name) values)
-        (λ name. EachOf (AreMet (named_kind name)) values)
-        (λ name met. joined_means j (value_tree place (named_kind name) (number_of fields name)) (FieldSatisfies fields row name) (AreMet (named_kind name))
+        (λ name. EachOf (AreMet fields (named_kind name)) values)
+        (λ name met. joined_means j (value_tree fields place (named_kind name) (number_of fields name)) (FieldSatisfies fields row name) (AreMet fields (named_kind name))
         (value_means place name) values met)
-        names (names_met fields values names whole (names_fit fields place values names fits).1)
+        names (names_met fields values names whole (names_fit fields place values names fits))
 
     item_means : (i : Item) → IsWholeItem i × ItemPasses fields i → TreeHolds row (item_tree fields i) ↔ ItemHolds fields row i
     item_means i h = fields_mean i.place i.joined i.tests i.fields h.0.fields h.0.each h.1

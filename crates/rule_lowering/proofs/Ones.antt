@@ -110,31 +110,31 @@ leaf_closed : (place : Place) (field : ℕ) (test : Option LeafTest) → IsClose
 leaf_closed place field None = tt
 leaf_closed place field (Some test) = tt
 
-written_closed : (place : Place) (kind : FieldKind) (field : ℕ) (test : Test) → IsClosed (written_tree place kind field test)
-written_closed place kind field test = leaf_closed place field (leaf_test kind test)
-
-pub test_closed : (place : Place) (kind : FieldKind) (field : ℕ) (test : Test) → IsClosed (test_tree place kind field test)
-test_closed place kind field test = join_closed Any (written_tree place kind field) (written_closed place kind field) (written_tests test)
-
--- what stands for itself alone
-pub alone : {E : Type 0} (r : Result Tree E) (place : Place) (kind : FieldKind) (field : ℕ) (test : Test) → written_tests test ≡ test ∷ []
-    → IfOk r (λ t. tree_view t ≡ written_tree place kind field test) → IfOk r (λ t. tree_view t ≡ test_tree place kind field test)
-alone r place kind field test one h =
-    subst (λ (p : Plain). IfOk r (λ t. tree_view t ≡ p))
-    (sym (ap (λ (ts : List Test). join Any (map (written_tree place kind field) ts)) one
-    ∙ join_one Any (written_tree place kind field test) (written_closed place kind field test))) h
-
-pub value_closed : (place : Place) (kind : FieldKind) (field : ℕ) (tests : List Test) → IsClosed (value_tree place kind field tests)
-value_closed place kind field tests = join_closed Any (test_tree place kind field) (test_closed place kind field) tests
-
-pub values_closed : (place : Place) (joined : Joined) (values : List (List Test)) (kind : FieldKind) (field : ℕ)
-    → IsClosed (values_tree place joined values kind field)
-values_closed place joined values kind field = join_closed joined (value_tree place kind field) (value_closed place kind field) values
-
 module _ (fields : List Field) where
+  written_closed : (place : Place) (kind : FieldKind) (field : ℕ) (test : Test) → IsClosed (written_tree fields place kind field test)
+  written_closed place kind field test = leaf_closed place field (leaf_test fields kind test)
+
+  pub test_closed : (place : Place) (kind : FieldKind) (field : ℕ) (test : Test) → IsClosed (test_tree fields place kind field test)
+  test_closed place kind field test = join_closed Any (written_tree fields place kind field) (written_closed place kind field) (written_tests test)
+
+  -- what stands for itself alone
+  pub alone : {E : Type 0} (r : Result Tree E) (place : Place) (kind : FieldKind) (field : ℕ) (test : Test) → written_tests test ≡ test ∷ []
+      → IfOk r (λ t. tree_view t ≡ written_tree fields place kind field test) → IfOk r (λ t. tree_view t ≡ test_tree fields place kind field test)
+  alone r place kind field test one h =
+      subst (λ (p : Plain). IfOk r (λ t. tree_view t ≡ p))
+      (sym (ap (λ (ts : List Test). join Any (map (written_tree fields place kind field) ts)) one
+      ∙ join_one Any (written_tree fields place kind field test) (written_closed place kind field test))) h
+
+  pub value_closed : (place : Place) (kind : FieldKind) (field : ℕ) (tests : List Test) → IsClosed (value_tree fields place kind field tests)
+  value_closed place kind field tests = join_closed Any (test_tree fields place kind field) (test_closed place kind field) tests
+
+  pub values_closed : (place : Place) (joined : Joined) (values : List (List Test)) (kind : FieldKind) (field : ℕ)
+      → IsClosed (values_tree fields place joined values kind field)
+  values_closed place joined values kind field = join_closed joined (value_tree fields place kind field) (value_closed place kind field) values
+
   keyword_closed : (place : Place) (tests : List Test) → IsClosed (keyword_tree fields place tests)
   keyword_closed place tests =
-      join_closed Any (λ (field : ℕ). value_tree place (kind_at fields field) field tests)
+      join_closed Any (λ (field : ℕ). value_tree fields place (kind_at fields field) field tests)
       (λ field. value_closed place (kind_at fields field) field tests) (searched fields)
 
   pub number_closed : (place : Place) (joined : Joined) (values : List (List Test)) (field : ℕ) → IsClosed (number_tree fields place joined values field)

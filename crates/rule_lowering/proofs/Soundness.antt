@@ -2,7 +2,7 @@
 use Rattle.std.proofs.Common.{ℕ, zero, suc, ◌≡◌, ◌<◌, ◌≤◌, ◌-◌, ◌*◌, ◌^◌, ℤ, Bool, true, false, if◌then◌else◌, List, [], ◌∷◌, ◌++◌, length, map, refl, sym, subst, arith}
 use Rattle.std.specs.Prelude.{Option, Some, None, option_map, ⊤}
 use Rattle.std.specs.Fmt.{signed_decimal}
-use Rattle.std.specs.List.{flat_map}
+use Rattle.std.specs.List.{flat_map, list_all}
 use Rattle.backend_core.specs.Sound.{IsSoundPattern, kind_at, IsSoundTest, AreTwo, IsSound, AreSound}
 use Rattle.backend_core.specs.Trees.{Plain, all, any, negated, leaf, never, Plains, no_parts, a_part}
 use Rattle.backend_core.specs.declared.tree.LeafTest.{LeafTest}
@@ -12,10 +12,11 @@ use Rattle.event_schema.specs.declared.schema.Field.{Field}
 use Rattle.event_schema.specs.declared.schema.FieldKind.{FieldKind}
 use Rattle.event_schema.specs.declared.schema.FieldKind.TheVariants as kinds
 use Rattle.event_schema.specs.declared.schema.Schema.{Schema}
-use Rattle.rule_schema.specs.Inferred.{fields_refusal, fit_refusal}
+use Rattle.rule_schema.specs.Inferred.{is_field, fields_refusal, fit_refusal}
+use Rattle.sig_modifiers.specs.References.{references_in}
 use Rattle.event_schema.specs.Lists.{EachOf, HasElement}
 use Rattle.rule_model.specs.Plain.{PlainRule}
-use Rattle.sig_modifiers.specs.PlainTests.{IsPlainTest}
+use Rattle.sig_modifiers.specs.PlainTests.{IsPlainTest, IsPatternTest}
 use Rattle.value_patterns.specs.PlainPatterns.{IsDashedPattern, IsPlainPattern}
 use Rattle.rule_items.specs.Whole.{IsWholeValue, AreWholeFields, IsWholeItem, IsWholeAlternative, IsWholeDetection}
 use Rattle.rule_model.specs.Whole.{IsWholeForm, AreSomeForms, AreWholeForms, IsWhole}
@@ -38,13 +39,15 @@ use Rattle.sig_strings.specs.declared.part.Part.TheVariants.{Char, One, Run, Das
 use Rattle.rule_lowering.specs.Joining.{plains, listed, parts_of, tree_with, closed, join}
 use Rattle.rule_lowering.specs.TreeOf.{text_test, whole_test, leaf_test, leaf_if_any, written_tree, written_tests, test_tree, value_tree, keyword_tree, number_tree, fields_tree, item_tree, alternative_tree, detection_tree, numbered_tree, form_tree, form_trees, tree_of}
 use Rattle.field_numbers.specs.Numbers.{number_of, searched}
-use Rattle.rule_lowering.specs.WholeNumbers.{is_whole, written_number}
+use Rattle.value_patterns.specs.Numbers.{is_whole}
+use Rattle.value_patterns.proofs.Numbers.{whole_holds}
+use Rattle.rule_lowering.specs.WholeNumbers.{written_number}
 use Rattle.rule_lowering.proofs.Decimals.{characters, own_text, characters_written, low_decimal, low_plain}
 use Rattle.field_numbers.proofs.Found.{field_within, searched_within}
-use Rattle.rule_lowering.proofs.Fitted.{each_both, ItemPasses, DetectionPasses, Fine, names_fit, rule_fine}
+use Rattle.rule_lowering.proofs.Fitted.{each_both, ItemPasses, DetectionPasses, Fine, names_fit, rule_fine, IsLike, IsMet, AreMet, patterns_met, names_met}
 use Rattle.rule_lowering.proofs.Found.{some_searched, must_holds, each_name}
 use Rattle.rule_matching.proofs.Iffs.{each_append}
-use Rattle.rule_lowering.proofs.Written.{whole_holds, written_is}
+use Rattle.rule_lowering.proofs.Written.{written_is}
 
 -- ---- lists
 
@@ -151,13 +154,15 @@ module _ (choices_plain : (parts : List Part) → IsDashedPattern parts → Each
 
     -- ---- values
 
-    -- what a language can say: patterns have no dash places any more
-    abbrev IsWrittenTest : Test → Type 0
-    IsWrittenTest tests.Absent = ⊤
-    IsWrittenTest (tests.Exists there) = ⊤
-    IsWrittenTest (tests.Fits parts cased) = IsSoundPattern parts
-    IsWrittenTest (tests.Equals n) = ⊤
-    IsWrittenTest (tests.Inside n) = ⊤
+    -- what a language can say of a field of this kind: patterns have no dash places any more
+    abbrev IsWrittenTest : FieldKind → Test → Type 0
+    IsWrittenTest kind tests.Absent = ⊤
+    IsWrittenTest kind (tests.Exists there) = ⊤
+    IsWrittenTest kind (tests.Fits parts cased) = IsSoundPattern parts
+    IsWrittenTest kind (tests.Equals n) = ⊤
+    IsWrittenTest kind (tests.Inside n) = ⊤
+    IsWrittenTest kind (tests.Compare op n) = IsWholeNumber n
+    IsWrittenTest kind (tests.SameAs name) = IsLike fields kind name
 
     decimal_sound : (low : List ℕ) → IsPlainText low → IsSoundPattern (characters low)
     decimal_sound low h = record { written = characters_written low; plain = subst IsPlainText (sym (own_text low)) h }
@@ -167,7 +172,7 @@ module _ (choices_plain : (parts : List Part) → IsDashedPattern parts → Each
     IsSoundIfAny kind (Some test) = IsSoundTest fields kind test
 
     -- of a field that isn't one of whole numbers
-    text_sound : (kind : FieldKind) → (kind ≡ kinds.Whole → ⊥) → (test : Test) → IsWrittenTest test → IsSoundIfAny kind (text_test test)
+    text_sound : (kind : FieldKind) → (kind ≡ kinds.Whole → ⊥) → (test : Test) → IsWrittenTest kind test → IsSoundIfAny kind (text_test fields test)
     text_sound kind other tests.Absent h = tt
     text_sound kind other (tests.Exists true) h = tt
     text_sound kind other (tests.Exists false) h = tt
@@ -175,33 +180,37 @@ module _ (choices_plain : (parts : List Part) → IsDashedPattern parts → Each
     text_sound kind other (tests.Equals n) h =
         (decimal_sound (signed_decimal n) (low_plain (signed_decimal n) (low_decimal n)), (λ is. absurd (other is)))
     text_sound kind other (tests.Inside n) h = tt
+    text_sound kind other (tests.Compare op n) h = tt
+    text_sound kind other (tests.SameAs name) h = h
 
     written_sound : (number : Option ℤ) → ((n : ℤ) → number ≡ Some n → IsWholeNumber n) → IsSoundIfAny kinds.Whole (option_map leaf_tests.Equals number)
     written_sound None whole = tt
     written_sound (Some n) whole = (refl, whole n refl)
 
-    pattern_sound : (parts : List Part) (cased : Bool) → IsSoundPattern parts → IsSoundIfAny kinds.Whole (whole_test (tests.Fits parts cased))
+    pattern_sound : (parts : List Part) (cased : Bool) → IsSoundPattern parts → IsSoundIfAny kinds.Whole (whole_test fields (tests.Fits parts cased))
     pattern_sound parts cased h = by (has_wildcard parts) refl where
       by : (b : Bool) → has_wildcard parts ≡ b
           → IsSoundIfAny kinds.Whole (if b then Some (leaf_tests.Fits parts cased) else option_map leaf_tests.Equals (written_number (plain_text parts)))
       by true is = (h, (λ same. is))
       by false is = written_sound (written_number (plain_text parts)) (λ n e. (written_is (plain_text parts) n e).1)
 
-    number_sound : (n : ℤ) → IsSoundIfAny kinds.Whole (whole_test (tests.Equals n))
+    number_sound : (n : ℤ) → IsSoundIfAny kinds.Whole (whole_test fields (tests.Equals n))
     number_sound n = by (is_whole n) refl where
       by : (b : Bool) → is_whole n ≡ b → IsSoundIfAny kinds.Whole (option_map leaf_tests.Equals (if b then Some n else None))
       by true is = (refl, whole_holds n is)
       by false is = tt
 
-    whole_sound : (test : Test) → IsWrittenTest test → IsSoundIfAny kinds.Whole (whole_test test)
+    whole_sound : (test : Test) → IsWrittenTest kinds.Whole test → IsSoundIfAny kinds.Whole (whole_test fields test)
     whole_sound tests.Absent h = tt
     whole_sound (tests.Exists true) h = tt
     whole_sound (tests.Exists false) h = tt
     whole_sound (tests.Fits parts cased) h = pattern_sound parts cased h
     whole_sound (tests.Equals n) h = number_sound n
     whole_sound (tests.Inside n) h = tt
+    whole_sound (tests.Compare op n) h = (refl, h)
+    whole_sound (tests.SameAs name) h = h
 
-    kind_sound : (kind : FieldKind) (test : Test) → IsWrittenTest test → IsSoundIfAny kind (leaf_test kind test)
+    kind_sound : (kind : FieldKind) (test : Test) → IsWrittenTest kind test → IsSoundIfAny kind (leaf_test fields kind test)
     kind_sound kinds.Text test h = text_sound kinds.Text (λ is. absurd (cc)) test h
     kind_sound kinds.Whole test h = whole_sound test h
     kind_sound kinds.Address test h = text_sound kinds.Address (λ is. absurd (cc)) test h
@@ -214,8 +223,9 @@ module _ (choices_plain : (parts : List Part) → IsDashedPattern parts → Each
     abbrev kind : ℕ → FieldKind
     kind n = kind_at fields n
 
-    written_tree_sound : (place : Place) (n : ℕ) → n < length fields → (test : Test) → IsWrittenTest test → IsSound fields (written_tree place (kind n) n test)
-    written_tree_sound place n within test h = leaf_sound place n within (leaf_test (kind n) test) (kind_sound (kind n) test h)
+    written_tree_sound : (place : Place) (n : ℕ) → n < length fields → (test : Test) → IsWrittenTest (kind n) test
+        → IsSound fields (written_tree fields place (kind n) n test)
+    written_tree_sound place n within test h = leaf_sound place n within (leaf_test fields (kind n) test) (kind_sound (kind n) test h)
 
     some_written : (test : Test) → HasElement (written_tests test)
     some_written tests.Absent = tt
@@ -223,46 +233,69 @@ module _ (choices_plain : (parts : List Part) → IsDashedPattern parts → Each
     some_written (tests.Fits parts cased) = some_map (λ chosen. tests.Fits chosen cased) (choices parts) (some_choice parts)
     some_written (tests.Equals n) = tt
     some_written (tests.Inside n) = some_map (λ pattern. tests.Fits pattern false) (patterns_of n) (some_network n)
+    some_written (tests.Compare op n) = tt
+    some_written (tests.SameAs name) = tt
 
-    each_written : (test : Test) → IsPlainTest test → EachOf IsWrittenTest (written_tests test)
-    each_written tests.Absent h = (tt, tt)
-    each_written (tests.Exists there) h = (tt, tt)
-    each_written (tests.Fits parts cased) h =
-        each_with IsSoundPattern IsWrittenTest (λ chosen. tests.Fits chosen cased) (λ chosen sound. sound) (choices parts) (choices_sound parts h)
-    each_written (tests.Equals n) h = (tt, tt)
-    each_written (tests.Inside n) h =
-        each_with IsSoundPattern IsWrittenTest (λ pattern. tests.Fits pattern false) (λ pattern sound. sound) (patterns_of n)
+    each_written : (kind : FieldKind) (test : Test) → IsPlainTest test → IsMet fields kind test → EachOf (IsWrittenTest kind) (written_tests test)
+    each_written kind tests.Absent h met = (tt, tt)
+    each_written kind (tests.Exists there) h met = (tt, tt)
+    each_written kind (tests.Fits parts cased) h met =
+        each_with IsSoundPattern (IsWrittenTest kind) (λ chosen. tests.Fits chosen cased) (λ chosen sound. sound) (choices parts) (choices_sound parts h)
+    each_written kind (tests.Equals n) h met = (tt, tt)
+    each_written kind (tests.Inside n) h met =
+        each_with IsSoundPattern (IsWrittenTest kind) (λ pattern. tests.Fits pattern false) (λ pattern sound. sound) (patterns_of n)
         (all_sound (patterns_of n) (networks_plain n h.0 h.1))
+    each_written kind (tests.Compare op n) h met = (h, tt)
+    each_written kind (tests.SameAs name) h met = (met, tt)
 
-    test_sound : (place : Place) (n : ℕ) → n < length fields → (test : Test) → IsPlainTest test → IsSound fields (test_tree place (kind n) n test)
+    -- a test that any rule may ask, of a field of a kind that takes it
+    abbrev IsFitTest : FieldKind → Test → Type 0
+    IsFitTest kind test = IsPlainTest test × IsMet fields kind test
+
+    test_sound : (place : Place) (n : ℕ) → n < length fields → (test : Test) → IsFitTest (kind n) test → IsSound fields (test_tree fields place (kind n) n test)
     test_sound place n within test h =
-        join_map_sound IsWrittenTest Any (written_tree place (kind n) n) (written_tree_sound place n within) (written_tests test)
-        (some_written test) (each_written test h)
+        join_map_sound (IsWrittenTest (kind n)) Any (written_tree fields place (kind n) n) (written_tree_sound place n within) (written_tests test)
+        (some_written test) (each_written (kind n) test h.0 h.1)
 
-    value_sound : (place : Place) (n : ℕ) → n < length fields → (ts : List Test) → IsWholeValue ts → IsSound fields (value_tree place (kind n) n ts)
+    abbrev IsFitValue : FieldKind → List Test → Type 0
+    IsFitValue kind ts = IsWholeValue ts × AreMet fields kind ts
+
+    value_sound : (place : Place) (n : ℕ) → n < length fields → (ts : List Test) → IsFitValue (kind n) ts → IsSound fields (value_tree fields place (kind n) n ts)
     value_sound place n within ts h =
-        join_map_sound IsPlainTest Any (test_tree place (kind n) n)
-        (test_sound place n within) ts h.some h.each
+        join_map_sound (IsFitTest (kind n)) Any (test_tree fields place (kind n) n)
+        (test_sound place n within) ts h.0.some (each_both IsPlainTest (IsMet fields (kind n)) ts h.0.each h.1)
 
     values_sound : (place : Place) (j : Joined) (values : List (List Test)) → HasElement values → EachOf IsWholeValue values
-        → (n : ℕ) → n < length fields → IsSound fields (number_tree fields place j values n)
-    values_sound place j values s h n within = join_map_sound IsWholeValue j (value_tree place (kind n) n) (value_sound place n within) values s h
+        → (n : ℕ) → n < length fields → EachOf (AreMet fields (kind n)) values → IsSound fields (number_tree fields place j values n)
+    values_sound place j values s h n within met =
+        join_map_sound (IsFitValue (kind n)) j (value_tree fields place (kind n) n) (value_sound place n within) values s
+        (each_both IsWholeValue (AreMet fields (kind n)) values h met)
 
-    keyword_sound : (place : Place) → HasElement (searched fields) → (ts : List Test) → IsWholeValue ts → IsSound fields (keyword_tree fields place ts)
+    keyword_sound : (place : Place) → HasElement (searched fields) → (ts : List Test) → IsWholeValue ts × EachOf IsPatternTest ts
+        → IsSound fields (keyword_tree fields place ts)
     keyword_sound place s ts h =
-        join_map_sound (λ n. n < length fields) Any (λ n. value_tree place (kind n) n ts) (λ n within. value_sound place n within ts h)
-        (searched fields) s (searched_within fields)
+        join_map_sound (λ n. n < length fields) Any (λ n. value_tree fields place (kind n) n ts)
+        (λ n within. value_sound place n within ts (h.0, patterns_met fields (kind n) ts h.1)) (searched fields) s (searched_within fields)
 
     -- ---- items
+
+    names_within : (names others : List (List ℕ)) → list_all (is_field fields) (names ++ others) ≡ true → EachOf (λ name. number_of fields name < length fields) names
+    names_within names others h =
+        ((each_append (λ name. number_of fields name < length fields) names others).0 (each_name (is_field fields) (field_within fields) (names ++ others) h)).0
 
     fields_sound : (place : Place) (j : Joined) (values : List (List Test)) (fs : Fields) → AreWholeFields fs values → HasElement values → EachOf IsWholeValue values
         → fields_refusal fields place values fs ≡ None → IsSound fields (fields_tree fields place j values fs)
     fields_sound place j values Keyword w s h fits =
-        join_map_sound IsWholeValue j (keyword_tree fields place) (keyword_sound place (some_searched fields (must_holds 83 place _ fits))) values s h
+        join_map_sound (λ ts. IsWholeValue ts × EachOf IsPatternTest ts) j (keyword_tree fields place)
+        (keyword_sound place (some_searched fields (must_holds 83 place _ fits))) values s
+        (each_both IsWholeValue (λ ts. EachOf IsPatternTest ts) values h w)
     fields_sound place j values (Names names) w s h fits =
-        join_map_sound (λ name. number_of fields name < length fields) Any (λ name. number_tree fields place j values (number_of fields name))
-        (λ name within. values_sound place j values s h (number_of fields name) within)
-        names w.0 (each_name _ (field_within fields) names (names_fit fields place values names fits).0)
+        let fit = names_fit fields place values names fits in
+        join_map_sound (λ name. (number_of fields name < length fields) × EachOf (AreMet fields (kind (number_of fields name))) values) Any
+        (λ name. number_tree fields place j values (number_of fields name))
+        (λ name met. values_sound place j values s h (number_of fields name) met.0 met.1) names w.0
+        (each_both (λ name. number_of fields name < length fields) (λ name. EachOf (AreMet fields (kind (number_of fields name))) values) names
+        (names_within names (references_in values) fit.0) (names_met fields values names h fit))
 
     item_sound : (i : Item) → IsWholeItem i × ItemPasses fields i → IsSound fields (item_tree fields i)
     item_sound i h = fields_sound i.place i.joined i.tests i.fields h.0.fields h.0.some h.0.each h.1

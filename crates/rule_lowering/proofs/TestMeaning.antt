@@ -1,31 +1,38 @@
 -- What a leaf asks of a field holds where the test does, for each kind of field.
-use Rattle.std.proofs.Common.{ℕ, ◌≡◌, ◌↔◌, ℤ, Bool, true, false, if◌then◌else◌, List, [], ◌∷◌, inl, inr, refl, sym, ap, ◌∙◌}
+use Rattle.std.proofs.Common.{ℕ, ◌≡◌, ◌↔◌, ℤ, Bool, true, false, if◌then◌else◌, List, [], ◌∷◌, inl, inr, refl, sym, ap, subst, ◌∙◌}
 use Rattle.std.specs.Prelude.{Option, Some, None, option_map, ⊤}
 use Rattle.std.specs.Fmt.{signed_decimal}
 use Rattle.std.specs.List.{list_all}
-use Rattle.backend_core.specs.Holds.{TestHolds, TreeHolds}
+use Rattle.backend_core.specs.Holds as leaves
+use Rattle.backend_core.specs.Holds.{TestHolds, TreeHolds, AreSame}
 use Rattle.backend_core.specs.declared.tree.LeafTest.{LeafTest}
 use Rattle.backend_core.specs.declared.tree.LeafTest.TheVariants as leaf_tests
 use Rattle.event_schema.specs.Events.{IsOfKind}
 use Rattle.event_schema.specs.Lists.{EachOf, SomeOf}
 use Rattle.event_schema.specs.Rows.{field_values, value_text}
+use Rattle.event_schema.specs.declared.schema.Field.{Field}
 use Rattle.event_schema.specs.declared.schema.FieldKind.{FieldKind}
 use Rattle.event_schema.specs.declared.schema.FieldKind.TheVariants as kinds
 use Rattle.event_schema.specs.declared.value.Value.{Value}
 use Rattle.event_schema.specs.declared.value.Value.TheVariants as values
+use Rattle.field_numbers.specs.Numbers.{number_of}
+use Rattle.modifier_chains.specs.declared.modifier.Op.{Op}
+use Rattle.modifier_chains.specs.declared.modifier.Op.TheVariants as ops
 use Rattle.sig_base.specs.Folding.{folded}
 use Rattle.sig_base.specs.declared.refusal.Place.{Place}
-use Rattle.sig_modifiers.specs.Holds.{Holds}
+use Rattle.sig_modifiers.specs.Holds.{Stands, ValueStands, Holds}
 use Rattle.sig_modifiers.specs.declared.test.Test.{Test}
 use Rattle.sig_modifiers.specs.declared.test.Test.TheVariants as tests
 use Rattle.sig_strings.specs.Edits.{has_wildcard, plain_text}
 use Rattle.sig_strings.specs.Fits.{Fits}
 use Rattle.sig_strings.specs.declared.part.Part.{Part}
-use Rattle.rule_lowering.specs.TreeOf.{text_test, whole_test, leaf_test, leaf_if_any}
-use Rattle.rule_lowering.specs.WholeNumbers.{is_whole, written_number}
+use Rattle.value_patterns.specs.Numbers.{is_whole}
+use Rattle.value_patterns.proofs.Numbers.{whole_tests}
+use Rattle.rule_lowering.specs.TreeOf.{leaf_op, text_test, whole_test, leaf_test, leaf_if_any}
+use Rattle.rule_lowering.specs.WholeNumbers.{written_number}
 use Rattle.rule_lowering.proofs.Decimals.{is_low, characters, no_wildcard, own_text, low_decimal, low_text}
 use Rattle.rule_matching.proofs.Iffs.{iff_same, iff_then, iff_back, iff_either, some_same}
-use Rattle.rule_lowering.proofs.Written.{whole_tests, same_number, written_is, written_gives}
+use Rattle.rule_lowering.proofs.Written.{same_number, written_is, written_gives}
 
 -- ---- lists whose elements are known
 
@@ -49,6 +56,30 @@ IsLeafTest (tests.Exists there) = ⊤
 IsLeafTest (tests.Fits parts cased) = ⊤
 IsLeafTest (tests.Equals n) = ⊤
 IsLeafTest (tests.Inside n) = ⊥
+IsLeafTest (tests.Compare op n) = ⊤
+IsLeafTest (tests.SameAs name) = ⊤
+
+-- ---- numbers that stand so to another
+
+stands_same : (op : Op) (n own : ℤ) → leaves.Stands (leaf_op op) own n ↔ Stands op n own
+stands_same ops.Lt n own = iff_same
+stands_same ops.Lte n own = iff_same
+stands_same ops.Gt n own = iff_same
+stands_same ops.Gte n own = iff_same
+
+value_stands : (op : Op) (n : ℤ) (v : Value) → leaves.ValueStands (leaf_op op) n v ↔ ValueStands op n v
+value_stands op n (values.Text text) = iff_same
+value_stands op n (values.Whole own) = stands_same op n own
+
+-- fields of texts and addresses have no number
+no_number : (kind : FieldKind) → (kind ≡ kinds.Whole → ⊥) → (m : ℤ) → IsOfKind kind (values.Whole m) → ⊥
+no_number kinds.Text other m known = known
+no_number kinds.Whole other m known = other refl
+no_number kinds.Address other m known = known
+
+none_stands : (kind : FieldKind) → (kind ≡ kinds.Whole → ⊥) → (op : Op) (n : ℤ) (v : Value) → IsOfKind kind v → ValueStands op n v → ⊥
+none_stands kind other op n (values.Text text) known stands = stands
+none_stands kind other op n (values.Whole m) known stands = no_number kind other m known
 
 -- ---- a leaf that may be missing
 
@@ -64,7 +95,15 @@ leaf_holds row place field (Some test) = iff_same
 module _
     (plain_cased : (parts : List Part) (text : List ℕ) → has_wildcard parts ≡ false → Fits parts text true ↔ (text ≡ plain_text parts))
     (plain_folded : (parts : List Part) (text : List ℕ) → has_wildcard parts ≡ false → Fits parts text false ↔ (folded text ≡ folded (plain_text parts)))
-    (row : List (List Value)) where
+    (row : List (List Value)) (fields : List Field) (named : List ℕ → List Value)
+    (named_same : (name : List ℕ) → field_values row (number_of fields name) ≡ named name) where
+  -- the field of a name by its number
+  same_means : (name : List ℕ) (all : List Value)
+      → SomeOf (λ v. SomeOf (AreSame v) (field_values row (number_of fields name))) all ↔ SomeOf (λ v. SomeOf (AreSame v) (named name)) all
+  same_means name all =
+      subst (λ (others : List Value). SomeOf (λ v. SomeOf (AreSame v) (field_values row (number_of fields name))) all ↔ SomeOf (λ v. SomeOf (AreSame v) others) all)
+      (named_same name) iff_same
+
   -- ---- fields of texts and addresses
 
   -- where a pattern of characters alone fits, without regard to case, the texts that are its own after folding
@@ -75,15 +114,18 @@ module _
         (λ h. own.1 (ap folded h ∙ ap folded (sym (own_text low)))),
       )
 
-  text_means : (test : Test) (all : List Value) → IsLeafTest test → Passes row (text_test test) all ↔ Holds test all
-  text_means tests.Absent all plain = iff_same
-  text_means (tests.Exists true) all plain = iff_same
-  text_means (tests.Exists false) all plain = iff_same
-  text_means (tests.Fits parts cased) all plain = iff_same
-  text_means (tests.Inside n) all plain = absurd plain
-  text_means (tests.Equals n) all plain =
+  text_means : (kind : FieldKind) → (kind ≡ kinds.Whole → ⊥) → (test : Test) (all : List Value) → IsLeafTest test → EachOf (IsOfKind kind) all
+      → Passes row (text_test fields test) all ↔ Holds named test all
+  text_means kind other tests.Absent all plain known = iff_same
+  text_means kind other (tests.Exists true) all plain known = iff_same
+  text_means kind other (tests.Exists false) all plain known = iff_same
+  text_means kind other (tests.Fits parts cased) all plain known = iff_same
+  text_means kind other (tests.Inside n) all plain known = absurd plain
+  text_means kind other (tests.Equals n) all plain known =
       some_same (λ v. Fits (characters (signed_decimal n)) (value_text v) false) (λ v. value_text v ≡ signed_decimal n)
       (λ v. decimal_means (signed_decimal n) (value_text v) (low_decimal n)) all
+  text_means kind other (tests.Compare op n) all plain known = nothing (none_of (IsOfKind kind) (ValueStands op n) (none_stands kind other op n) all known)
+  text_means kind other (tests.SameAs name) all plain known = same_means name all
 
   -- ---- fields of whole numbers
 
@@ -120,7 +162,7 @@ module _
       (value_fits parts cased n plain (written_is (plain_text parts) n is).0) all whole
 
   fits_means : (parts : List Part) (cased : Bool) (all : List Value) → AreWhole all
-      → Passes row (whole_test (tests.Fits parts cased)) all ↔ SomeOf (λ v. Fits parts (value_text v) cased) all
+      → Passes row (whole_test fields (tests.Fits parts cased)) all ↔ SomeOf (λ v. Fits parts (value_text v) cased) all
   fits_means parts cased all whole = by (has_wildcard parts) refl where
     by : (b : Bool) → has_wildcard parts ≡ b
         → Passes row (if b then Some (leaf_tests.Fits parts cased) else option_map leaf_tests.Equals (written_number (plain_text parts))) all
@@ -136,22 +178,24 @@ module _
       let test : is_whole n ≡ true = ap is_whole (sym same) ∙ fits in
       absurd (cc)
 
-  equals_means : (n : ℤ) (all : List Value) → AreWhole all → Passes row (whole_test (tests.Equals n)) all ↔ SomeOf (λ v. value_text v ≡ signed_decimal n) all
+  equals_means : (n : ℤ) (all : List Value) → AreWhole all → Passes row (whole_test fields (tests.Equals n)) all ↔ SomeOf (λ v. value_text v ≡ signed_decimal n) all
   equals_means n all whole = by (is_whole n) refl where
     by : (b : Bool) → is_whole n ≡ b → Passes row (option_map leaf_tests.Equals (if b then Some n else None)) all ↔ SomeOf (λ v. value_text v ≡ signed_decimal n) all
     by true is = iff_same
     by false is = nothing (none_of (IsOfKind kinds.Whole) (λ v. value_text v ≡ signed_decimal n) (no_value_is n is) all whole)
 
-  whole_means : (test : Test) (all : List Value) → IsLeafTest test → AreWhole all → Passes row (whole_test test) all ↔ Holds test all
+  whole_means : (test : Test) (all : List Value) → IsLeafTest test → AreWhole all → Passes row (whole_test fields test) all ↔ Holds named test all
   whole_means tests.Absent all plain whole = iff_same
   whole_means (tests.Exists true) all plain whole = iff_same
   whole_means (tests.Exists false) all plain whole = iff_same
   whole_means (tests.Fits parts cased) all plain whole = fits_means parts cased all whole
   whole_means (tests.Equals n) all plain whole = equals_means n all whole
   whole_means (tests.Inside n) all plain whole = absurd plain
+  whole_means (tests.Compare op n) all plain whole = some_same (leaves.ValueStands (leaf_op op) n) (ValueStands op n) (value_stands op n) all
+  whole_means (tests.SameAs name) all plain whole = same_means name all
 
   pub test_means : (kind : FieldKind) (test : Test) (all : List Value) → IsLeafTest test → EachOf (IsOfKind kind) all
-      → Passes row (leaf_test kind test) all ↔ Holds test all
-  test_means kinds.Text test all plain known = text_means test all plain
+      → Passes row (leaf_test fields kind test) all ↔ Holds named test all
+  test_means kinds.Text test all plain known = text_means kinds.Text (λ e. absurd cc) test all plain known
   test_means kinds.Whole test all plain known = whole_means test all plain known
-  test_means kinds.Address test all plain known = text_means test all plain
+  test_means kinds.Address test all plain known = text_means kinds.Address (λ e. absurd cc) test all plain known

@@ -14,17 +14,9 @@ use Rattle.std.proofs.lemmas.Slice.Eq.{bytes_eq-Decides}
 use Rattle.std.proofs.lemmas.Str.{encodes-chars, encodes-IsAscii}
 use Rattle.std.proofs.lemmas.Str.Parse.{digit_from_value}
 use Rattle.event_schema.specs.Events.{IsWholeNumber}
-use Rattle.rule_lowering.specs.WholeNumbers.{is_whole, if_whole, written_number}
-
--- ---- whole numbers
-
-pub whole_holds : (n : ℤ) → is_whole n ≡ true → IsWholeNumber n
-whole_holds (pos n) h = let small = ltb-true n (2 ^ 63) h in (omega (arith, ints), omega (arith, ints))
-whole_holds (negsuc n) h = let small = ltb-true n (2 ^ 63 - 1) h in (omega (arith, ints), omega (arith, ints))
-
-pub whole_tests : (n : ℤ) → IsWholeNumber n → is_whole n ≡ true
-whole_tests (pos n) h = lt-ltb n (2 ^ 63) (omega (arith, ints))
-whole_tests (negsuc n) h = lt-ltb n (2 ^ 63 - 1) (omega (arith, ints))
+use Rattle.value_patterns.specs.Numbers.{is_whole}
+use Rattle.value_patterns.proofs.Numbers.{whole_holds, whole_tests}
+use Rattle.rule_lowering.specs.WholeNumbers.{if_whole, written_number}
 
 -- ---- a decimal's sign and digits write its number
 

@@ -3,15 +3,18 @@
 ghost use Rattle.std.specs.Prelude.{◌≡◌, if◌then◌else◌, map, Option, Some, option_map, IfOk, IfErr};
 ghost use Rattle.std.specs.Fmt.{signed_decimal};
 ghost use Rattle.backend_core.specs.declared.tree.LeafTest.TheVariants as leaf_tests;
+ghost use Rattle.field_numbers.specs.Numbered.{AreNumbered};
 ghost use Rattle.rule_lowering.specs.TreeOf as spec;
 ghost use Rattle.rule_lowering.specs.WholeNumbers.{written_number};
 ghost use Rattle.sig_strings.specs.Edits.{has_wildcard, plain_text};
 ghost use Rattle.sig_strings.specs.declared.part.Part.TheVariants.{Char};
 
 use crate::whole::{read_whole, whole_number};
-use backend_core::LeafTest;
-use event_schema::{FieldKind, decimal_in};
+use backend_core::{LeafTest, Op as LeafOp};
+use event_schema::{Field, FieldKind, decimal_in};
+use field_numbers::FieldNumbers;
 use itoa::Buffer;
+use modifier_chains::Op;
 use sig_base::{Fault, first_char};
 use sig_modifiers::Test;
 use sig_strings::{Part, Pattern, SharedPattern};
@@ -33,8 +36,14 @@ fn decimal_pattern(alloc: Global, number: i64) -> Result<SharedPattern, Fault>
 }
 
 /// What a leaf asks of a field of texts or addresses, if one can ask it.
-fn text_test(alloc: Global, test: &Test) -> Result<Option<LeafTest>, Fault>
-    ensures ok { IfOk result (λ t. t ≡ spec.text_test test.now) }
+fn text_test(
+    alloc: Global,
+    fields: &[Field],
+    numbers: &FieldNumbers,
+    test: &Test,
+) -> Result<Option<LeafTest>, Fault>
+    requires { AreNumbered fields.now numbers.now }
+    ensures ok { IfOk result (λ t. t ≡ spec.text_test fields.now test.now) }
     ensures err { IfErr result (λ e. e ≡ Fault.Memory) }
 {
     match test {
@@ -54,7 +63,19 @@ fn text_test(alloc: Global, test: &Test) -> Result<Option<LeafTest>, Fault>
                 cased: false,
             }))
         }
-        Test::Inside(_) => Ok(None),
+        Test::Inside(_) | Test::Compare { .. } => Ok(None),
+        Test::SameAs(name) => Ok(Some(LeafTest::SameAs(numbers.find(fields, name)))),
+    }
+}
+
+fn leaf_op(op: Op) -> LeafOp
+    ensures { result ≡ spec.leaf_op op }
+{
+    match op {
+        Op::Lt => LeafOp::Lt,
+        Op::Lte => LeafOp::Lte,
+        Op::Gt => LeafOp::Gt,
+        Op::Gte => LeafOp::Gte,
     }
 }
 
@@ -85,8 +106,14 @@ fn whole_pattern(
 }
 
 /// What a leaf asks of a field of whole numbers, if a value can pass the test.
-fn whole_test(alloc: Global, test: &Test) -> Result<Option<LeafTest>, Fault>
-    ensures ok { IfOk result (λ t. t ≡ spec.whole_test test.now) }
+fn whole_test(
+    alloc: Global,
+    fields: &[Field],
+    numbers: &FieldNumbers,
+    test: &Test,
+) -> Result<Option<LeafTest>, Fault>
+    requires { AreNumbered fields.now numbers.now }
+    ensures ok { IfOk result (λ t. t ≡ spec.whole_test fields.now test.now) }
     ensures err { IfErr result (λ e. e ≡ Fault.Memory) }
 {
     match test {
@@ -95,16 +122,28 @@ fn whole_test(alloc: Global, test: &Test) -> Result<Option<LeafTest>, Fault>
         Test::Fits { pattern, cased } => whole_pattern(alloc, pattern, *cased),
         Test::Equals(number) => Ok(equals(whole_number(*number))),
         Test::Inside(_) => Ok(None),
+        Test::Compare { op, number } => Ok(Some(LeafTest::Compare {
+            op: leaf_op(*op),
+            number: *number,
+        })),
+        Test::SameAs(name) => Ok(Some(LeafTest::SameAs(numbers.find(fields, name)))),
     }
 }
 
 /// What a leaf asks of a field of this kind, if a value can pass the test.
-pub fn leaf_test(alloc: Global, kind: FieldKind, test: &Test) -> Result<Option<LeafTest>, Fault>
-    ensures ok { IfOk result (λ t. t ≡ spec.leaf_test kind test.now) }
+pub fn leaf_test(
+    alloc: Global,
+    fields: &[Field],
+    numbers: &FieldNumbers,
+    kind: FieldKind,
+    test: &Test,
+) -> Result<Option<LeafTest>, Fault>
+    requires { AreNumbered fields.now numbers.now }
+    ensures ok { IfOk result (λ t. t ≡ spec.leaf_test fields.now kind test.now) }
     ensures err { IfErr result (λ e. e ≡ Fault.Memory) }
 {
     match kind {
-        FieldKind::Text | FieldKind::Address => text_test(alloc, test),
-        FieldKind::Whole => whole_test(alloc, test),
+        FieldKind::Text | FieldKind::Address => text_test(alloc, fields, numbers, test),
+        FieldKind::Whole => whole_test(alloc, fields, numbers, test),
     }
 }

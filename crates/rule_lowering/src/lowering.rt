@@ -17,7 +17,7 @@ use crate::joining::{add_part, close_parts};
 use crate::leaf_tests::leaf_test;
 use backend_core::{Leaf, LeafTest, Tree};
 use dash_choices::{choice, dash_count};
-use event_schema::{Field, FieldKind};
+use event_schema::Field;
 use field_numbers::FieldNumbers;
 use modifier_chains::Joined;
 use rule_items::{Detection, Fields, Item};
@@ -36,52 +36,59 @@ fn leaf_if_any(place: Place, field: u32, test: Option<LeafTest>) -> Tree
     }
 }
 
-/// A test without dash places at a field of this kind.
+/// A test without dash places at the field of this number.
 fn lower_written(
     alloc: Global,
+    fields: &[Field],
+    numbers: &FieldNumbers,
     place: Place,
-    kind: FieldKind,
     field: u32,
     test: &Test,
 ) -> Result<Tree, Fault>
-    ensures ok { IfOk result (λ t. tree_view t ≡ spec.written_tree place kind field test.now) }
+    requires { AreNumbered fields.now numbers.now }
+    ensures ok { IfOk result (λ t. tree_view t ≡ spec.written_tree fields.now place (kind_at fields.now field) field test.now) }
     ensures err { IfErr result (λ e. e ≡ Fault.Memory) }
 {
-    let test = leaf_test(alloc, kind, test)?;
+    let kind = kind_of(fields, field);
+    let test = leaf_test(alloc, fields, numbers, kind, test)?;
     Ok(leaf_if_any(place, field, test))
 }
 
-/// One choice of dashes at a field of this kind.
+/// One choice of dashes at the field of this number.
 fn lower_choice(
     alloc: Global,
+    fields: &[Field],
+    numbers: &FieldNumbers,
     place: Place,
-    kind: FieldKind,
     field: u32,
     pattern: SharedPattern,
     cased: bool,
 ) -> Result<Tree, Fault>
-    ensures ok { IfOk result (λ t. tree_view t ≡ spec.written_tree place kind field (Fits pattern cased)) }
+    requires { AreNumbered fields.now numbers.now }
+    ensures ok { IfOk result (λ t. tree_view t ≡ spec.written_tree fields.now place (kind_at fields.now field) field (Fits pattern cased)) }
     ensures err { IfErr result (λ e. e ≡ Fault.Memory) }
 {
     let test = Test::Fits { pattern, cased };
-    lower_written(alloc, place, kind, field, &test)
+    lower_written(alloc, fields, numbers, place, field, &test)
 }
 
 /// A pattern's choices of dashes, made one by one.
 fn lower_choices(
     alloc: Global,
+    fields: &[Field],
+    numbers: &FieldNumbers,
     place: Place,
-    kind: FieldKind,
     field: u32,
     pattern: &SharedPattern,
     cased: bool,
 ) -> Result<Tree, Fault>
-    ensures ok { IfOk result (λ t. tree_view t ≡ spec.test_tree place kind field (Fits pattern.now cased)) }
+    requires { AreNumbered fields.now numbers.now }
+    ensures ok { IfOk result (λ t. tree_view t ≡ spec.test_tree fields.now place (kind_at fields.now field) field (Fits pattern.now cased)) }
     ensures err { IfErr result (λ e. e ≡ Fault.Memory) }
 {
     let mut parts = Vec::new(alloc);
     while let Some(chosen) = choice(alloc, pattern, parts.len() as u64)? {
-        let part = lower_choice(alloc, place, kind, field, chosen, cased)?;
+        let part = lower_choice(alloc, fields, numbers, place, field, chosen, cased)?;
         parts.push(part)?;
     }
     Ok(close_parts(Joined::Any, parts))
@@ -90,124 +97,118 @@ fn lower_choices(
 /// A network's patterns.
 fn lower_network(
     alloc: Global,
+    fields: &[Field],
+    numbers: &FieldNumbers,
     place: Place,
-    kind: FieldKind,
     field: u32,
     network: &Network,
 ) -> Result<Tree, Fault>
-    ensures ok { IfOk result (λ t. tree_view t ≡ spec.test_tree place kind field (Inside network.now)) }
+    requires { AreNumbered fields.now numbers.now }
+    ensures ok { IfOk result (λ t. tree_view t ≡ spec.test_tree fields.now place (kind_at fields.now field) field (Inside network.now)) }
     ensures err { IfErr result (λ e. e ≡ Fault.Memory) }
 {
     let patterns = network.patterns(alloc)?;
     let mut parts = Vec::new(alloc);
     for pattern in patterns {
         let pattern = SharedPattern::share(alloc, pattern)?;
-        let part = lower_choice(alloc, place, kind, field, pattern, false)?;
+        let part = lower_choice(alloc, fields, numbers, place, field, pattern, false)?;
         parts.push(part)?;
     }
     Ok(close_parts(Joined::Any, parts))
 }
 
-/// A test at a field of this kind.
+/// A test at the field of this number.
 fn lower_test(
     alloc: Global,
+    fields: &[Field],
+    numbers: &FieldNumbers,
     place: Place,
-    kind: FieldKind,
     field: u32,
     test: &Test,
 ) -> Result<Tree, Fault>
-    ensures ok { IfOk result (λ t. tree_view t ≡ spec.test_tree place kind field test.now) }
+    requires { AreNumbered fields.now numbers.now }
+    ensures ok { IfOk result (λ t. tree_view t ≡ spec.test_tree fields.now place (kind_at fields.now field) field test.now) }
     ensures err { IfErr result (λ e. e ≡ Fault.Memory) }
 {
     match test {
         Test::Fits { pattern, cased } => {
             if dash_count(pattern) == 0 {
-                return lower_written(alloc, place, kind, field, test);
+                return lower_written(alloc, fields, numbers, place, field, test);
             }
-            lower_choices(alloc, place, kind, field, pattern, *cased)
+            lower_choices(alloc, fields, numbers, place, field, pattern, *cased)
         }
-        Test::Inside(network) => lower_network(alloc, place, kind, field, network),
-        Test::Absent | Test::Exists(_) | Test::Equals(_) => {
-            lower_written(alloc, place, kind, field, test)
-        }
+        Test::Inside(network) => lower_network(alloc, fields, numbers, place, field, network),
+        Test::Absent | Test::Exists(_) | Test::Equals(_) | Test::Compare { .. } | Test::SameAs(_) =>
+            { lower_written(alloc, fields, numbers, place, field, test) }
     }
 }
 
-/// A value at a field.
+/// A value at the field of this number.
 fn lower_value(
     alloc: Global,
+    fields: &[Field],
+    numbers: &FieldNumbers,
     place: Place,
-    kind: FieldKind,
     field: u32,
     tests: &[Test],
 ) -> Result<Tree, Fault>
-    ensures ok { IfOk result (λ t. tree_view t ≡ spec.value_tree place kind field tests.now) }
+    requires { AreNumbered fields.now numbers.now }
+    ensures ok { IfOk result (λ t. tree_view t ≡ spec.value_tree fields.now place (kind_at fields.now field) field tests.now) }
     ensures err { IfErr result (λ e. e ≡ Fault.Memory) }
 {
     if let [test] = tests {
-        return lower_test(alloc, place, kind, field, test);
+        return lower_test(alloc, fields, numbers, place, field, test);
     }
     let mut parts = Vec::new(alloc);
     for test in tests {
-        let part = lower_test(alloc, place, kind, field, test)?;
+        let part = lower_test(alloc, fields, numbers, place, field, test)?;
         add_part(Joined::Any, &mut parts, part)?;
     }
     Ok(close_parts(Joined::Any, parts))
 }
 
-/// The values of an item at a field.
+/// The values of an item at the field of this number.
 fn lower_values(
     alloc: Global,
+    fields: &[Field],
+    numbers: &FieldNumbers,
     place: Place,
     joined: Joined,
     values: &[Tests],
-    kind: FieldKind,
     field: u32,
 ) -> Result<Tree, Fault>
-    ensures ok { IfOk result (λ t. tree_view t ≡ spec.values_tree place joined values.now kind field) }
+    requires { AreNumbered fields.now numbers.now }
+    ensures ok { IfOk result (λ t. tree_view t ≡ spec.number_tree fields.now place joined values.now field) }
     ensures err { IfErr result (λ e. e ≡ Fault.Memory) }
 {
     if let [value] = values {
-        return lower_value(alloc, place, kind, field, value.as_slice());
+        return lower_value(alloc, fields, numbers, place, field, value.as_slice());
     }
     let mut parts = Vec::new(alloc);
     for value in values {
-        let part = lower_value(alloc, place, kind, field, value.as_slice())?;
+        let part = lower_value(alloc, fields, numbers, place, field, value.as_slice())?;
         add_part(joined, &mut parts, part)?;
     }
     Ok(close_parts(joined, parts))
-}
-
-/// A value at the field of this number.
-fn lower_at(
-    alloc: Global,
-    fields: &[Field],
-    place: Place,
-    field: u32,
-    tests: &[Test],
-) -> Result<Tree, Fault>
-    ensures ok { IfOk result (λ t. tree_view t ≡ spec.value_tree place (kind_at fields.now field) field tests.now) }
-    ensures err { IfErr result (λ e. e ≡ Fault.Memory) }
-{
-    let kind = kind_of(fields, field);
-    lower_value(alloc, place, kind, field, tests)
 }
 
 /// A value at some one of these fields.
 fn lower_keyword(
     alloc: Global,
     fields: &[Field],
+    numbers: &FieldNumbers,
     place: Place,
     searched: &[u32],
     tests: &[Test],
 ) -> Result<Tree, Fault>
+    requires { AreNumbered fields.now numbers.now }
     ensures ok { IfOk result (λ t. tree_view t
-        ≡ join Any (map (λ field. spec.value_tree place (kind_at fields.now field) field tests.now) searched.now)) }
+        ≡ join Any (map (λ field. spec.value_tree fields.now place (kind_at fields.now field) field tests.now) searched.now)) }
     ensures err { IfErr result (λ e. e ≡ Fault.Memory) }
 {
     let mut parts = Vec::new(alloc);
     for field in searched {
-        let part = lower_at(alloc, fields, place, *field, tests)?;
+        let part = lower_value(alloc, fields, numbers, place, *field, tests)?;
         add_part(Joined::Any, &mut parts, part)?;
     }
     Ok(close_parts(Joined::Any, parts))
@@ -227,13 +228,13 @@ fn lower_name(
     ensures err { IfErr result (λ e. e ≡ Fault.Memory) }
 {
     let field = numbers.find(fields, name);
-    let kind = kind_of(fields, field);
     lower_values(
         alloc,
+        fields,
+        numbers,
         item.place,
         item.joined,
         item.tests.as_slice(),
-        kind,
         field,
     )
 }
@@ -277,6 +278,7 @@ fn lower_keywords(
         let part = lower_keyword(
             alloc,
             fields,
+            numbers,
             item.place,
             numbers.searched(),
             value.as_slice(),

@@ -3,9 +3,9 @@
 ghost use Rattle.std.specs.Prelude.{◌≤◌};
 
 use crate::lower;
-use backend_core::{Leaf, LeafTest, Tree};
+use backend_core::{Leaf, LeafTest, Op as LeafOp, Tree};
 use event_schema::{Field, FieldKind, FieldList, Schema};
-use modifier_chains::Joined;
+use modifier_chains::{Joined, Op};
 use rule_head::{Head, LogSource};
 use rule_items::{Alternative, Alternatives, Detection, Detections, Fields, Item, Values};
 use rule_model::Rule;
@@ -115,6 +115,15 @@ fn rule(alloc: Global, detections: Detections, conditions: Vec<Formula>) -> Resu
     })
 }
 
+fn sign(op: LeafOp) -> &'static str {
+    match op {
+        LeafOp::Lt => "<",
+        LeafOp::Lte => "<=",
+        LeafOp::Gt => ">",
+        LeafOp::Gte => ">=",
+    }
+}
+
 fn show_leaf(alloc: Global, shown: &mut String, leaf: &Leaf) -> Result<(), Fail> {
     let field = leaf.field;
     shown.push_str(&format!(in alloc; "{field}")?)?;
@@ -131,9 +140,10 @@ fn show_leaf(alloc: Global, shown: &mut String, leaf: &Leaf) -> Result<(), Fail>
             let number = *number;
             shown.push_str(&format!(in alloc; "#{number}")?)?;
         }
-        LeafTest::Compare { number, .. } => {
+        LeafTest::Compare { op, number } => {
             let number = *number;
-            shown.push_str(&format!(in alloc; "?{number}")?)?;
+            shown.push_str(sign(*op))?;
+            shown.push_str(&format!(in alloc; "{number}")?)?;
         }
         LeafTest::SameAs(other) => {
             let other = *other;
@@ -143,7 +153,8 @@ fn show_leaf(alloc: Global, shown: &mut String, leaf: &Leaf) -> Result<(), Fail>
     Ok(())
 }
 
-/// `(a & b)`, `(a | b)`, `!a`, `never`, and a leaf as its field, `+`, `-`, `~` or `=` with its pattern, or `#` with its number.
+/// `(a & b)`, `(a | b)`, `!a`, `never`, and a leaf as its field, `+`, `-`, `~` or `=` with its pattern, `#` with its number, `<`, `<=`, `>` or
+/// `>=` with what it's compared with, or `^` with another field.
 fn show(alloc: Global, shown: &mut String, tree: &Tree) -> Result<(), Fail> {
     match tree {
         Tree::All(parts) => {
@@ -268,10 +279,15 @@ fn shown_value(alloc: Global, kind: FieldKind, tests: Tests) -> Result<String, F
     shown_under(alloc, &schema_of(alloc, fields)?, one)
 }
 
-fn shown_test(alloc: Global, kind: FieldKind, test: Test) -> Result<String, Fail> {
+/// A value of one test.
+fn one(alloc: Global, test: Test) -> Result<Tests, Fail> {
     let mut tests = Tests::new(alloc);
     tests.push(test)?;
-    shown_value(alloc, kind, tests)
+    Ok(tests)
+}
+
+fn shown_test(alloc: Global, kind: FieldKind, test: Test) -> Result<String, Fail> {
+    shown_value(alloc, kind, one(alloc, test)?)
 }
 
 /// A text, `=`, and the tree that it gives on a field of whole numbers.
@@ -409,6 +425,86 @@ fn numbers(rt: HostRuntime) -> Result<(), Fail> {
     assert_eq!(rt; there.as_str(), "0+");
     let absent = shown_test(alloc, FieldKind::Whole, Test::Absent)?;
     assert_eq!(rt; absent.as_str(), "0-");
+    Ok(())
+}
+
+#[test]
+fn comparisons(rt: HostRuntime) -> Result<(), Fail> {
+    let alloc = rt.alloc();
+    for (kind, op, number, want) in [
+        (FieldKind::Whole, Op::Lt, 7, "0<7"),
+        (FieldKind::Whole, Op::Lte, -7, "0<=-7"),
+        (FieldKind::Whole, Op::Gt, i64::MAX, "0>9223372036854775807"),
+        (FieldKind::Whole, Op::Gte, 0, "0>=0"),
+        (FieldKind::Text, Op::Gte, 0, "never"),
+        (FieldKind::Address, Op::Lt, 7, "never"),
+    ] {
+        let tree = shown_test(alloc, kind, Test::Compare { op, number })?;
+        assert_eq!(rt; tree.as_str(), want);
+    }
+    Ok(())
+}
+
+/// Fields A and B of this kind.
+fn two_fields(alloc: Global, kind: FieldKind) -> Result<Schema, Fail> {
+    let mut fields = FieldList::new(alloc);
+    fields.push(field(alloc, "A", kind, false)?)?;
+    fields.push(field(alloc, "B", kind, false)?)?;
+    schema_of(alloc, fields)
+}
+
+#[test]
+fn comparisons_of_two_names(rt: HostRuntime) -> Result<(), Fail> {
+    let alloc = rt.alloc();
+    let mut both = item(alloc, ["B", "A"].as_slice(), Joined::All, [].as_slice())?;
+    for (op, number) in [(Op::Gt, 1), (Op::Lte, 9)] {
+        both.tests.push(one(alloc, Test::Compare { op, number })?)?;
+    }
+    let tree = shown_under(alloc, &two_fields(alloc, FieldKind::Whole)?, both)?;
+    assert_eq!(rt; tree.as_str(), "((1>1&1<=9&)|(0>1&0<=9&)|)");
+    Ok(())
+}
+
+/// A rule that isn't true where field A is the same as the one of this name.
+fn unlike(alloc: Global, name: &str) -> Result<Rule, Fail> {
+    let mut same = item(alloc, ["A"].as_slice(), Joined::Any, [].as_slice())?;
+    let name = Text::copy(alloc, name)?;
+    same.tests.push(one(alloc, Test::SameAs(name))?)?;
+    let mut detections = Detections::new(alloc);
+    detections.push(detection(alloc, same)?)?;
+    let mut conditions = Vec::new(alloc);
+    let not = Formula::Not(Box::new(alloc, Formula::Detection(0))?);
+    conditions.push(not)?;
+    rule(alloc, detections, conditions)
+}
+
+#[test]
+fn fields_that_are_the_same(rt: HostRuntime) -> Result<(), Fail> {
+    let alloc = rt.alloc();
+    for (kind, name, want) in [
+        (FieldKind::Text, "B", "!0^1"),
+        (FieldKind::Whole, "B", "!0^1"),
+        (FieldKind::Address, "B", "!0^1"),
+        (FieldKind::Text, "A", "!0^0"),
+    ] {
+        let tree = shown(alloc, &two_fields(alloc, kind)?, &unlike(alloc, name)?)?;
+        assert_eq!(rt; tree.as_str(), want);
+    }
+    Ok(())
+}
+
+#[test]
+fn comparisons_count_once(rt: HostRuntime) -> Result<(), Fail> {
+    let alloc = rt.alloc();
+    let mut all = item(alloc, ["A", "B"].as_slice(), Joined::Any, ["c"].as_slice())?;
+    let mut tests = Tests::new(alloc);
+    tests.push(Test::Compare {
+        op: Op::Lt,
+        number: 1,
+    })?;
+    tests.push(Test::SameAs(Text::copy(alloc, "B")?))?;
+    all.tests.push(tests)?;
+    assert_eq!(rt; refused_leaves(alloc, all, 5)?, 6);
     Ok(())
 }
 

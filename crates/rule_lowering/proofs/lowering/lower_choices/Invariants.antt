@@ -1,4 +1,5 @@
 use Rattle.std.proofs.Common.{◌≡◌, ◌-◌, ◌++◌, length, map, drop}
+use Rattle.backend_core.specs.Sound.{kind_at}
 use Rattle.backend_core.specs.View.{tree_view}
 use Rattle.dash_choices.specs.Choices.{choices}
 use Rattle.rule_lowering.proofs.ChoiceLemmas.{choice_tree}
@@ -6,8 +7,8 @@ use Rattle.rule_lowering.proofs.lowering.lower_choices.Given as goal
 
 abbrev pub invariant-loop-parts : goal.invariant-loop-parts
 invariant-loop-parts l =
-    map tree_view l.parts.items ++ map (choice_tree l.place l.kind l.field l.cased) (drop (length l.parts.items) (choices l.pattern))
-    ≡ map (choice_tree l.place l.kind l.field l.cased) (choices l.pattern)
+    map tree_view l.parts.items ++ map (choice_tree l.fields l.place (kind_at l.fields l.field) l.field l.cased) (drop (length l.parts.items) (choices l.pattern))
+    ≡ map (choice_tree l.fields l.place (kind_at l.fields l.field) l.field l.cased) (choices l.pattern)
 
 abbrev pub decreases-loop-parts : goal.decreases-loop-parts
 decreases-loop-parts l = length (choices l.pattern) - length l.parts.items

@@ -9,5 +9,5 @@ use Rattle.rule_lowering.proofs.lowering.lower_keyword.Given as goal
 
 abbrev pub invariant-loop-field : goal.invariant-loop-field
 invariant-loop-field l =
-    map tree_view l.parts.items ++ flat_map (parts_of Any) (map (λ field. value_tree l.place (kind_at l.fields field) field l.tests) (drop l.field-index l.searched))
-    ≡ flat_map (parts_of Any) (map (λ field. value_tree l.place (kind_at l.fields field) field l.tests) l.searched)
+    map tree_view l.parts.items ++ flat_map (parts_of Any) (map (λ field. value_tree l.fields l.place (kind_at l.fields field) field l.tests) (drop l.field-index l.searched))
+    ≡ flat_map (parts_of Any) (map (λ field. value_tree l.fields l.place (kind_at l.fields field) field l.tests) l.searched)

@@ -20,6 +20,6 @@ loop-value-preserved c =
     (c.value-item.is ∙ ap (λ (vs : List (List Test)). get_or vs at c.value-item.result) same)
     c.loop-value.invariant
     (c.in_ok-part.ensures.ok
-    ∙ (ap (λ (ns : List ℕ). join Any (map (λ field. value_tree item.place (kind_at c.args.fields.now field) field c.as_slice.result.now) ns)) (c.searched.ensures ∙ c.requires.searched)
+    ∙ (ap (λ (ns : List ℕ). join Any (map (λ field. value_tree c.args.fields.now item.place (kind_at c.args.fields.now field) field c.as_slice.result.now) ns)) (c.searched.ensures ∙ c.requires.searched)
     ∙ ap (keyword_tree c.args.fields.now item.place) c.as_slice.ensures))
     c.in_ok-add_part.ensures

@@ -1,4 +1,5 @@
 use Rattle.std.proofs.Common.{◌≡◌, ◌∙◌, sym, subst, refl, inl, inr, List, [], ◌∷◌}
+use Rattle.backend_core.specs.Sound.{kind_at}
 use Rattle.sig_modifiers.specs.declared.test.Test.{Test}
 use Rattle.sig_modifiers.specs.declared.test.Test.TheVariants as tests
 use Rattle.rule_lowering.specs.TreeOf.{written_tests}
@@ -8,12 +9,12 @@ use Rattle.rule_lowering.proofs.lowering.lower_test.Goals as goal
 
 pub returns-then-dash_count-eq0-clause-ok : goal.returns-then-dash_count-eq0-clause-ok
 returns-then-dash_count-eq0-clause-ok c =
-    alone c.lower_written.result c.args.place c.args.kind c.args.field c.args.test.now
+    alone c.args.fields.now c.lower_written.result c.args.place (kind_at c.args.fields.now c.args.field) c.args.field c.args.test.now
     (subst (λ (t : Test). written_tests t ≡ t ∷ []) (sym c.in-Fits.is)
     (alone_fits c.in-Fits.pattern c.in-Fits.cased (sym c.dash_count.ensures ∙ c.if-dash_count-eq0.true)))
     c.lower_written.ensures.ok
 
 pub returns-in-Absent-clause-ok : goal.returns-in-Absent-clause-ok
 returns-in-Absent-clause-ok c =
-    alone c.lower_written-in-Absent.result c.args.place c.args.kind c.args.field c.args.test.now (no_pattern c.args.test.now c.in-Absent.is)
+    alone c.args.fields.now c.lower_written-in-Absent.result c.args.place (kind_at c.args.fields.now c.args.field) c.args.field c.args.test.now (no_pattern c.args.test.now c.in-Absent.is)
     c.lower_written-in-Absent.ensures.ok

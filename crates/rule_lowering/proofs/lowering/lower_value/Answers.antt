@@ -1,3 +1,4 @@
+use Rattle.backend_core.specs.Sound.{kind_at}
 use Rattle.modifier_chains.specs.declared.modifier.Joined.TheVariants.{Any}
 use Rattle.rule_lowering.specs.TreeOf.{test_tree}
 use Rattle.rule_lowering.proofs.Ones.{level_one, test_closed}
@@ -5,5 +6,5 @@ use Rattle.rule_lowering.proofs.lowering.lower_value.Goals as goal
 
 pub returns-in-len1-clause-ok : goal.returns-in-len1-clause-ok
 returns-in-len1-clause-ok c =
-    level_one c.lower_test.result Any (test_tree c.args.place c.args.kind c.args.field) c.args.tests.now c.test-item.result c.in-len1.len_at_least c.in-len1.len_below c.test-item.is
-    (test_closed c.args.place c.args.kind c.args.field c.test-item.result) c.lower_test.ensures.ok
+    level_one c.lower_test.result Any (test_tree c.args.fields.now c.args.place (kind_at c.args.fields.now c.args.field) c.args.field) c.args.tests.now c.test-item.result c.in-len1.len_at_least c.in-len1.len_below c.test-item.is
+    (test_closed c.args.fields.now c.args.place (kind_at c.args.fields.now c.args.field) c.args.field c.test-item.result) c.lower_test.ensures.ok
