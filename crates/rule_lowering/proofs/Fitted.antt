@@ -1,5 +1,5 @@
 -- Whole rules that fit a schema: each item passes, and each test stands on a field of a kind that takes it.
-use Rattle.std.proofs.Common.{ℕ, suc, ◌≡◌, ◌↔◌, ◌+◌, ◌<◌, ◌≤◌, nat_lt, cond, arith, Bool, true, false, ◌||◌, ◌&&◌, not, if◌then◌else◌, List, [], ◌∷◌, ◌++◌, length, refl, sym, ap, subst, ◌∙◌}
+use Rattle.std.proofs.Common.{ℕ, suc, ◌≡◌, ◌↔◌, ◌+◌, ◌<◌, ◌≤◌, nat_lt, cond, arith, Bool, true, false, ◌||◌, ◌&&◌, not, if◌then◌else◌, List, [], ◌∷◌, ◌++◌, length, refl, sym, ap, ◌∙◌}
 use Rattle.std.specs.Prelude.{Option, Some, None, unwrap_or, ⊤}
 use Rattle.std.specs.List.{flat_map, list_any, list_all, position_or_len}
 use Rattle.std.proofs.lemmas.Bool.Decides.{nat_tests}
@@ -110,33 +110,39 @@ right_true : (a b : Bool) → b ≡ true → (a || b) ≡ true
 right_true true b is = refl
 right_true false b is = is
 
+-- the name that a test compares with, as `references_in` lists it
+abbrev listed : Option (List ℕ) → List (List ℕ)
+listed None = []
+listed (Some name) = name ∷ []
+
+abbrev one_named : Test → List (List ℕ)
+one_named test = listed (reference_of test)
+
 -- where addresses are asked for at fields of addresses alone, and each name that a test compares with is like the field
-module _ (named : Test → List (List ℕ)) (named_one : (name : List ℕ) → named (tests.SameAs name) ≡ name ∷ []) (fields : List Field) (kind : FieldKind) where
-  test_met : (test : Test) → IsPlainTest test → (asks_address test ≡ true → kind ≡ kinds.Address) → EachOf (IsLike fields kind) (named test) → IsMet fields kind test
+module _ (fields : List Field) (kind : FieldKind) where
+  test_met : (test : Test) → IsPlainTest test → (asks_address test ≡ true → kind ≡ kinds.Address) → EachOf (IsLike fields kind) (one_named test) → IsMet fields kind test
   test_met tests.Absent plain asked like = tt
   test_met (tests.Exists there) plain asked like = tt
   test_met (tests.Fits parts cased) plain asked like = tt
   test_met (tests.Equals n) plain asked like = tt
   test_met (tests.Inside n) plain asked like = (plain, asked refl)
   test_met (tests.Compare op n) plain asked like = plain
-  test_met (tests.SameAs name) plain asked like =
-      let own : EachOf (IsLike fields kind) (name ∷ []) = subst (λ (names : List (List ℕ)). EachOf (IsLike fields kind) names) (named_one name) like in
-      own.0
+  test_met (tests.SameAs name) plain asked like = like.0
 
-  tests_met : (ts : List Test) → ArePlainTests ts → (list_any asks_address ts ≡ true → kind ≡ kinds.Address) → EachOf (IsLike fields kind) (flat_map named ts)
+  tests_met : (ts : List Test) → ArePlainTests ts → (list_any asks_address ts ≡ true → kind ≡ kinds.Address) → EachOf (IsLike fields kind) (flat_map one_named ts)
       → AreMet fields kind ts
   tests_met [] plain asked like = tt
   tests_met (t ∷ ts) plain asked like =
-      let parts = (each_append (IsLike fields kind) (named t) (flat_map named ts)).0 like in (
+      let parts = (each_append (IsLike fields kind) (one_named t) (flat_map one_named ts)).0 like in (
         test_met t plain.0 (λ is. asked (left_true (asks_address t) (list_any asks_address ts) is)) parts.0,
         tests_met ts plain.1 (λ is. asked (right_true (asks_address t) (list_any asks_address ts) is)) parts.1,
       )
 
   values_met : (values : List (List Test)) → EachOf IsWholeValue values → (some_asks asks_address values ≡ true → kind ≡ kinds.Address)
-      → EachOf (IsLike fields kind) (flat_map (λ ts. flat_map named ts) values) → EachOf (AreMet fields kind) values
+      → EachOf (IsLike fields kind) (flat_map (λ ts. flat_map one_named ts) values) → EachOf (AreMet fields kind) values
   values_met [] whole asked like = tt
   values_met (ts ∷ values) whole asked like =
-      let parts = (each_append (IsLike fields kind) (flat_map named ts) (flat_map (λ us. flat_map named us) values)).0 like in (
+      let parts = (each_append (IsLike fields kind) (flat_map one_named ts) (flat_map (λ us. flat_map one_named us) values)).0 like in (
         tests_met ts whole.0.each (λ is. asked (left_true (list_any asks_address ts) (some_asks asks_address values) is)) parts.0,
         values_met values whole.1 (λ is. asked (right_true (list_any asks_address ts) (some_asks asks_address values) is)) parts.1,
       )
@@ -193,14 +199,6 @@ each_pair : {A B : Type 0} (P : A → Type 0) (Q : B → Type 0) (R : A → B �
     → (xs : List A) (ys : List B) → EachOf P xs → EachOf Q ys → EachOf (λ x. EachOf (R x) ys) xs
 each_pair P Q R holds [] ys p q = tt
 each_pair P Q R holds (x ∷ xs) ys p q = (each_then (λ y h. holds x y p.0 h) ys q, each_pair P Q R holds xs ys p.1 q)
-
--- the name that a test compares with, as `references_in` lists it
-abbrev listed : Option (List ℕ) → List (List ℕ)
-listed None = []
-listed (Some name) = name ∷ []
-
-abbrev one_named : Test → List (List ℕ)
-one_named test = listed (reference_of test)
 
 -- the second and third of three
 and_three : (a b c : Bool) → (a && b && c) ≡ true → (b ≡ true) × (c ≡ true)
@@ -281,7 +279,7 @@ module _ (fields : List Field) where
       → EachOf (λ name. EachOf (IsLike fields (kind_of name)) (references_in values)) names → EachOf (λ name. EachOf (AreMet fields (kind_of name)) values) names
   all_met values whole [] asked like = tt
   all_met values whole (name ∷ names) asked like =
-      (values_met one_named (λ other. refl) fields (kind_of name) values whole asked.0 like.0, all_met values whole names asked.1 like.1)
+      (values_met fields (kind_of name) values whole asked.0 like.0, all_met values whole names asked.1 like.1)
 
   -- at each name of an item that fits, the tests of its values are met
   pub names_met : (values : List (List Test)) (names : List (List ℕ)) → EachOf IsWholeValue values → AreFitting fields values names
