@@ -69,7 +69,7 @@ module _ (fields : List Field) where
 
   -- a test with the number of the field that it compares with, if there is such a field
   abbrev pub numbered_test : Test → NumberedTest
-  numbered_test test = record { test = test; other = option_and_then (reference_of test) (field_number fields) }
+  numbered_test test = record { test = test; other = option_and_then (field_number fields) (reference_of test) }
 
   abbrev pub numbered_item : Item → NumberedItem
   numbered_item i = record { asked = asked_of i.fields; joined = i.joined; tests = map (map numbered_test) i.tests }

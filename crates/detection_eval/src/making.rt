@@ -57,7 +57,7 @@ fn number_asked(
 /// The number of the field that a test compares with.
 fn number_reference(fields: &[Field], numbers: &FieldNumbers, test: &Test) -> Option<u32>
     requires { AreNumbered fields.now numbers.now }
-    ensures { result ≡ option_and_then (reference_of test.now) (field_number fields.now) }
+    ensures { result ≡ option_and_then (field_number fields.now) (reference_of test.now) }
 {
     match test.reference() {
         Some(name) => numbers.look_up(fields, name),

@@ -5,7 +5,7 @@ use Rattle.detection_eval.proofs.making.number_reference.Goals as goal
 
 pub returns-in-Some : goal.returns-in-Some
 returns-in-Some c =
-    c.look_up.ensures ∙ sym (ap (λ (named : Option (List ℕ)). option_and_then named (field_number c.args.fields.now)) c.in-Some.ensures)
+    c.look_up.ensures ∙ sym (ap (λ (named : Option (List ℕ)). option_and_then (field_number c.args.fields.now) named) c.in-Some.ensures)
 
 pub returns-in-None : goal.returns-in-None
-returns-in-None c = sym (ap (λ (named : Option (List ℕ)). option_and_then named (field_number c.args.fields.now)) c.in-None.ensures)
+returns-in-None c = sym (ap (λ (named : Option (List ℕ)). option_and_then (field_number c.args.fields.now) named) c.in-None.ensures)
