@@ -1,6 +1,6 @@
 -- A rule made ready for the events of a schema: each name is the number of its field. What a rule means stands in
 -- `rule_matching`; here stands how it's kept, and what is asked of an event's values by their numbers.
-use Rattle.std.specs.Prelude.{ℕ, ◌≡◌, ◌↔◌, Bool, IsTrue, List, map, Option, option_and_then}
+use Rattle.std.specs.Prelude.{ℕ, ◌≡◌, ◌↔◌, Bool, IsTrue, List, map, option_and_then}
 use Rattle.std.specs.List.{AllZip}
 use Rattle.event_schema.specs.Lists.{EachOf, SomeOf}
 use Rattle.event_schema.specs.Rows.{field_number, field_values, values_if_any}

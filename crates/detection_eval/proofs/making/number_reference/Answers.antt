@@ -1,4 +1,4 @@
-use Rattle.std.proofs.Common.{◌≡◌, ◌∙◌, ℕ, List, Option, ap, sym}
+use Rattle.std.proofs.Common.{◌∙◌, ℕ, List, Option, ap, sym}
 use Rattle.std.specs.Prelude.{option_and_then}
 use Rattle.event_schema.specs.Rows.{field_number}
 use Rattle.detection_eval.proofs.making.number_reference.Goals as goal
