@@ -60,11 +60,11 @@ module _ (missing : Schema → Leaf → Option Lack) (text : Schema → Plain �
       line_decides (leaves_line limits schema rule) r (write_checks missing text too_deep limits schema (rule_tree schema rule) rule.head.place) e
 
   -- the rule doesn't fit the schema that is made of it, or there is no memory to see whether it does
-  pub unfit_made : {X Y : Type 0} (limits : Limits) (rule : PlainRule) (schema : Schema) (P : X → Type 0) (Q : Y → Type 0) (fault : Fault)
+  pub unfit_made : {Y : Type 0} (limits : Limits) (rule : PlainRule) (schema : Schema) (Q : Y → Type 0) (fault : Fault)
       → (made_refusal None rule ≡ None) × (schema ≡ schema_for None rule)
-      → Judged {X = X} P (fit_refusal schema rule) (Err fault) → Judged {X = Y} Q (query_refusal missing text too_deep limits None rule) (Err fault)
-  unfit_made limits rule schema P Q Memory made judged = tt
-  unfit_made limits rule schema P Q (Refused r) made is =
+      → Judged {X = Unit {0}} (λ done. Unit {0}) (fit_refusal schema rule) (Err fault) → Judged {X = Y} Q (query_refusal missing text too_deep limits None rule) (Err fault)
+  unfit_made limits rule schema Q Memory made judged = tt
+  unfit_made limits rule schema Q (Refused r) made is =
       rest_decides (made_refusal None rule) (checks_under missing text too_deep limits (schema_for None rule) rule) made.0
       ∙ line_decides (fit_refusal (schema_for None rule) rule) r (query_checks missing text too_deep limits (schema_for None rule) rule)
       (subst (λ (s : Schema). fit_refusal s rule ≡ Some r) made.1 is)

@@ -211,11 +211,11 @@ pub isnt_fit : (limits : Limits) (schema : Schema) (bytes : List ℕ) (rule : Ru
 isnt_fit limits schema bytes rule r (rest, single) is = unfit (rule_with rest (rule_view rule)) single (second_is None (fit_refusal schema (rule_view rule)) r refl is)
 
 -- the same of the schema that is made of it
-pub isnt_fit_alone : {X Y : Type 0} (limits : Limits) (bytes : List ℕ) (rule : Rule) (schema : Schema) (P : X → Type 0) (Q : Y → Type 0) (fault : Fault)
+pub isnt_fit_alone : {Y : Type 0} (limits : Limits) (bytes : List ℕ) (rule : Rule) (schema : Schema) (Q : Y → Type 0) (fault : Fault)
     → IsBare (IsSingleRule limits bytes) rule → (schema_refusal (rule_view rule) ≡ None) × (schema ≡ inferred_schema (rule_view rule))
-    → Judged {X = X} P (fit_refusal schema (rule_view rule)) (Err fault) → Answers {X = Y} Q (IsNotRun limits None bytes) (Err fault)
-isnt_fit_alone limits bytes rule schema P Q Memory single made judged = tt
-isnt_fit_alone limits bytes rule schema P Q (Refused r) (rest, single) made is =
+    → Judged {X = Unit {0}} (λ done. Unit {0}) (fit_refusal schema (rule_view rule)) (Err fault) → Answers {X = Y} Q (IsNotRun limits None bytes) (Err fault)
+isnt_fit_alone limits bytes rule schema Q Memory single made judged = tt
+isnt_fit_alone limits bytes rule schema Q (Refused r) (rest, single) made is =
     unfit (rule_with rest (rule_view rule)) single
     (second_is (schema_refusal (rule_view rule)) (fit_refusal (inferred_schema (rule_view rule)) (rule_view rule)) r made.0
     (subst (λ (s : Schema). fit_refusal s (rule_view rule) ≡ Some r) made.1 is))

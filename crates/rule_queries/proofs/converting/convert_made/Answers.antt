@@ -7,7 +7,7 @@ use Rattle.rule_queries.proofs.converting.convert_made.Goals as goal
 
 pub returns-in-Err : goal.returns-in-Err
 returns-in-Err g c =
-    unfit_made g.B.Lacking.missing g.B.Backend.text g.B.Backend.too_deep c.args.limits.now (rule_view c.args.rule.now) c.in_ok-schema.schema (λ done. Unit {0})
+    unfit_made g.B.Lacking.missing g.B.Backend.text g.B.Backend.too_deep c.args.limits.now (rule_view c.args.rule.now) c.in_ok-schema.schema
     (λ (bytes : List ℕ). bytes ≡ query_of g.B.Backend.text None (rule_view c.args.rule.now)) c.in-Err.unfit c.in_ok-schema.ensures.made c.in-Err.ensures
 
 pub returns-in-Ok : goal.returns-in-Ok

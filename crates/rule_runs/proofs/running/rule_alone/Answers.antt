@@ -21,11 +21,11 @@ returns-in-Err-infer_schema c =
 
 pub returns-in-Err-fit_indexed : goal.returns-in-Err-fit_indexed
 returns-in-Err-fit_indexed c =
-    isnt_fit_alone c.args.limits.now c.args.bytes.now c.in-Ok.rule c.in-Ok-infer_schema.schema (λ done. Unit {0})
+    isnt_fit_alone c.args.limits.now c.args.bytes.now c.in-Ok.rule c.in-Ok-infer_schema.schema
     (λ (found : SchemedRule). IsBare (IsRun c.args.limits.now None c.args.bytes.now) found.rule × (found.schema ≡ inferred_schema (rule_view found.rule))) c.in-Err-fit_indexed.unfit
     c.in-Ok.ensures c.in-Ok-infer_schema.ensures.made c.in-Err-fit_indexed.ensures
 
-pub returns-in-Ok : goal.returns-in-Ok
-returns-in-Ok c =
+pub returns-in-Ok-fit_indexed : goal.returns-in-Ok-fit_indexed
+returns-in-Ok-fit_indexed c =
     (fits_alone c.args.limits.now c.args.bytes.now c.in-Ok.rule c.in-Ok-infer_schema.schema c.in-Ok.ensures c.in-Ok-infer_schema.ensures.made c.in-Ok-fit_indexed.ensures.0,
     c.in-Ok-infer_schema.ensures.made.1)
