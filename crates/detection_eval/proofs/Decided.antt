@@ -1,26 +1,33 @@
 -- A rule matches an event or it doesn't: each of its parts holds or doesn't.
 use Rattle.std.proofs.Common.{◌≡◌, ℕ, zero, suc, Bool, true, false, List, [], ◌∷◌, refl, sym, ap, ◌∙◌, ◌⊎◌, inl, inr, subst}
+use Rattle.std.specs.Prelude.{ℤ, ◌≤ℤ◌, ◌<ℤ◌}
 use Rattle.std.specs.Fmt.{signed_decimal}
+use Rattle.std.specs.Int.Signed.{le_z, le_z_yes, lt_z, lt_z_yes}
+use Rattle.std.proofs.Math.Dec.{T}
 use Rattle.std.specs.Str.{bytes_eq}
 use Rattle.std.proofs.lemmas.Bool.{false≢true}
 use Rattle.std.proofs.lemmas.Slice.Eq.{bytes_eq-Decides}
-use Rattle.event_schema.specs.Rows.{value_text, values_if_any, field_number}
+use Rattle.event_schema.specs.Rows.{value_text}
 use Rattle.event_schema.specs.declared.schema.Field.{Field}
 use Rattle.event_schema.specs.declared.value.Value.{Value}
+use Rattle.event_schema.specs.declared.value.Value.TheVariants as values
 use Rattle.matching.proofs.SuffixLemmas.{SuffixHolds-here, SuffixHolds-more, SuffixHolds-split, SuffixHolds-nil}
 use Rattle.matching.specs.Steps.{is_dash}
 use Rattle.matching.specs.Suffixes.{SuffixHolds, CharThen}
 use Rattle.event_schema.specs.Lists.{EachOf, SomeOf, HasElement, HasNoElement}
-use Rattle.rule_matching.specs.Matching.{JoinedHolds, FieldSatisfies, KeywordSatisfied, FieldsHold, ItemHolds, DetectionHolds, NumberHolds, FormHolds, AllFormsHold, SomeFormHolds, Matches}
+use Rattle.rule_matching.specs.Matching.{named, JoinedHolds, FieldSatisfies, KeywordSatisfied, FieldsHold, ItemHolds, DetectionHolds, NumberHolds, FormHolds, AllFormsHold, SomeFormHolds, Matches}
 use Rattle.rule_model.specs.Plain.{PlainRule}
 use Rattle.rule_items.specs.declared.detection.Detection.{Detection}
 use Rattle.rule_items.specs.declared.item.Fields.{Fields}
 use Rattle.rule_items.specs.declared.item.Fields.TheVariants.{Keyword, Names}
 use Rattle.rule_items.specs.declared.item.Item.{Item}
 use Rattle.sig_conditions.specs.Formulas.{PlainFormula, FDetection, FNot, FAnd, FOr, PlainFormulas, no_forms, form}
-use Rattle.sig_modifiers.specs.Holds.{Holds}
+use Rattle.sig_base.specs.Folding.{folded}
+use Rattle.sig_modifiers.specs.Holds.{AreSame, Holds, Stands, ValueStands}
 use Rattle.modifier_chains.specs.declared.modifier.Joined.{Joined}
 use Rattle.modifier_chains.specs.declared.modifier.Joined.TheVariants.{All, Any}
+use Rattle.modifier_chains.specs.declared.modifier.Op.{Op}
+use Rattle.modifier_chains.specs.declared.modifier.Op.TheVariants as ops
 use Rattle.sig_modifiers.specs.declared.test.Test.{Test}
 use Rattle.sig_modifiers.specs.declared.test.Test.TheVariants as tests
 use Rattle.detection_eval.proofs.Networks.{inside_decided}
@@ -102,6 +109,28 @@ fits (Run ∷ parts) cased text = suffix_of (λ rest. Fits parts rest cased) (fi
 fits (Dash ∷ parts) cased text = char_then is_dash (λ rest. Fits parts rest cased) (fits parts cased) text
 fits (Hole name ∷ parts) cased text = inr (λ h. h)
 
+-- ---- numbers
+
+truth : (b : Bool) → Decided (T b)
+truth true = inl tt
+truth false = inr (λ h. h)
+
+at_most : (a b : ℤ) → Decided (a ≤ℤ b)
+at_most a b = like le_z_yes (λ h. h.le) (truth (le_z a b))
+
+below : (a b : ℤ) → Decided (a <ℤ b)
+below a b = like lt_z_yes (λ h. h.lt) (truth (lt_z a b))
+
+stands : (op : Op) (n own : ℤ) → Decided (Stands op n own)
+stands ops.Lt n own = below own n
+stands ops.Lte n own = at_most own n
+stands ops.Gt n own = below n own
+stands ops.Gte n own = at_most n own
+
+value_stands : (op : Op) (n : ℤ) (value : Value) → Decided (ValueStands op n value)
+value_stands op n (values.Text text) = inr (λ h. h)
+value_stands op n (values.Whole own) = stands op n own
+
 -- ---- tests
 
 some_value : (values : List Value) → Decided (HasElement values)
@@ -112,19 +141,26 @@ no_value : (values : List Value) → Decided (HasNoElement values)
 no_value [] = inl tt
 no_value (v ∷ values) = inr (λ h. h)
 
-holds : (values : List Value) (test : Test) → Decided (Holds test values)
-holds values tests.Absent = no_value values
-holds values (tests.Exists true) = some_value values
-holds values (tests.Exists false) = no_value values
-holds values (tests.Fits parts cased) = some _ (λ (value : Value). fits parts cased (value_text value)) values
-holds values (tests.Inside n) = some _ (λ (value : Value). inside_decided n (value_text value)) values
-holds values (tests.Equals n) = some _ (λ (value : Value). same_texts (value_text value) (signed_decimal n)) values
+are_same : (value other : Value) → Decided (AreSame value other)
+are_same value other = same_texts (folded (value_text value)) (folded (value_text other))
+
+module _ (of_name : List ℕ → List Value) where
+  holds : (own : List Value) (test : Test) → Decided (Holds of_name test own)
+  holds own tests.Absent = no_value own
+  holds own (tests.Exists true) = some_value own
+  holds own (tests.Exists false) = no_value own
+  holds own (tests.Fits parts cased) = some _ (λ (value : Value). fits parts cased (value_text value)) own
+  holds own (tests.Inside n) = some _ (λ (value : Value). inside_decided n (value_text value)) own
+  holds own (tests.Equals n) = some _ (λ (value : Value). same_texts (value_text value) (signed_decimal n)) own
+  holds own (tests.Compare op n) = some (ValueStands op n) (value_stands op n) own
+  holds own (tests.SameAs name) =
+      some (λ (value : Value). SomeOf (AreSame value) (of_name name)) (λ (value : Value). some (AreSame value) (are_same value) (of_name name)) own
 
 -- ---- rules
 
 module _ (fields : List Field) (row : List (List Value)) where
   field_satisfies : (name : List ℕ) (tests : List Test) → Decided (FieldSatisfies fields row name tests)
-  field_satisfies name tests = some _ (holds (values_if_any row (field_number fields name))) tests
+  field_satisfies name tests = some _ (holds (named fields row) (named fields row name)) tests
 
   keyword_satisfied : (tests : List Test) → Decided (KeywordSatisfied fields row tests)
   keyword_satisfied tests = some _ (λ (field : Field). both (is_true field.search) (field_satisfies field.name tests)) fields

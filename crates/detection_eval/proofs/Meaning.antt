@@ -12,16 +12,19 @@ use Rattle.rule_items.specs.declared.detection.Detection.{Detection}
 use Rattle.rule_items.specs.declared.item.Fields.{Fields}
 use Rattle.rule_items.specs.declared.item.Fields.TheVariants.{Keyword, Names}
 use Rattle.rule_items.specs.declared.item.Item.{Item}
-use Rattle.rule_matching.proofs.Iffs.{iff_same, iff_then, each_same, each_then, some_same, some_filtered_of, over_map}
-use Rattle.rule_matching.specs.Matching.{JoinedHolds, FieldSatisfies, KeywordSatisfied, FieldsHold, ItemHolds, DetectionHolds, NumberHolds, FormHolds, AllFormsHold, SomeFormHolds, Matches}
+use Rattle.rule_matching.proofs.Iffs.{iff_same, iff_then, each_then, some_filtered_of, over_map}
+use Rattle.rule_matching.specs.Matching.{named, JoinedHolds, FieldSatisfies, KeywordSatisfied, FieldsHold, ItemHolds, DetectionHolds, NumberHolds, FormHolds, AllFormsHold, SomeFormHolds, Matches}
 use Rattle.rule_model.specs.Plain.{PlainRule}
 use Rattle.sig_conditions.specs.Formulas.{PlainFormula, FDetection, FNot, FAnd, FOr, PlainFormulas, no_forms, form, forms_of, value, all_true, some_true}
 use Rattle.modifier_chains.specs.declared.modifier.Joined.{Joined}
 use Rattle.modifier_chains.specs.declared.modifier.Joined.TheVariants.{All, Any}
+use Rattle.sig_modifiers.specs.Holds.{Holds}
 use Rattle.sig_modifiers.specs.declared.test.Test.{Test}
-use Rattle.detection_eval.specs.Ready.{Satisfies, SearchSatisfies, AskedHolds, NumberedHolds, AlternativesHold, AreTruths, asked_of, numbered_item, numbered_detection, PlainReady, ready_rule}
+use Rattle.sig_modifiers.specs.declared.test.Test.TheVariants as tests
+use Rattle.detection_eval.specs.Ready.{NumberedHolds, Satisfies, ValuesHold, SearchSatisfies, AskedHolds, NumberedItemHolds, AlternativesHold, AreTruths, asked_of, numbered_test, numbered_item, numbered_detection, PlainReady, ready_rule}
 use Rattle.detection_eval.specs.Truths.{truth_at}
 use Rattle.detection_eval.specs.declared.numbered.NumberedItem.{NumberedItem}
+use Rattle.detection_eval.specs.declared.numbered.NumberedTest.{NumberedTest}
 
 -- ---- truth values
 
@@ -46,39 +49,57 @@ false_means = ((λ never. absurd (false≢true never)), (λ h. absurd h))
 -- ---- detections
 
 module _ (fields : List Field) (row : List (List Value)) where
+  -- a test with a field's number asks of the same values as with its name
+  test_means : (test : Test) (own : List Value) → NumberedHolds row own (numbered_test fields test) ↔ Holds (named fields row) test own
+  test_means tests.Absent own = iff_same
+  test_means (tests.Exists true) own = iff_same
+  test_means (tests.Exists false) own = iff_same
+  test_means (tests.Fits pattern cased) own = iff_same
+  test_means (tests.Equals n) own = iff_same
+  test_means (tests.Inside n) own = iff_same
+  test_means (tests.Compare op n) own = iff_same
+  test_means (tests.SameAs name) own = iff_same
+
+  value_means : (tests : List Test) (own : List Value)
+      → Satisfies row own (map (numbered_test fields) tests) ↔ SomeOf (λ test. Holds (named fields row) test own) tests
+  value_means tests own =
+      over_map Any (numbered_test fields) (NumberedHolds row own) (λ test. Holds (named fields row) test own) (λ test. test_means test own) tests
+
   -- a field's values are those of its name's number
   own_values : (tests : List Test) (name : List ℕ) → number_of fields name < length fields
-      → Satisfies (field_values row (number_of fields name)) tests ↔ FieldSatisfies fields row name tests
+      → Satisfies row (field_values row (number_of fields name)) (map (numbered_test fields) tests) ↔ FieldSatisfies fields row name tests
   own_values tests name within =
-      subst (λ (values : List Value). Satisfies (field_values row (number_of fields name)) tests ↔ Satisfies values tests)
-      (sym (ap (values_if_any row) (number_found fields name within))) iff_same
+      subst (λ (own : List Value). Satisfies row (field_values row (number_of fields name)) (map (numbered_test fields) tests) ↔ SomeOf (λ test. Holds (named fields row) test own) tests)
+      (sym (ap (values_if_any row) (number_found fields name within))) (value_means tests (field_values row (number_of fields name)))
 
-  search_means : (tests : List Test) → SearchSatisfies (searched fields) row tests ↔ KeywordSatisfied fields row tests
+  search_means : (tests : List Test) → SearchSatisfies (searched fields) row (map (numbered_test fields) tests) ↔ KeywordSatisfied fields row tests
   search_means tests =
-      some_filtered_of (λ f. f.search) (λ f. number_of fields f.name) (λ n. Satisfies (field_values row n) tests) (λ f. FieldSatisfies fields row f.name tests) fields
+      some_filtered_of (λ f. f.search) (λ f. number_of fields f.name) (λ n. Satisfies row (field_values row n) (map (numbered_test fields) tests))
+      (λ f. FieldSatisfies fields row f.name tests) fields
       (each_then (λ (f : Field) within. own_values tests f.name within) fields (each_within fields))
 
-  joined_means : (j : Joined) (P Q : List Test → Type 0) → ((tests : List Test) → P tests ↔ Q tests) → (values : List (List Test))
-      → JoinedHolds j P values ↔ JoinedHolds j Q values
-  joined_means All P Q same values = each_same P Q same values
-  joined_means Any P Q same values = some_same P Q same values
+  values_mean : (j : Joined) (P : List NumberedTest → Type 0) (Q : List Test → Type 0) → ((tests : List Test) → P (map (numbered_test fields) tests) ↔ Q tests)
+      → (values : List (List Test)) → ValuesHold j P (map (map (numbered_test fields)) values) ↔ JoinedHolds j Q values
+  values_mean All P Q same values = over_map All (map (numbered_test fields)) P Q same values
+  values_mean Any P Q same values = over_map Any (map (numbered_test fields)) P Q same values
 
   asked_means : (j : Joined) (values : List (List Test)) (asked : Fields)
-      → AskedHolds (searched fields) row j values (asked_of fields asked) ↔ FieldsHold fields row j values asked
-  asked_means j values Keyword = joined_means j (SearchSatisfies (searched fields) row) (KeywordSatisfied fields row) search_means values
+      → AskedHolds (searched fields) row j (map (map (numbered_test fields)) values) (asked_of fields asked) ↔ FieldsHold fields row j values asked
+  asked_means j values Keyword = values_mean j (SearchSatisfies (searched fields) row) (KeywordSatisfied fields row) search_means values
   asked_means j values (Names names) =
-      over_map Any (field_number fields) (λ number. JoinedHolds j (Satisfies (values_if_any row number)) values)
-      (λ name. JoinedHolds j (FieldSatisfies fields row name) values) (λ name. iff_same) names
+      over_map Any (field_number fields) (λ number. ValuesHold j (Satisfies row (values_if_any row number)) (map (map (numbered_test fields)) values))
+      (λ name. JoinedHolds j (FieldSatisfies fields row name) values)
+      (λ name. values_mean j (Satisfies row (named fields row name)) (FieldSatisfies fields row name) (λ tests. value_means tests (named fields row name)) values) names
 
-  item_means : (i : Item) → NumberedHolds (searched fields) row (numbered_item fields i) ↔ ItemHolds fields row i
+  item_means : (i : Item) → NumberedItemHolds (searched fields) row (numbered_item fields i) ↔ ItemHolds fields row i
   item_means i = asked_means i.joined i.tests i.fields
 
-  alternative_means : (items : List Item) → EachOf (NumberedHolds (searched fields) row) (map (numbered_item fields) items) ↔ EachOf (ItemHolds fields row) items
-  alternative_means items = over_map All (numbered_item fields) (NumberedHolds (searched fields) row) (ItemHolds fields row) item_means items
+  alternative_means : (items : List Item) → EachOf (NumberedItemHolds (searched fields) row) (map (numbered_item fields) items) ↔ EachOf (ItemHolds fields row) items
+  alternative_means items = over_map All (numbered_item fields) (NumberedItemHolds (searched fields) row) (ItemHolds fields row) item_means items
 
   detection_means : (d : Detection) → AlternativesHold (searched fields) row (numbered_detection fields d) ↔ DetectionHolds fields row d
   detection_means d =
-      over_map Any (map (numbered_item fields)) (λ items. EachOf (NumberedHolds (searched fields) row) items)
+      over_map Any (map (numbered_item fields)) (λ items. EachOf (NumberedItemHolds (searched fields) row) items)
       (λ items. EachOf (ItemHolds fields row) items) alternative_means d.alternatives
 
   number_means : (truths : List Bool) (ds : List Detection) → AreTruths (searched fields) row truths (map (numbered_detection fields) ds) → (n : ℕ)

@@ -1,6 +1,6 @@
 -- A rule made ready for the events of a schema: each name is the number of its field. What a rule means stands in
 -- `rule_matching`; here stands how it's kept, and what is asked of an event's values by their numbers.
-use Rattle.std.specs.Prelude.{ℕ, ◌≡◌, ◌↔◌, Bool, IsTrue, List, map, Option, option_and_then}
+use Rattle.std.specs.Prelude.{ℕ, ◌≡◌, ◌↔◌, Bool, IsTrue, List, map, option_and_then}
 use Rattle.std.specs.List.{AllZip}
 use Rattle.event_schema.specs.Lists.{EachOf, SomeOf}
 use Rattle.event_schema.specs.Rows.{field_number, field_values, values_if_any}
@@ -11,12 +11,12 @@ use Rattle.rule_items.specs.declared.detection.Detection.{Detection}
 use Rattle.rule_items.specs.declared.item.Fields.{Fields}
 use Rattle.rule_items.specs.declared.item.Fields.TheVariants.{Keyword, Names}
 use Rattle.rule_items.specs.declared.item.Item.{Item}
-use Rattle.rule_matching.specs.Matching.{JoinedHolds}
 use Rattle.rule_model.specs.Plain.{PlainRule}
 use Rattle.sig_conditions.specs.Formulas.{PlainFormula, forms_view}
 use Rattle.sig_modifiers.specs.Holds.{Holds}
 use Rattle.sig_modifiers.specs.References.{reference_of}
 use Rattle.modifier_chains.specs.declared.modifier.Joined.{Joined}
+use Rattle.modifier_chains.specs.declared.modifier.Joined.TheVariants.{All, Any}
 use Rattle.sig_modifiers.specs.declared.test.Test.{Test}
 use Rattle.detection_eval.specs.declared.numbered.Asked.{Asked}
 use Rattle.detection_eval.specs.declared.numbered.Asked.TheVariants.{Searched, Numbers}
@@ -34,6 +34,11 @@ NumberedHolds row values numbered = Holds (λ (name : List ℕ). values_if_any r
 abbrev pub Satisfies : List (List Value) → List Value → List NumberedTest → Type 0
 Satisfies row values tests = SomeOf (NumberedHolds row values) tests
 
+-- all of the values are satisfied, or some one of them
+abbrev pub ValuesHold : Joined → (List NumberedTest → Type 0) → List (List NumberedTest) → Type 0
+ValuesHold All Satisfied values = EachOf Satisfied values
+ValuesHold Any Satisfied values = SomeOf Satisfied values
+
 -- with the numbers of the fields that keywords search, and an event's values
 module _ (searched : List ℕ) (row : List (List Value)) where
   -- a keyword is satisfied by some field of these
@@ -41,8 +46,8 @@ module _ (searched : List ℕ) (row : List (List Value)) where
   SearchSatisfies tests = SomeOf (λ n. Satisfies row (field_values row n) tests) searched
 
   abbrev pub AskedHolds : Joined → List (List NumberedTest) → Asked → Type 0
-  AskedHolds joined values Searched = JoinedHolds joined SearchSatisfies values
-  AskedHolds joined values (Numbers numbers) = SomeOf (λ number. JoinedHolds joined (Satisfies row (values_if_any row number)) values) numbers
+  AskedHolds joined values Searched = ValuesHold joined SearchSatisfies values
+  AskedHolds joined values (Numbers numbers) = SomeOf (λ number. ValuesHold joined (Satisfies row (values_if_any row number)) values) numbers
 
   abbrev pub NumberedItemHolds : NumberedItem → Type 0
   NumberedItemHolds i = AskedHolds i.joined i.tests i.asked
@@ -64,7 +69,7 @@ module _ (fields : List Field) where
 
   -- a test with the number of the field that it compares with, if there is such a field
   abbrev pub numbered_test : Test → NumberedTest
-  numbered_test test = record { test = test; other = option_and_then (reference_of test) (field_number fields) }
+  numbered_test test = record { test = test; other = option_and_then (field_number fields) (reference_of test) }
 
   abbrev pub numbered_item : Item → NumberedItem
   numbered_item i = record { asked = asked_of i.fields; joined = i.joined; tests = map (map numbered_test) i.tests }

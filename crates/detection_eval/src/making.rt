@@ -1,15 +1,20 @@
 //! Detections whose names become numbers.
 
-ghost use Rattle.std.specs.Prelude.{◌≡◌, map, IfOk, IfErr};
+ghost use Rattle.std.specs.Prelude.{◌≡◌, map, option_and_then, IfOk, IfErr};
 ghost use Rattle.event_schema.specs.Rows.{field_number};
 ghost use Rattle.field_numbers.specs.Numbered.{AreNumbered};
+ghost use Rattle.sig_modifiers.specs.References.{reference_of};
 ghost use Rattle.detection_eval.specs.Ready as spec;
 
-use crate::numbered::{Asked, FieldPlaces, NumberedAlternative, NumberedDetection, NumberedItem};
+use crate::numbered::{
+    Asked, FieldPlaces, NumberedAlternative, NumberedDetection, NumberedItem, NumberedTest,
+    NumberedTests, NumberedValues,
+};
 use event_schema::Field;
 use field_numbers::FieldNumbers;
 use rule_items::{Detection, Fields, Item};
-use sig_base::{Fault, Text, TryCopy};
+use sig_base::{Fault, Text};
+use sig_modifiers::{Test, Tests};
 use std::alloc::Global;
 
 /// The number of each name's field.
@@ -49,6 +54,66 @@ fn number_asked(
     }
 }
 
+/// The number of the field that a test compares with.
+fn number_reference(fields: &[Field], numbers: &FieldNumbers, test: &Test) -> Option<u32>
+    requires { AreNumbered fields.now numbers.now }
+    ensures { result ≡ option_and_then (field_number fields.now) (reference_of test.now) }
+{
+    match test.reference() {
+        Some(name) => numbers.look_up(fields, name),
+        None => None,
+    }
+}
+
+fn number_test(
+    alloc: Global,
+    fields: &[Field],
+    numbers: &FieldNumbers,
+    test: &Test,
+) -> Result<NumberedTest, Fault>
+    requires { AreNumbered fields.now numbers.now }
+    ensures ok { IfOk result (λ t. t ≡ spec.numbered_test fields.now test.now) }
+    ensures err { IfErr result (λ e. e ≡ Fault.Memory) }
+{
+    let other = number_reference(fields, numbers, test);
+    let test = test.copy(alloc)?;
+    Ok(NumberedTest { test, other })
+}
+
+fn number_value(
+    alloc: Global,
+    fields: &[Field],
+    numbers: &FieldNumbers,
+    tests: &[Test],
+) -> Result<NumberedTests, Fault>
+    requires { AreNumbered fields.now numbers.now }
+    ensures ok { IfOk result (λ all. all ≡ map (spec.numbered_test fields.now) tests.now) }
+    ensures err { IfErr result (λ e. e ≡ Fault.Memory) }
+{
+    let mut all = NumberedTests::with_capacity(alloc, tests.len())?;
+    for test in tests {
+        all.push(number_test(alloc, fields, numbers, test)?)?;
+    }
+    Ok(all)
+}
+
+fn number_values(
+    alloc: Global,
+    fields: &[Field],
+    numbers: &FieldNumbers,
+    values: &[Tests],
+) -> Result<NumberedValues, Fault>
+    requires { AreNumbered fields.now numbers.now }
+    ensures ok { IfOk result (λ all. all ≡ map (map (spec.numbered_test fields.now)) values.now) }
+    ensures err { IfErr result (λ e. e ≡ Fault.Memory) }
+{
+    let mut all = NumberedValues::with_capacity(alloc, values.len())?;
+    for tests in values {
+        all.push(number_value(alloc, fields, numbers, tests.as_slice())?)?;
+    }
+    Ok(all)
+}
+
 fn number_item(
     alloc: Global,
     fields: &[Field],
@@ -60,7 +125,7 @@ fn number_item(
     ensures err { IfErr result (λ e. e ≡ Fault.Memory) }
 {
     let asked = number_asked(alloc, fields, numbers, &item.fields)?;
-    let tests = item.tests.try_copy(alloc)?;
+    let tests = number_values(alloc, fields, numbers, item.tests.as_slice())?;
     Ok(NumberedItem {
         asked,
         joined: item.joined,

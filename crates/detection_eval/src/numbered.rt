@@ -1,8 +1,8 @@
 //! Items of detections whose names are numbers.
 
 use modifier_chains::Joined;
-use rule_items::Values;
 use sig_base::Sequence;
+use sig_modifiers::Test;
 
 /// The numbers of an item's fields; none for a name that no field has.
 pub type FieldPlaces = Sequence<Option<u32>>;
@@ -14,12 +14,25 @@ pub enum Asked {
     Numbers(FieldPlaces),
 }
 
+/// A test, with the number of the field that it compares with; none where it compares with none, or no field has the name.
+#[derive(Drop)]
+pub struct NumberedTest {
+    pub test: Test,
+    pub other: Option<u32>,
+}
+
+/// The tests of a value, of which one has to hold, which contracts see as a list.
+pub type NumberedTests = Sequence<NumberedTest>;
+
+/// The tests of each value of an item, which contracts see as a list of lists.
+pub type NumberedValues = Sequence<NumberedTests>;
+
 /// An item: its fields, whether all of its values have to be satisfied, and its values.
 #[derive(Drop)]
 pub struct NumberedItem {
     pub asked: Asked,
     pub joined: Joined,
-    pub tests: Values,
+    pub tests: NumberedValues,
 }
 
 /// Items that all have to hold, which contracts see as a list.

@@ -3,64 +3,11 @@
 ghost use Rattle.std.specs.Prelude.{◌≡◌, ◌↔◌, IsTrue};
 ghost use Rattle.event_schema.specs.Lists.{EachOf, SomeOf};
 ghost use Rattle.event_schema.specs.Rows.{field_values, values_if_any};
-ghost use Rattle.rule_matching.specs.Matching.{JoinedHolds};
-ghost use Rattle.detection_eval.specs.Ready.{Satisfies, SearchSatisfies, NumberedHolds, AlternativesHold};
+ghost use Rattle.detection_eval.specs.Ready.{NumberedHolds, Satisfies, ValuesHold, SearchSatisfies, NumberedItemHolds, AlternativesHold};
 
-use crate::numbered::{Asked, NumberedAlternative, NumberedItem};
+use crate::numbered::{Asked, NumberedAlternative, NumberedItem, NumberedTest, NumberedTests};
 use event_schema::{Event, Value};
 use modifier_chains::Joined;
-use sig_modifiers::{Test, Tests};
-
-/// Whether one of the tests holds of a field's values.
-fn is_satisfied(tests: &[Test], own: &[Value]) -> bool
-    ensures { IsTrue result ↔ Satisfies own.now tests.now }
-{
-    for test in tests {
-        if test.holds_of(own) {
-            return true;
-        }
-    }
-    false
-}
-
-/// Whether a value of an item is satisfied by a field's values.
-fn satisfies(own: &[Value], tests: &Tests) -> bool
-    ensures { IsTrue result ↔ Satisfies own.now tests.now }
-{
-    is_satisfied(tests.as_slice(), own)
-}
-
-fn each_satisfied(values: &[Tests], own: &[Value]) -> bool
-    ensures { IsTrue result ↔ EachOf (Satisfies own.now) values.now }
-{
-    for tests in values {
-        if !satisfies(own, tests) {
-            return false;
-        }
-    }
-    true
-}
-
-fn some_satisfied(values: &[Tests], own: &[Value]) -> bool
-    ensures { IsTrue result ↔ SomeOf (Satisfies own.now) values.now }
-{
-    for tests in values {
-        if satisfies(own, tests) {
-            return true;
-        }
-    }
-    false
-}
-
-/// Whether all values of an item are satisfied by a field's values, or some one.
-fn are_satisfied(joined: Joined, values: &[Tests], own: &[Value]) -> bool
-    ensures { IsTrue result ↔ JoinedHolds joined (Satisfies own.now) values.now }
-{
-    match joined {
-        Joined::All => each_satisfied(values, own),
-        Joined::Any => some_satisfied(values, own),
-    }
-}
 
 /// The values of the field of this number; none where there is no number.
 fn values_of(event: &Event, number: Option<u32>) -> &[Value]
@@ -72,21 +19,86 @@ fn values_of(event: &Event, number: Option<u32>) -> &[Value]
     }
 }
 
-/// Whether the values of an item are satisfied by the field of this number.
-fn field_satisfies(event: &Event, joined: Joined, values: &[Tests], number: Option<u32>) -> bool
-    ensures { IsTrue result ↔ JoinedHolds joined (Satisfies (values_if_any event.now.values number)) values.now }
+/// Whether a test holds of a field's values in an event.
+fn test_holds(event: &Event, own: &[Value], numbered: &NumberedTest) -> bool
+    ensures { IsTrue result ↔ NumberedHolds event.now.values own.now numbered.now }
 {
-    are_satisfied(joined, values, values_of(event, number))
+    numbered
+        .test
+        .holds_of(own, values_of(event, numbered.other))
+}
+
+/// Whether one of the tests holds of a field's values.
+fn is_satisfied(event: &Event, own: &[Value], tests: &[NumberedTest]) -> bool
+    ensures { IsTrue result ↔ Satisfies event.now.values own.now tests.now }
+{
+    for test in tests {
+        if test_holds(event, own, test) {
+            return true;
+        }
+    }
+    false
+}
+
+/// Whether a value of an item is satisfied by a field's values.
+fn satisfies(event: &Event, own: &[Value], tests: &NumberedTests) -> bool
+    ensures { IsTrue result ↔ Satisfies event.now.values own.now tests.now }
+{
+    is_satisfied(event, own, tests.as_slice())
+}
+
+fn each_satisfied(event: &Event, own: &[Value], values: &[NumberedTests]) -> bool
+    ensures { IsTrue result ↔ EachOf (Satisfies event.now.values own.now) values.now }
+{
+    for tests in values {
+        if !satisfies(event, own, tests) {
+            return false;
+        }
+    }
+    true
+}
+
+fn some_satisfied(event: &Event, own: &[Value], values: &[NumberedTests]) -> bool
+    ensures { IsTrue result ↔ SomeOf (Satisfies event.now.values own.now) values.now }
+{
+    for tests in values {
+        if satisfies(event, own, tests) {
+            return true;
+        }
+    }
+    false
+}
+
+/// Whether all values of an item are satisfied by a field's values, or some one.
+fn are_satisfied(event: &Event, joined: Joined, own: &[Value], values: &[NumberedTests]) -> bool
+    ensures { IsTrue result ↔ ValuesHold joined (Satisfies event.now.values own.now) values.now }
+{
+    match joined {
+        Joined::All => each_satisfied(event, own, values),
+        Joined::Any => some_satisfied(event, own, values),
+    }
+}
+
+/// Whether the values of an item are satisfied by the field of this number.
+fn field_satisfies(
+    event: &Event,
+    joined: Joined,
+    values: &[NumberedTests],
+    number: Option<u32>,
+) -> bool
+    ensures { IsTrue result ↔ ValuesHold joined (Satisfies event.now.values (values_if_any event.now.values number)) values.now }
+{
+    are_satisfied(event, joined, values_of(event, number), values)
 }
 
 /// Whether the values of an item are satisfied by some one of its fields.
 fn some_field_satisfies(
     event: &Event,
     joined: Joined,
-    values: &[Tests],
+    values: &[NumberedTests],
     numbers: &[Option<u32>],
 ) -> bool
-    ensures { IsTrue result ↔ SomeOf (λ number. JoinedHolds joined (Satisfies (values_if_any event.now.values number)) values.now) numbers.now }
+    ensures { IsTrue result ↔ SomeOf (λ number. ValuesHold joined (Satisfies event.now.values (values_if_any event.now.values number)) values.now) numbers.now }
 {
     for number in numbers {
         if field_satisfies(event, joined, values, *number) {
@@ -97,14 +109,14 @@ fn some_field_satisfies(
 }
 
 /// Whether a value is satisfied by the field of this number.
-fn is_satisfied_at(event: &Event, tests: &[Test], field: u32) -> bool
-    ensures { IsTrue result ↔ Satisfies (field_values event.now.values field) tests.now }
+fn is_satisfied_at(event: &Event, tests: &[NumberedTest], field: u32) -> bool
+    ensures { IsTrue result ↔ Satisfies event.now.values (field_values event.now.values field) tests.now }
 {
-    is_satisfied(tests, event.values(field as usize))
+    is_satisfied(event, event.values(field as usize), tests)
 }
 
 /// Whether a value is satisfied by some one of these fields.
-fn some_search_satisfies(event: &Event, searched: &[u32], tests: &[Test]) -> bool
+fn some_search_satisfies(event: &Event, searched: &[u32], tests: &[NumberedTest]) -> bool
     ensures { IsTrue result ↔ SearchSatisfies searched.now event.now.values tests.now }
 {
     for field in searched {
@@ -116,13 +128,13 @@ fn some_search_satisfies(event: &Event, searched: &[u32], tests: &[Test]) -> boo
 }
 
 /// Whether a keyword's value is satisfied by some one of these fields.
-fn search_satisfies(event: &Event, searched: &[u32], tests: &Tests) -> bool
+fn search_satisfies(event: &Event, searched: &[u32], tests: &NumberedTests) -> bool
     ensures { IsTrue result ↔ SearchSatisfies searched.now event.now.values tests.now }
 {
     some_search_satisfies(event, searched, tests.as_slice())
 }
 
-fn each_keyword_satisfied(event: &Event, searched: &[u32], values: &[Tests]) -> bool
+fn each_keyword_satisfied(event: &Event, searched: &[u32], values: &[NumberedTests]) -> bool
     ensures { IsTrue result ↔ EachOf (SearchSatisfies searched.now event.now.values) values.now }
 {
     for tests in values {
@@ -133,7 +145,7 @@ fn each_keyword_satisfied(event: &Event, searched: &[u32], values: &[Tests]) -> 
     true
 }
 
-fn some_keyword_satisfied(event: &Event, searched: &[u32], values: &[Tests]) -> bool
+fn some_keyword_satisfied(event: &Event, searched: &[u32], values: &[NumberedTests]) -> bool
     ensures { IsTrue result ↔ SomeOf (SearchSatisfies searched.now event.now.values) values.now }
 {
     for tests in values {
@@ -145,8 +157,13 @@ fn some_keyword_satisfied(event: &Event, searched: &[u32], values: &[Tests]) -> 
 }
 
 /// Whether all values of a keyword are satisfied, or some one.
-fn are_keywords_satisfied(event: &Event, searched: &[u32], joined: Joined, values: &[Tests]) -> bool
-    ensures { IsTrue result ↔ JoinedHolds joined (SearchSatisfies searched.now event.now.values) values.now }
+fn are_keywords_satisfied(
+    event: &Event,
+    searched: &[u32],
+    joined: Joined,
+    values: &[NumberedTests],
+) -> bool
+    ensures { IsTrue result ↔ ValuesHold joined (SearchSatisfies searched.now event.now.values) values.now }
 {
     match joined {
         Joined::All => each_keyword_satisfied(event, searched, values),
@@ -155,7 +172,7 @@ fn are_keywords_satisfied(event: &Event, searched: &[u32], joined: Joined, value
 }
 
 fn item_holds(event: &Event, searched: &[u32], item: &NumberedItem) -> bool
-    ensures { IsTrue result ↔ NumberedHolds searched.now event.now.values item.now }
+    ensures { IsTrue result ↔ NumberedItemHolds searched.now event.now.values item.now }
 {
     match &item.asked {
         Asked::Searched => {
@@ -173,7 +190,7 @@ fn item_holds(event: &Event, searched: &[u32], item: &NumberedItem) -> bool
 }
 
 fn each_item_holds(event: &Event, searched: &[u32], items: &[NumberedItem]) -> bool
-    ensures { IsTrue result ↔ EachOf (NumberedHolds searched.now event.now.values) items.now }
+    ensures { IsTrue result ↔ EachOf (NumberedItemHolds searched.now event.now.values) items.now }
 {
     for item in items {
         if !item_holds(event, searched, item) {
@@ -184,7 +201,7 @@ fn each_item_holds(event: &Event, searched: &[u32], items: &[NumberedItem]) -> b
 }
 
 fn alternative_holds(event: &Event, searched: &[u32], items: &NumberedAlternative) -> bool
-    ensures { IsTrue result ↔ EachOf (NumberedHolds searched.now event.now.values) items.now }
+    ensures { IsTrue result ↔ EachOf (NumberedItemHolds searched.now event.now.values) items.now }
 {
     each_item_holds(event, searched, items.as_slice())
 }

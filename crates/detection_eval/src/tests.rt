@@ -2,7 +2,7 @@
 
 use crate::Ready;
 use event_schema::{Event, Field, FieldKind, FieldList, FieldValues, Schema, Value};
-use modifier_chains::Joined;
+use modifier_chains::{Joined, Op};
 use rule_head::{Head, LogSource};
 use rule_items::{Alternative, Alternatives, Detection, Detections, Fields, Item, Values};
 use rule_model::Rule;
@@ -26,13 +26,14 @@ fn field(alloc: Global, name: &str, kind: FieldKind, search: bool) -> Result<Fie
     })
 }
 
-/// The texts `u`, `p` and `h`, of which keywords search the first two, and the number `n` as the third field.
+/// The texts `u`, `p` and `h`, of which keywords search the first two, the number `n` as the third field and `m` as the last.
 fn schema(alloc: Global) -> Result<Schema, Fail> {
     let mut fields = FieldList::new(alloc);
     fields.push(field(alloc, "u", FieldKind::Text, true)?)?;
     fields.push(field(alloc, "p", FieldKind::Text, true)?)?;
     fields.push(field(alloc, "n", FieldKind::Whole, false)?)?;
     fields.push(field(alloc, "h", FieldKind::Text, false)?)?;
+    fields.push(field(alloc, "m", FieldKind::Whole, false)?)?;
     Ok(Schema {
         table: Text::copy(alloc, "events")?,
         fields,
@@ -40,7 +41,11 @@ fn schema(alloc: Global) -> Result<Schema, Fail> {
     })
 }
 
+/// A number, or a text; behind a quote it's a text.
 fn value(alloc: Global, text: &str) -> Result<Value, Fail> {
+    if let Some(digits) = text.strip_prefix("'") {
+        return Ok(Value::Text(Text::copy(alloc, digits)?));
+    }
     match text.parse::<i64>() {
         Ok(number) => Ok(Value::Whole(number)),
         Err(_) => Ok(Value::Text(Text::copy(alloc, text)?)),
@@ -78,8 +83,20 @@ fn shown(alloc: Global, rule: &Rule, events: &str) -> Result<String, Fail> {
     Ok(shown)
 }
 
+fn to_five(op: Op) -> Test {
+    Test::Compare { op, number: 5 }
+}
+
+/// Tests by what stands for them: with a sign before `5` a comparison, behind `=` a field's name, else a pattern.
 fn test(alloc: Global, text: &str) -> Result<Test, Fail> {
+    if let Some(name) = text.strip_prefix("=") {
+        return Ok(Test::SameAs(Text::copy(alloc, name)?));
+    }
     match text {
+        "<5" => Ok(to_five(Op::Lt)),
+        "<=5" => Ok(to_five(Op::Lte)),
+        ">5" => Ok(to_five(Op::Gt)),
+        ">=5" => Ok(to_five(Op::Gte)),
         "null" => Ok(Test::Absent),
         "some" => Ok(Test::Exists(true)),
         "none" => Ok(Test::Exists(false)),
@@ -162,14 +179,24 @@ fn rule(alloc: Global, detections: Detections, conditions: Vec<Formula>) -> Resu
     })
 }
 
-/// Whether the events match a rule of one detection.
-fn shown_detection(alloc: Global, detection: Detection, events: &str) -> Result<String, Fail> {
+/// Whether the events match a rule of one detection and one condition.
+fn shown_condition(
+    alloc: Global,
+    detection: Detection,
+    condition: Formula,
+    events: &str,
+) -> Result<String, Fail> {
     let mut detections = Detections::new(alloc);
     detections.push(detection)?;
     let mut conditions = Vec::new(alloc);
-    conditions.push(Formula::Detection(0))?;
+    conditions.push(condition)?;
     let rule = rule(alloc, detections, conditions)?;
     shown(alloc, &rule, events)
+}
+
+/// Whether the events match a rule of one detection.
+fn shown_detection(alloc: Global, detection: Detection, events: &str) -> Result<String, Fail> {
+    shown_condition(alloc, detection, Formula::Detection(0), events)
 }
 
 /// Whether the events match a rule of one item.
@@ -182,6 +209,20 @@ fn shown_item(
 ) -> Result<String, Fail> {
     let item = item(alloc, joined, fields, values)?;
     shown_detection(alloc, one_item(alloc, item)?, events)
+}
+
+/// Whether the events match an item of one value, and whether they match where it doesn't hold.
+fn shown_both(
+    alloc: Global,
+    field: &str,
+    value: &str,
+    events: &str,
+) -> Result<(String, String), Fail> {
+    let holds = shown_item(alloc, Joined::Any, field, value, events)?;
+    let item = item(alloc, Joined::Any, field, value)?;
+    let not = Formula::Not(Box::new(alloc, Formula::Detection(0))?);
+    let fails = shown_condition(alloc, one_item(alloc, item)?, not, events)?;
+    Ok((holds, fails))
 }
 
 #[test]
@@ -235,6 +276,60 @@ fn numbers(rt: HostRuntime) -> Result<(), Fail> {
     assert_eq!(rt; equal.as_str(), "10100");
     let begin = shown_item(alloc, Joined::Any, "n", "7*", "||7| ||70| ||8| |||")?;
     assert_eq!(rt; begin.as_str(), "1100");
+    Ok(())
+}
+
+#[test]
+fn comparisons(rt: HostRuntime) -> Result<(), Fail> {
+    let alloc = rt.alloc();
+    let events = "||4| ||5| ||6| ||-7| ||9,4| ||'4| |||";
+    let (below, not_below) = shown_both(alloc, "n", "<5", events)?;
+    assert_eq!(rt; below.as_str(), "1001100");
+    assert_eq!(rt; not_below.as_str(), "0110011");
+    let at_most = shown_item(alloc, Joined::Any, "n", "<=5", events)?;
+    assert_eq!(rt; at_most.as_str(), "1101100");
+    let above = shown_item(alloc, Joined::Any, "n", ">5", events)?;
+    assert_eq!(rt; above.as_str(), "0010100");
+    let (at_least, not_at_least) = shown_both(alloc, "n", ">=5", events)?;
+    assert_eq!(rt; at_least.as_str(), "0110100");
+    assert_eq!(rt; not_at_least.as_str(), "1001011");
+    Ok(())
+}
+
+#[test]
+fn several_comparisons(rt: HostRuntime) -> Result<(), Fail> {
+    let alloc = rt.alloc();
+    let both = shown_item(alloc, Joined::All, "n", ">=5,<=5", "||5| ||4| ||4,6| |||")?;
+    assert_eq!(rt; both.as_str(), "1010");
+    let searched = shown_item(alloc, Joined::Any, "", "<5", "4||| |4|| ||4| 5|||")?;
+    assert_eq!(rt; searched.as_str(), "1100");
+    Ok(())
+}
+
+#[test]
+fn values_of_another_field(rt: HostRuntime) -> Result<(), Fail> {
+    let alloc = rt.alloc();
+    let events = "a|a|| a|A|| aZ|Az|| a|b|| a||| |a|| ||| a,b|c,B|| a,b|c,d|| 7|7|| '7|7|| ä|Ä||";
+    let (same, other) = shown_both(alloc, "u", "=p", events)?;
+    assert_eq!(rt; same.as_str(), "111000010110");
+    assert_eq!(rt; other.as_str(), "000111101001");
+    let itself = shown_item(alloc, Joined::Any, "u", "=u", "a||| |a|| ||| 7|||")?;
+    assert_eq!(rt; itself.as_str(), "1001");
+    let searched = shown_item(alloc, Joined::Any, "", "=p", "a|a|| a|b|| |b|| a|||")?;
+    assert_eq!(rt; searched.as_str(), "1110");
+    Ok(())
+}
+
+#[test]
+fn numbers_of_another_field(rt: HostRuntime) -> Result<(), Fail> {
+    let alloc = rt.alloc();
+    let events = "||7||7 ||7||8 ||7,8||8 ||7|| ||||7 ||-7||-7";
+    let (same, other) = shown_both(alloc, "n", "=m", events)?;
+    assert_eq!(rt; same.as_str(), "101001");
+    assert_eq!(rt; other.as_str(), "010110");
+    let (lacking, not_lacking) = shown_both(alloc, "u", "=z", "a||| |||")?;
+    assert_eq!(rt; lacking.as_str(), "00");
+    assert_eq!(rt; not_lacking.as_str(), "11");
     Ok(())
 }
 

@@ -59,6 +59,31 @@ module _ (missing : Schema → Leaf → Option Lack) (text : Schema → Plain �
   too_many limits rule schema r e =
       line_decides (leaves_line limits schema rule) r (write_checks missing text too_deep limits schema (rule_tree schema rule) rule.head.place) e
 
+  -- the rule doesn't fit the schema that is made of it, or there is no memory to see whether it does
+  pub unfit_made : {Y : Type 0} (limits : Limits) (rule : PlainRule) (schema : Schema) (Q : Y → Type 0) (fault : Fault)
+      → (made_refusal None rule ≡ None) × (schema ≡ schema_for None rule)
+      → Judged {X = Unit {0}} (λ done. Unit {0}) (fit_refusal schema rule) (Err fault) → Judged {X = Y} Q (query_refusal missing text too_deep limits None rule) (Err fault)
+  unfit_made limits rule schema Q Memory made judged = tt
+  unfit_made limits rule schema Q (Refused r) made is =
+      rest_decides (made_refusal None rule) (checks_under missing text too_deep limits (schema_for None rule) rule) made.0
+      ∙ line_decides (fit_refusal (schema_for None rule) rule) r (query_checks missing text too_deep limits (schema_for None rule) rule)
+      (subst (λ (s : Schema). fit_refusal s rule ≡ Some r) made.1 is)
+
+  -- what is answered of a rule that fits the schema that is made of it
+  pub written_made : (limits : Limits) (rule : PlainRule) (schema : Schema) (r : Result (List ℕ) Fault)
+      → (made_refusal None rule ≡ None) × (schema ≡ schema_for None rule) → fit_refusal schema rule ≡ None
+      → Judged (λ bytes. bytes ≡ query_under text schema rule) (first (query_checks missing text too_deep limits schema rule)) r
+      → Judged (λ bytes. bytes ≡ query_of text None rule) (query_refusal missing text too_deep limits None rule) r
+  written_made limits rule schema r made fits judged =
+      let own = schema_for None rule in
+      let at_own : Judged (λ bytes. bytes ≡ query_under text own rule) (first (query_checks missing text too_deep limits own rule)) r =
+      subst (λ (s : Schema). Judged (λ bytes. bytes ≡ query_under text s rule) (first (query_checks missing text too_deep limits s rule)) r) made.1 judged in
+      judged_as (λ (bytes : List ℕ). bytes ≡ query_under text own rule) (λ (bytes : List ℕ). bytes ≡ query_of text None rule)
+      (first (query_checks missing text too_deep limits own rule)) (query_refusal missing text too_deep limits None rule) r
+      (rest_decides (made_refusal None rule) (checks_under missing text too_deep limits own rule) made.0
+      ∙ rest_decides (fit_refusal own rule) (query_checks missing text too_deep limits own rule) (subst (λ (s : Schema). fit_refusal s rule ≡ None) made.1 fits))
+      (λ bytes is. is) at_own
+
   -- where no schema is given, what is said of none
   pub given_none : {T : Type 0} (schema_of : T → Schema) (given : Option T) (limits : Limits) (rule : PlainRule) (r : Result (List ℕ) Fault) → given ≡ None
       → Judged (λ bytes. bytes ≡ query_of text None rule) (query_refusal missing text too_deep limits None rule) r

@@ -23,8 +23,7 @@ use Rattle.rule_queries.specs.Queries.{rule_tree, query_under, query_of, Convert
 use Rattle.rule_queries.specs.Verdicts.{IsConverted}
 use Rattle.rule_queries.proofs.Judging.{no_line}
 use Rattle.rule_schema.proofs.NamesApart.{rule_legal, rule_apart, fields_kept, own_names, no_twins}
-use Rattle.rule_schema.specs.Inferred.{fit_refusal, items_of, rule_names, made_field, schema_for, made_refusal}
-use Rattle.rule_schema.specs.Kinds.{address_names}
+use Rattle.rule_schema.specs.Inferred.{fit_refusal, items_of, uses_of, rule_names, made_field, schema_for, made_refusal}
 use Rattle.sig_base.specs.declared.limits.Limits.{Limits}
 use Rattle.sig_base.specs.declared.refusal.Place.{Place}
 use Rattle.sig_base.specs.declared.refusal.Refusal.{Refusal}
@@ -48,12 +47,12 @@ both_ways f g = ((λ a. g.0 (f.0 a)), (λ c. f.1 (g.1 c)))
 schema_named : (given : Option Schema) (rule : PlainRule) → IfSome given IsSchema → IsWhole rule → made_refusal given rule ≡ None → IsNamed (schema_for given rule)
 schema_named None rule is whole made =
     let names = rule_names rule in
-    let addresses = address_names (items_of rule.detections) in
+    let uses = uses_of (items_of rule.detections) in
     record {
       table = record { legal = refl; scalars = refl };
-      fields = fields_kept addresses names (rule_legal rule whole);
-      apart = subst AreApart (sym (own_names addresses names)) (rule_apart rule made);
-      twins = no_twins addresses (names_of (map (made_field addresses) names)) names;
+      fields = fields_kept uses names (rule_legal rule whole);
+      apart = subst AreApart (sym (own_names uses names)) (rule_apart rule made);
+      twins = no_twins uses (names_of (map (made_field uses) names)) names;
     }
 schema_named (Some schema) rule is whole made = record { table = is.table; fields = is.fields; apart = is.apart; twins = is.twins }
 

@@ -13,7 +13,7 @@ use backend_core::Backend;
 use event_schema::Schema;
 use rule_lowering::lower;
 use rule_model::Rule;
-use rule_schema::{fit_inferred, fit_schema, infer_schema};
+use rule_schema::{fit_indexed, fit_schema, infer_schema};
 use sig_base::{Bytes, Fault, Limits, Place};
 use std::alloc::Global;
 use yaml_tree::Node;
@@ -51,7 +51,7 @@ fn convert_under<B: Backend>(
     }
 }
 
-/// The query of a rule under the schema that is made of it. In this order it is refused 80, 83, 110, 111, 112 or 113, and 114.
+/// The query of a rule under the schema that is made of it. In this order it is refused 80, 82 or 83, 110, 111, 112 or 113, and 114.
 fn convert_made<B: Backend>(
     backend: &B,
     alloc: Global,
@@ -62,8 +62,8 @@ fn convert_made<B: Backend>(
     ensures { Judged (λ bytes. bytes ≡ query_of B.text None (rule_view rule.now)) (query_refusal B.missing B.text B.too_deep limits.now None (rule_view rule.now)) result }
 {
     let schema = infer_schema(alloc, rule)?;
-    match fit_inferred(rule) {
-        Err(refusal) => Err(Fault::Refused(refusal)),
+    match fit_indexed(alloc, rule, &schema) {
+        Err(unfit) => Err(unfit),
         Ok(()) => write_rule(backend, alloc, limits, rule, &schema),
     }
 }

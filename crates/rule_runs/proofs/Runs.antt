@@ -211,7 +211,25 @@ pub isnt_fit : (limits : Limits) (schema : Schema) (bytes : List ℕ) (rule : Ru
 isnt_fit limits schema bytes rule r (rest, single) is = unfit (rule_with rest (rule_view rule)) single (second_is None (fit_refusal schema (rule_view rule)) r refl is)
 
 -- the same of the schema that is made of it
-pub isnt_fit_alone : (limits : Limits) (bytes : List ℕ) (rule : Rule) (r : Refusal) → IsBare (IsSingleRule limits bytes) rule → schema_refusal (rule_view rule) ≡ None
-    → fit_refusal (inferred_schema (rule_view rule)) (rule_view rule) ≡ Some r → IsNotRun limits None bytes r
-isnt_fit_alone limits bytes rule r (rest, single) made is =
-    unfit (rule_with rest (rule_view rule)) single (second_is (schema_refusal (rule_view rule)) (fit_refusal (inferred_schema (rule_view rule)) (rule_view rule)) r made is)
+pub isnt_fit_alone : {Y : Type 0} (limits : Limits) (bytes : List ℕ) (rule : Rule) (schema : Schema) (Q : Y → Type 0) (fault : Fault)
+    → IsBare (IsSingleRule limits bytes) rule → (schema_refusal (rule_view rule) ≡ None) × (schema ≡ inferred_schema (rule_view rule))
+    → Judged {X = Unit {0}} (λ done. Unit {0}) (fit_refusal schema (rule_view rule)) (Err fault) → Answers {X = Y} Q (IsNotRun limits None bytes) (Err fault)
+isnt_fit_alone limits bytes rule schema Q Memory single made judged = tt
+isnt_fit_alone limits bytes rule schema Q (Refused r) (rest, single) made is =
+    unfit (rule_with rest (rule_view rule)) single
+    (second_is (schema_refusal (rule_view rule)) (fit_refusal (inferred_schema (rule_view rule)) (rule_view rule)) r made.0
+    (subst (λ (s : Schema). fit_refusal s (rule_view rule) ≡ Some r) made.1 is))
+
+neither_is : (a b : Option Refusal) → a ≡ None → b ≡ None → first (a ∷ b ∷ []) ≡ None
+neither_is a b none also = rw (none, also) refl
+
+-- the rule fits the schema that is made of it
+pub fits_alone : (limits : Limits) (bytes : List ℕ) (rule : Rule) (schema : Schema)
+    → IsBare (IsSingleRule limits bytes) rule → (schema_refusal (rule_view rule) ≡ None) × (schema ≡ inferred_schema (rule_view rule))
+    → fit_refusal schema (rule_view rule) ≡ None → IsBare (IsRun limits None bytes) rule
+fits_alone limits bytes rule schema (rest, single) made fits =
+    (rest, record {
+      single = single;
+      fits = neither_is (schema_refusal (rule_view rule)) (fit_refusal (inferred_schema (rule_view rule)) (rule_view rule)) made.0
+      (subst (λ (s : Schema). fit_refusal s (rule_view rule) ≡ None) made.1 fits);
+    })

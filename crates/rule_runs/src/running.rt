@@ -9,7 +9,7 @@ ghost use Rattle.rule_schema.specs.Inferred.{inferred_schema};
 use crate::reading::read_single_rule;
 use event_schema::Schema;
 use rule_model::Rule;
-use rule_schema::{fit_inferred, fit_schema, infer_schema};
+use rule_schema::{fit_indexed, fit_schema, infer_schema};
 use sig_base::{Fault, Limits};
 use std::alloc::Global;
 
@@ -41,7 +41,7 @@ pub fn rule_under(
 }
 
 /// The rule that a file is run as, with the schema that is made of it. In this order it's refused 2, 1, 7, 84, by YAML, 146, as a
-/// rule, 80 and 83.
+/// rule, 80, 82 and 83.
 pub fn rule_alone(alloc: Global, limits: &Limits, bytes: &[u8]) -> Result<SchemedRule, Fault>
     ensures { Answers (λ found. IsBare (IsRun limits.now None bytes.now) found.rule × (found.schema ≡ inferred_schema (rule_view found.rule))) (IsNotRun limits.now None bytes.now) result }
 {
@@ -53,8 +53,8 @@ pub fn rule_alone(alloc: Global, limits: &Limits, bytes: &[u8]) -> Result<Scheme
         Ok(schema) => schema,
         Err(fault) => return Err(fault),
     };
-    match fit_inferred(&rule) {
-        Err(unfit) => Err(Fault::Refused(unfit)),
+    match fit_indexed(alloc, &rule, &schema) {
+        Err(unfit) => Err(unfit),
         Ok(()) => Ok(SchemedRule { rule, schema }),
     }
 }

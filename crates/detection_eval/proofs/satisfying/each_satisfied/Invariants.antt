@@ -5,4 +5,4 @@ use Rattle.detection_eval.proofs.satisfying.each_satisfied.Given as goal
 
 abbrev pub invariant-loop-tests : goal.invariant-loop-tests
 invariant-loop-tests l =
-    EachOf (Satisfies l.own) (drop l.tests-index l.values) ↔ EachOf (Satisfies l.own) l.values
+    EachOf (Satisfies l.event.values l.own) (drop l.tests-index l.values) ↔ EachOf (Satisfies l.event.values l.own) l.values

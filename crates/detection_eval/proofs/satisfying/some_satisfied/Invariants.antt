@@ -5,4 +5,4 @@ use Rattle.detection_eval.proofs.satisfying.some_satisfied.Given as goal
 
 abbrev pub invariant-loop-tests : goal.invariant-loop-tests
 invariant-loop-tests l =
-    SomeOf (Satisfies l.own) (drop l.tests-index l.values) ↔ SomeOf (Satisfies l.own) l.values
+    SomeOf (Satisfies l.event.values l.own) (drop l.tests-index l.values) ↔ SomeOf (Satisfies l.event.values l.own) l.values

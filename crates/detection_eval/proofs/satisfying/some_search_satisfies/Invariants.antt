@@ -6,4 +6,4 @@ use Rattle.detection_eval.proofs.satisfying.some_search_satisfies.Given as goal
 
 abbrev pub invariant-loop-field : goal.invariant-loop-field
 invariant-loop-field l =
-    SomeOf (λ n. Satisfies (field_values l.event.values n) l.tests) (drop l.field-index l.searched) ↔ SomeOf (λ n. Satisfies (field_values l.event.values n) l.tests) l.searched
+    SomeOf (λ n. Satisfies l.event.values (field_values l.event.values n) l.tests) (drop l.field-index l.searched) ↔ SomeOf (λ n. Satisfies l.event.values (field_values l.event.values n) l.tests) l.searched
