@@ -1,7 +1,7 @@
-mod Asked
+pub mod Compared
 pub mod FirstRefused
 pub mod Gathered
 pub mod Gathering
-pub mod Keywords
+pub mod Looking
 pub mod Making
 pub mod NamesApart

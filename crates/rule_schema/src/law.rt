@@ -1,17 +1,11 @@
 //! What follows from the definitions, for the proofs of callers: each function does nothing else than name laws that it
 //! stands on, and its clauses are laws.
 
-ghost use Rattle.std.specs.Prelude.{◌≡◌, ◌<◌, ◌^◌, length, map, None};
+ghost use Rattle.std.specs.Prelude.{◌≡◌, ◌<◌, ◌^◌, length, None};
 ghost use Rattle.event_schema.specs.Schemas.{IsSchema};
-ghost use Rattle.sig_base.specs.Judged.{first};
 ghost use Rattle.rule_model.specs.Plain.{PlainRule};
 ghost use Rattle.rule_model.specs.Whole.{IsWhole};
-ghost use Rattle.rule_schema.specs.Inferred.{fit_refusal, inferred_schema, items_of, keyword_line, rule_names, schema_refusal};
-
-/// Under the schema that is made of a rule, its first keyword alone is refused: each name is a field there.
-pub fn keywords_alone()
-    ensures { (rule : PlainRule) → fit_refusal (inferred_schema rule) rule ≡ first (map keyword_line (items_of rule.detections)) }
-{}
+ghost use Rattle.rule_schema.specs.Inferred.{inferred_schema, rule_names, schema_refusal};
 
 /// The schema that is made of a whole rule keeps what every schema keeps, where no names clash and they can be numbered.
 pub fn inferred_schemas()

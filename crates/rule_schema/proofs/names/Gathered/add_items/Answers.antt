@@ -1,4 +1,4 @@
-use Rattle.rule_schema.specs.Gathered.{item_uses}
+use Rattle.rule_schema.specs.Inferred.{item_uses}
 use Rattle.rule_schema.proofs.Gathering.{turn, stop, gathers_on}
 use Rattle.rule_schema.proofs.names.Gathered.add_items.Goals as goal
 
