@@ -10,7 +10,7 @@ returns-in-Err g c =
     unfit_made g.B.Lacking.missing g.B.Backend.text g.B.Backend.too_deep c.args.limits.now (rule_view c.args.rule.now) c.in_ok-schema.schema
     (λ (bytes : List ℕ). bytes ≡ query_of g.B.Backend.text None (rule_view c.args.rule.now)) c.in-Err.unfit c.in_ok-schema.ensures.made c.in-Err.ensures
 
-pub returns-in-Ok : goal.returns-in-Ok
-returns-in-Ok g c =
+pub returns : goal.returns
+returns g c =
     written_made g.B.Lacking.missing g.B.Backend.text g.B.Backend.too_deep c.args.limits.now (rule_view c.args.rule.now) c.in_ok-schema.schema c.write_rule.result
     c.in_ok-schema.ensures.made c.in-Ok.ensures.0 c.write_rule.ensures
