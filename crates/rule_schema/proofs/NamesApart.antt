@@ -106,12 +106,12 @@ distinct_legal : (ns : List (List ℕ)) → EachOf IsName ns → EachOf IsName (
 distinct_legal [] s = tt
 distinct_legal (n ∷ ns) s = (s.0, filter_legal (λ other. not (bytes_eq other n)) (distinct ns) (distinct_legal ns s.1))
 
-rule_legal : (rule : PlainRule) → IsWhole rule → EachOf IsName (rule_names rule)
+pub rule_legal : (rule : PlainRule) → IsWhole rule → EachOf IsName (rule_names rule)
 rule_legal rule w = distinct_legal (use_names (uses_of (items_of rule.detections))) (items_legal (items_of rule.detections) (detections_whole rule.detections w.detections))
 
 -- ---- apart
 
-rule_apart : (rule : PlainRule) → schema_refusal rule ≡ None → AreApart (rule_names rule)
+pub rule_apart : (rule : PlainRule) → schema_refusal rule ≡ None → AreApart (rule_names rule)
 rule_apart rule e = by (gathered [] us) refl where
   us : List Use
   us = uses_of (items_of rule.detections)
@@ -122,18 +122,18 @@ rule_apart rule e = by (gathered [] us) refl where
 
 -- ---- schemas
 
-fields_kept : (uses : List Use) (names : List (List ℕ)) → EachOf IsName names → EachOf IsField (map (made_field uses) names)
+pub fields_kept : (uses : List Use) (names : List (List ℕ)) → EachOf IsName names → EachOf IsField (map (made_field uses) names)
 fields_kept uses [] each = tt
 fields_kept uses (name ∷ names) each = (record { name = each.0; at = tt; search = λ e. absurd (false_true e); cased = λ e. absurd (false_true e) }, fields_kept uses names each.1) where
   false_true : false ≡ true → ⊥
   false_true e = cc
 
-own_names : (uses : List Use) (names : List (List ℕ)) → names_of (map (made_field uses) names) ≡ names
+pub own_names : (uses : List Use) (names : List (List ℕ)) → names_of (map (made_field uses) names) ≡ names
 own_names uses [] = refl
 own_names uses (name ∷ names) = ap (λ (ns : List (List ℕ)). name ∷ ns) (own_names uses names)
 
 -- no field that is made of a name has a twin
-no_twins : (uses : List Use) (all names : List (List ℕ)) → EachOf (λ field. field.cased ≡ true → IsOther (twin field.name) all) (map (made_field uses) names)
+pub no_twins : (uses : List Use) (all names : List (List ℕ)) → EachOf (λ field. field.cased ≡ true → IsOther (twin field.name) all) (map (made_field uses) names)
 no_twins uses all [] = tt
 no_twins uses all (name ∷ names) = ((λ e. absurd (false_true e)), no_twins uses all names) where
   false_true : false ≡ true → ⊥
