@@ -1,4 +1,4 @@
-//! Rules with values that are encoded, with dashes, and with networks.
+//! Rules with values that are encoded, with dashes, with networks, and that are compared with numbers and with other fields.
 
 use crate::tests::{Ran, check, run_over, still};
 use sig_base::Limits;
@@ -43,7 +43,16 @@ A|cidr: 192.168.0.0/14~0~"A" LIKE '192.168.%' ESCAPE '\' OR "A" LIKE '192.169.%'
 A|cidr: 10.0.0.1/32~0~"A" = '10.0.0.1' COLLATE NOCASE
 A|cidr: 10.0.0.0/33~1~6:13: 44 BadNetwork
 A|cidr: ::1/128~1~6:13: 44 BadNetwork
-A|contains|cidr: 10.0.0.0/8~1~6:5: 41 ChainNotAllowed"#;
+A|contains|cidr: 10.0.0.0/8~1~6:5: 41 ChainNotAllowed
+Code|gt: 5~0~"Code" > 5
+Code|lt: [0, 7]~0~"Code" < 0 OR "Code" < 7
+Code|lte: -3~0~"Code" <= -3
+Code|gte: -9223372036854775807~0~"Code" >= -9223372036854775807
+Code|gt: x~1~6:14: 42 ValueNotAllowed
+Code|gt: -9223372036854775808~1~6:14: 45 NumberRange
+Code|contains|gt: 5~1~6:5: 41 ChainNotAllowed
+Parent|fieldref: Image~0~"Parent" = "Image" COLLATE NOCASE
+Parent|fieldref: parent~1~6:5: 80 KindConflict"#;
 
 #[test]
 fn items_are_converted(rt: HostRuntime) -> Result<(), Fail> {
@@ -65,6 +74,81 @@ fn items_are_converted(rt: HostRuntime) -> Result<(), Fail> {
             check(&rt, &ran, 1, "", diagnostic.as_str());
         }
     }
+    Ok(())
+}
+
+/// An item, and the query of Lucene or the diagnostic.
+const LUCENE_ROWS: &str = r"Code|gt: 5~Code:{5 TO *]
+Code|lt: 0~Code:[* TO 0}
+Code|lte: -3~Code:[* TO -3]
+Code|gte: [1, 7]~Code:[1 TO *] OR Code:[7 TO *]
+Parent|fieldref: Image~r.yml:6:5: 111 Lacks FieldRef";
+
+#[test]
+fn items_are_converted_to_lucene(rt: HostRuntime) -> Result<(), Fail> {
+    let alloc = rt.alloc();
+    for row in LUCENE_ROWS.lines() {
+        let Some((line, want)) = row.split_once('~') else {
+            panic!(rt; "{row}");
+        };
+        let rule = rule_of(alloc, line)?;
+        let ran = converted(alloc, &TO_LUCENE, rule.as_str())?;
+        let want = format!(in alloc; "{want}\n")?;
+        if ran.status.code() == 0 {
+            check(&rt, &ran, 0, want.as_str(), "");
+        } else {
+            check(&rt, &ran, 1, "", want.as_str());
+        }
+    }
+    Ok(())
+}
+
+/// Two items, and the diagnostic: a field of two kinds, and a text that is compared with a number.
+const CLASHES: &str =
+    "A|gt: 1~A|cidr: 10.0.0.0/8~80 KindConflict\nA|gt: 1~B|fieldref: A~82 KindMismatch";
+
+#[test]
+fn kinds_clash(rt: HostRuntime) -> Result<(), Fail> {
+    let alloc = rt.alloc();
+    for row in CLASHES.lines() {
+        let Some((first, rest)) = row.split_once('~') else {
+            panic!(rt; "{row}");
+        };
+        let Some((second, want)) = rest.split_once('~') else {
+            panic!(rt; "{row}");
+        };
+        let both = format!(in alloc; "{first}\n    {second}")?;
+        let rule = rule_of(alloc, both.as_str())?;
+        let ran = converted(alloc, &TO_SQLITE, rule.as_str())?;
+        let diagnostic = format!(in alloc; "r.yml:7:5: {want}\n")?;
+        check(&rt, &ran, 1, "", diagnostic.as_str());
+    }
+    Ok(())
+}
+
+/// Under `not` each column has to have a value where a test of it is to hold.
+#[test]
+fn comparisons_are_negated(rt: HostRuntime) -> Result<(), Fail> {
+    let alloc = rt.alloc();
+    let head = "title: T\nlogsource:\n  category: c\ndetection:\n  s:\n    ";
+    let rule = format!(in alloc; "{head}Code|gt: 5\n  condition: not s\n")?;
+    let ran = converted(alloc, &TO_SQLITE, rule.as_str())?;
+    check(
+        &rt,
+        &ran,
+        0,
+        "SELECT * FROM \"events\" WHERE NOT (\"Code\" IS NOT NULL AND \"Code\" > 5)\n",
+        "",
+    );
+    let rule = format!(in alloc; "{head}Parent|fieldref: Image\n  condition: not s\n")?;
+    let ran = converted(alloc, &TO_SQLITE, rule.as_str())?;
+    check(
+        &rt,
+        &ran,
+        0,
+        "SELECT * FROM \"events\" WHERE NOT (\"Parent\" IS NOT NULL AND \"Image\" IS NOT NULL AND \"Parent\" = \"Image\" COLLATE NOCASE)\n",
+        "",
+    );
     Ok(())
 }
 

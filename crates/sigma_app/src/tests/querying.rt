@@ -6,7 +6,7 @@ use std::alloc::Global;
 use std::test::Fail;
 
 const SCHEMA: &str =
-    r#"{"fields":[{"name":"Image","kind":"text","cased":true},{"name":"Id","kind":"whole"},{"name":"Tags","kind":"text","many":true}]}"#;
+    r#"{"fields":[{"name":"Image","kind":"text","cased":true},{"name":"Id","kind":"whole"},{"name":"Tags","kind":"text","many":true},{"name":"Parent","kind":"text"}]}"#;
 
 const SQLITE: [&str; 5] = ["query", "--backend=sqlite", "--schema", "s.json", "q"];
 
@@ -289,12 +289,12 @@ fn bytes_are_no_queries(rt: HostRuntime) -> Result<(), Fail> {
 }
 
 /// Events with several values, without a value and with null; the second has two values in a field that has one.
-const MIXED: &str = r#"{"n":1,"Image":"CMD.exe","Id":4624,"Tags":["a","B"]}
+const MIXED: &str = r#"{"n":1,"Image":"CMD.exe","Id":4624,"Tags":["a","B"],"Parent":"cmd.EXE"}
 {"n":2,"Image":["cmd.exe","x"]}
 {"n":3,"Image":null,"Tags":[]}
 {"n":4}
 {"n":5,"Image":"","Id":"7","Tags":"b"}
-{"n":6,"Image":"C:\\x%_*","Id":8}
+{"n":6,"Image":"C:\\x%_*","Id":8,"Parent":"8"}
 "#;
 
 /// What `convert` writes of a rule by these words.
@@ -360,13 +360,21 @@ x----x {x: {Image|cased|startswith: C}, condition: x}
 x-xx-x {x: {Image: ''}, condition: not x}
 ----xx {x: {Id: [7, 8, seven]}, condition: x}
 x-xx-- {x: {Id: 7}, y: {Id: 8}, condition: not (x or y)}
-x---xx {x: {Id|exists: true}, condition: x}"#;
+x---xx {x: {Id|exists: true}, condition: x}
+x----- {x: {Id|gt: 8}, condition: x}
+----xx {x: {Id|lte: 8}, condition: x}
+x-xx-x {x: {Id|lt: 8}, condition: not x}
+--xxx- {x: {Id|gte: [8, 4624]}, condition: not x}"#;
     let wrong = first_unlike(rt.alloc(), &TO_SQLITE, &SQLITE, both)?;
     assert_eq!(rt; wrong.as_str(), "");
     let wrong = first_unlike(rt.alloc(), &TO_LUCENE, &LUCENE, both)?;
     assert_eq!(rt; wrong.as_str(), "");
     let decimals = r"x----- {x: {Id|startswith: 46}, condition: x}
---xxxx {x: {Id|contains: 62}, condition: not x}";
+--xxxx {x: {Id|contains: 62}, condition: not x}
+x----- {x: {Parent|fieldref: Image}, condition: x}
+--xxxx {x: {Parent|fieldref: Image}, condition: not x}
+x---xx {x: {Id|fieldref: Id}, condition: x}
+--xx-- {x: {Image|fieldref: Image}, condition: not x}";
     let wrong = first_unlike(rt.alloc(), &TO_SQLITE, &SQLITE, decimals)?;
     assert_eq!(rt; wrong.as_str(), "");
     let many = r#"x---x- {x: {Tags: b}, condition: x}
