@@ -227,9 +227,11 @@ neither_is a b none also = rw (none, also) refl
 pub fits_alone : (limits : Limits) (bytes : List ℕ) (rule : Rule) (schema : Schema)
     → IsBare (IsSingleRule limits bytes) rule → (schema_refusal (rule_view rule) ≡ None) × (schema ≡ inferred_schema (rule_view rule))
     → fit_refusal schema (rule_view rule) ≡ None → IsBare (IsRun limits None bytes) rule
-fits_alone limits bytes rule schema (rest, single) made fits =
-    (rest, record {
-      single = single;
-      fits = neither_is (schema_refusal (rule_view rule)) (fit_refusal (inferred_schema (rule_view rule)) (rule_view rule)) made.0
-      (subst (λ (s : Schema). fit_refusal s (rule_view rule) ≡ None) made.1 fits);
-    })
+fits_alone limits bytes rule schema (rest, single) made fits = (
+  rest,
+  record {
+    single = single;
+    fits = neither_is (schema_refusal (rule_view rule)) (fit_refusal (inferred_schema (rule_view rule)) (rule_view rule)) made.0
+        (subst (λ (s : Schema). fit_refusal s (rule_view rule) ≡ None) made.1 fits);
+  },
+)

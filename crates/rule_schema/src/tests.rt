@@ -1,8 +1,8 @@
 //! Rules of one detection, whose items are each an alternative on a line of its own; what is wanted is reckoned by hand.
 
-use crate::{fit_schema, infer_schema};
+use crate::{fit_indexed, fit_schema, infer_schema};
 use event_schema::{Field, FieldKind, Schema};
-use modifier_chains::Joined;
+use modifier_chains::{Joined, Op};
 use rule_head::{Head, LogSource};
 use rule_items::{Alternative, Alternatives, Detection, Detections, Fields, Item, Values};
 use rule_model::Rule;
@@ -26,23 +26,42 @@ fn texts(alloc: Global, first: &str, second: &str) -> Result<Texts, Fail> {
     Ok(all)
 }
 
-/// No values, or one that asks for an address.
-fn values(alloc: Global, asks: bool) -> Result<Values, Fail> {
-    let mut values = Values::new(alloc);
-    if asks {
-        let mut tests = Tests::new(alloc);
-        tests.push(Test::Exists(true))?;
-        tests.push(Test::Inside(Network::read("10.0.0.0/8", TOP)?))?;
-        values.push(tests)?;
+/// What an item's tests ask, by the sign before its first name, and the name that they compare with behind a `=`.
+fn tests(alloc: Global, sign: Option<char>, other: Option<&str>) -> Result<Tests, Fail> {
+    let mut tests = Tests::new(alloc);
+    tests.push(Test::Exists(true))?;
+    if sign == Some('#') || sign == Some('!') {
+        tests.push(Test::Compare {
+            op: Op::Gt,
+            number: 1,
+        })?;
     }
-    Ok(values)
+    if sign == Some('@') || sign == Some('!') {
+        tests.push(Test::Inside(Network::read("10.0.0.0/8", TOP)?))?;
+    }
+    if let Some(other) = other {
+        tests.push(Test::SameAs(Text::copy(alloc, other)?))?;
+    }
+    Ok(tests)
 }
 
-/// An item over these names, or a keyword where there is none; it asks for an address where `@` stands before the first.
+/// The name behind a sign.
+fn unsigned(written: &str) -> (Option<char>, &str) {
+    for sign in ['@', '#', '!'] {
+        if let Some(name) = written.strip_prefix(sign) {
+            return (Some(sign), name);
+        }
+    }
+    (None, written)
+}
+
+/// An item over these names, or a keyword where there is none. It asks for an address where `@` stands before the first, for a
+/// number where `#` does, for both where `!` does, and compares with the name behind a `=`.
 fn item(alloc: Global, line: u32, written: &str, second: &str) -> Result<Item, Fail> {
-    let (asks, first) = match written.strip_prefix('@') {
-        Some(rest) => (true, rest),
-        None => (false, written),
+    let (sign, named) = unsigned(written);
+    let (first, other) = match named.split_once('=') {
+        Some((first, other)) => (first, Some(other)),
+        None => (named, None),
     };
     let names = texts(alloc, first, second)?;
     let fields = if first == "" {
@@ -50,23 +69,23 @@ fn item(alloc: Global, line: u32, written: &str, second: &str) -> Result<Item, F
     } else {
         Fields::Names(names)
     };
+    let mut values = Values::new(alloc);
+    values.push(tests(alloc, sign, other)?)?;
     Ok(Item {
         fields,
-        tests: values(alloc, asks)?,
+        tests: values,
         joined: Joined::Any,
         place: Place { line, column: 1 },
     })
 }
 
-fn rule(alloc: Global, items: &[(&str, &str)]) -> Result<Rule, Fail> {
-    let mut alternatives = Alternatives::new(alloc);
-    let mut line = 1u32;
-    for (first, second) in items {
-        let mut alternative = Alternative::new(alloc);
-        alternative.push(item(alloc, line, first, second)?)?;
-        alternatives.push(alternative)?;
-        line = line.saturating_add(1);
-    }
+fn alternative(alloc: Global, line: u32, first: &str, second: &str) -> Result<Alternative, Fail> {
+    let mut alternative = Alternative::new(alloc);
+    alternative.push(item(alloc, line, first, second)?)?;
+    Ok(alternative)
+}
+
+fn rule_of(alloc: Global, alternatives: Alternatives) -> Result<Rule, Fail> {
     let mut detections = Detections::new(alloc);
     detections.push(Detection {
         name: Text::copy(alloc, "s")?,
@@ -91,16 +110,37 @@ fn rule(alloc: Global, items: &[(&str, &str)]) -> Result<Rule, Fail> {
     })
 }
 
+fn rule(alloc: Global, items: &[(&str, &str)]) -> Result<Rule, Fail> {
+    let mut alternatives = Alternatives::new(alloc);
+    let mut line = 1u32;
+    for (first, second) in items {
+        alternatives.push(alternative(alloc, line, first, second)?)?;
+        line = line.saturating_add(1);
+    }
+    rule_of(alloc, alternatives)
+}
+
+/// Items over `f0` to `f69`, each on a line of its own, and this one behind them.
+fn long_rule(alloc: Global, last: &str) -> Result<Rule, Fail> {
+    let mut alternatives = Alternatives::new(alloc);
+    for number in 0..70u32 {
+        let name = format!(in alloc; "f{number}")?;
+        alternatives.push(alternative(alloc, number, name.as_str(), "")?)?;
+    }
+    alternatives.push(alternative(alloc, 70, last, "")?)?;
+    rule_of(alloc, alternatives)
+}
+
 fn told(alloc: Global, refusal: &Refusal) -> Result<String, Fail> {
     let code = refusal.code.number();
     let line = refusal.place.line;
     Ok(format!(in alloc; "{code} {line}")?)
 }
 
-/// The table and the fields of the schema that is made of a rule, with `@` before those of addresses, or what refuses it.
-fn inferred(alloc: Global, items: &[(&str, &str)]) -> Result<String, Fail> {
-    let rule = rule(alloc, items)?;
-    match infer_schema(alloc, &rule) {
+/// The table and the fields of the schema that is made of a rule, with `@` before those of addresses and `#` before those of
+/// whole numbers, or what refuses it.
+fn made(alloc: Global, rule: &Rule) -> Result<String, Fail> {
+    match infer_schema(alloc, rule) {
         Ok(schema) => {
             let mut shown = String::from_str(alloc, schema.table.as_str())?;
             for field in schema.fields.as_slice() {
@@ -116,6 +156,10 @@ fn inferred(alloc: Global, items: &[(&str, &str)]) -> Result<String, Fail> {
         Err(Fault::Memory) => Ok(String::from_str(alloc, "memory")?),
         Err(Fault::Refused(refusal)) => told(alloc, &refusal),
     }
+}
+
+fn inferred(alloc: Global, items: &[(&str, &str)]) -> Result<String, Fail> {
+    made(alloc, &rule(alloc, items)?)
 }
 
 #[test]
@@ -136,32 +180,97 @@ fn names_stand_once_unless_they_clash(rt: HostRuntime) -> Result<(), Fail> {
     Ok(())
 }
 
-/// What refuses a rule under a schema of the fields `a` and `b`, both of which keywords search, or none, and `ip` of addresses.
-fn misfit(alloc: Global, search: bool, items: &[(&str, &str)]) -> Result<String, Fail> {
+#[test]
+fn uses_ask_for_kinds(rt: HostRuntime) -> Result<(), Fail> {
+    for (items, want) in [
+        ([("#a", ""), ("b", "a")].as_slice(), "events #a b"),
+        ([("a=b", ""), ("#b", "")].as_slice(), "events a #b"),
+        ([("#a=b", "c")].as_slice(), "events #a #c b"),
+        ([("#a", ""), ("@a", "")].as_slice(), "80 2"),
+        ([("@a", ""), ("b", ""), ("#a", "")].as_slice(), "80 3"),
+        ([("#A", ""), ("@a", "")].as_slice(), "80 2"),
+        ([("b", ""), ("!a", "")].as_slice(), "80 2"),
+        ([("a", ""), ("b=A", "")].as_slice(), "80 2"),
+    ] {
+        assert_eq!(rt; inferred(rt.alloc(), items)?.as_str(), want);
+    }
+    Ok(())
+}
+
+fn long(alloc: Global, last: &str) -> Result<String, Fail> {
+    made(alloc, &long_rule(alloc, last)?)
+}
+
+#[test]
+fn many_names_are_indexed(rt: HostRuntime) -> Result<(), Fail> {
+    for (last, want) in [("F69", "80 70"), ("f0=F69", "80 70"), ("!f7", "80 70")] {
+        assert_eq!(rt; long(rt.alloc(), last)?.as_str(), want);
+    }
+    assert!(rt; long(rt.alloc(), "@f69")?.as_str().ends_with(" f68 @f69"));
+    assert!(rt;
+        long(rt.alloc(), "#f69=f70")?
+            .as_str()
+            .ends_with(" f68 #f69 f70")
+    );
+    Ok(())
+}
+
+fn field(alloc: Global, name: &str, kind: FieldKind, search: bool) -> Result<Field, Fail> {
+    Ok(Field {
+        name: Text::copy(alloc, name)?,
+        kind,
+        at: texts(alloc, name, "")?,
+        search,
+        cased: false,
+        many: false,
+    })
+}
+
+/// The fields `a` and `b`, both of which keywords search, or none, `ip` of addresses, and `n` and `m` of whole numbers, behind so
+/// many others.
+fn schema(alloc: Global, search: bool, others: u32) -> Result<Schema, Fail> {
     let mut fields = event_schema::FieldList::new(alloc);
+    for number in 0..others {
+        let name = format!(in alloc; "f{number}")?;
+        fields.push(field(alloc, name.as_str(), FieldKind::Text, false)?)?;
+    }
     for (name, kind) in [
         ("a", FieldKind::Text),
         ("b", FieldKind::Text),
         ("ip", FieldKind::Address),
+        ("n", FieldKind::Whole),
+        ("m", FieldKind::Whole),
     ] {
-        fields.push(Field {
-            name: Text::copy(alloc, name)?,
-            kind,
-            at: texts(alloc, name, "")?,
-            search: search && name != "ip",
-            cased: false,
-            many: false,
-        })?;
+        fields.push(field(alloc, name, kind, search && name.len() == 1)?)?;
     }
-    let schema = Schema {
+    Ok(Schema {
         table: Text::copy(alloc, "events")?,
         fields,
         time: None,
-    };
-    match fit_schema(&rule(alloc, items)?, &schema) {
+    })
+}
+
+/// What is answered with an index.
+fn indexed(alloc: Global, rule: &Rule, schema: &Schema) -> Result<String, Fail> {
+    match fit_indexed(alloc, rule, schema) {
         Ok(()) => Ok(String::new(alloc)),
-        Err(refusal) => told(alloc, &refusal),
+        Err(Fault::Memory) => Ok(String::from_str(alloc, "memory")?),
+        Err(Fault::Refused(refusal)) => told(alloc, &refusal),
     }
+}
+
+/// What refuses a rule under such a schema, without an index and with one.
+fn misfit(alloc: Global, search: bool, items: &[(&str, &str)]) -> Result<String, Fail> {
+    let rule = rule(alloc, items)?;
+    let many = indexed(alloc, &rule, &schema(alloc, search, 40)?)?;
+    let few = match fit_schema(&rule, &schema(alloc, search, 0)?) {
+        Ok(()) => String::new(alloc),
+        Err(refusal) => told(alloc, &refusal)?,
+    };
+    if many.as_str() != few.as_str() {
+        return Ok(String::from_str(alloc, "two answers")?);
+    }
+    Ok(few)
 }
 
 #[test]
@@ -183,6 +292,45 @@ fn the_first_item_that_does_not_fit_is_refused(rt: HostRuntime) -> Result<(), Fa
         (false, [("@a", ""), ("", "")].as_slice(), "82 1"),
     ] {
         assert_eq!(rt; misfit(rt.alloc(), search, items)?.as_str(), want);
+    }
+    Ok(())
+}
+
+#[test]
+fn fields_are_of_the_kinds_that_tests_ask_for(rt: HostRuntime) -> Result<(), Fail> {
+    for (items, want) in [
+        ([("a=b", ""), ("a=c", "")].as_slice(), "81 2"),
+        ([("#n", "m"), ("#a", "")].as_slice(), "82 2"),
+        ([("@n", "")].as_slice(), "82 1"),
+        ([("n=m", ""), ("a=ip", "b")].as_slice(), ""),
+        ([("#n=m", ""), ("n=a", "")].as_slice(), "82 2"),
+        ([("a=n", "")].as_slice(), "82 1"),
+        ([("n=m", "a")].as_slice(), "82 1"),
+        ([("n", "a")].as_slice(), ""),
+    ] {
+        assert_eq!(rt; misfit(rt.alloc(), false, items)?.as_str(), want);
+    }
+    Ok(())
+}
+
+/// What refuses a rule under the schema that is made of it.
+fn own_misfit(alloc: Global, items: &[(&str, &str)]) -> Result<String, Fail> {
+    let rule = rule(alloc, items)?;
+    match infer_schema(alloc, &rule) {
+        Ok(schema) => indexed(alloc, &rule, &schema),
+        Err(_) => Ok(String::from_str(alloc, "no schema")?),
+    }
+}
+
+#[test]
+fn a_rule_may_not_fit_its_own_schema(rt: HostRuntime) -> Result<(), Fail> {
+    for (items, want) in [
+        ([("#a", ""), ("b=a", "")].as_slice(), "82 2"),
+        ([("b=a", ""), ("#a", ""), ("#b", "")].as_slice(), ""),
+        ([("@a", ""), ("b=a", "")].as_slice(), ""),
+        ([("a", ""), ("", "")].as_slice(), "83 2"),
+    ] {
+        assert_eq!(rt; own_misfit(rt.alloc(), items)?.as_str(), want);
     }
     Ok(())
 }

@@ -26,6 +26,7 @@ returns-in-Err-fit_indexed c =
     c.in-Ok.ensures c.in-Ok-infer_schema.ensures.made c.in-Err-fit_indexed.ensures
 
 pub returns-in-Ok-fit_indexed : goal.returns-in-Ok-fit_indexed
-returns-in-Ok-fit_indexed c =
-    (fits_alone c.args.limits.now c.args.bytes.now c.in-Ok.rule c.in-Ok-infer_schema.schema c.in-Ok.ensures c.in-Ok-infer_schema.ensures.made c.in-Ok-fit_indexed.ensures.0,
-    c.in-Ok-infer_schema.ensures.made.1)
+returns-in-Ok-fit_indexed c = (
+  fits_alone c.args.limits.now c.args.bytes.now c.in-Ok.rule c.in-Ok-infer_schema.schema c.in-Ok.ensures c.in-Ok-infer_schema.ensures.made c.in-Ok-fit_indexed.ensures.0,
+  c.in-Ok-infer_schema.ensures.made.1,
+)
