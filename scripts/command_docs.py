@@ -23,7 +23,7 @@ COMMANDS = {
 FILES = {"check": "RULE", "convert": "RULE", "run": "RULE", "query": "QUERY"}
 OPTIONS = {
     "backend": ("B", "the query language: sqlite or lucene"),
-    "schema": ("F", "the fields of events, as JSON; without it every name of a rule is a field of one text"),
+    "schema": ("F", "the fields of events, as JSON; without it every name of a rule is a field of one value, of the kind that its tests ask for"),
 }
 EXIT = [
     ("0", "All was read, and nothing was refused."),

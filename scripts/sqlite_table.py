@@ -5,17 +5,20 @@
     sqlite_table.py --check FILE [QUERIES.sql] [--schema SCHEMA.json] [--table NAME]
 
 EVENTS.jsonl has a JSON object on each line, QUERIES.sql a query on each line, as `sigma convert` writes them; `-` is the
-standard input. The table `events` gets a TEXT column with BINARY collation for each key of an event and each name of a
-query, and no index. A number becomes its text and a truth value `true` or `false`, a key inside an object is `outer.inner`,
-a list is its JSON text, null is no value. For each query the events that it selects are printed, each as its line of
-EVENTS.jsonl, or with --count their number. The table is made in memory, or in FILE, which must not be there yet.
+standard input. The table `events` gets a column for each key of an event and each name of a query, and no index: INTEGER
+where a query compares it by `<`, `<=`, `>` or `>=` with a number, and else TEXT with BINARY collation, where a number becomes
+its text and a truth value `true` or `false`. A key inside an object is `outer.inner`, a list is its JSON text, null is no
+value. A line in which an INTEGER column has no whole number is told and left out. For each query the events that it selects
+are printed, each as its line of EVENTS.jsonl, or with --count their number. The table is made in memory, or in FILE, which
+must not be there yet.
 
 With --schema the table has the schema's name and a column for each of its fields, filled from where the field stands in an
-event: INTEGER for `whole`, and else TEXT. A line in which such a field is no whole number is told and left out.
+event: INTEGER for `whole`, and else TEXT.
 
 --check names each column and index of a table (`events`, or the schema's) by which a query could select too little or too
-much: columns that aren't TEXT with BINARY collation (INTEGER where the schema says `whole`), indexes with a column that isn't
-COLLATE NOCASE, values of another kind, and columns that a query tests and the table lacks. The exit status is 1 where it
+much: columns that aren't TEXT with BINARY collation (INTEGER where the schema says `whole`, or without one where a query compares
+with a number), indexes with a column that isn't COLLATE NOCASE, values of another kind, and columns that a query tests and the
+table lacks. Without a schema a column that one query compares with numbers and another with texts is named by both uses. The exit status is 1 where it
 names something, where a line is left out, and where a query fails.
 
 It needs Python 3 with its `sqlite3` alone.
@@ -28,6 +31,8 @@ import sqlite3
 import sys
 
 QUOTED = re.compile(r"""'(?:[^']|'')*'|"((?:[^"]|"")*)\"""")
+# a name with the order that it's compared by with a number, or with the text that it's equal to
+TESTED = re.compile(r"""'(?:[^']|'')*'|"((?:[^"]|"")*)"(?:\s*(<=|>=|<(?!>)|>)\s*-?[0-9]|\s*(=)\s*')?""")
 
 
 def quoted(name):
@@ -49,6 +54,20 @@ def names_of(query):
     """The columns that a query names: what stands in double quotes, but for the table."""
     names = [match.group(1).replace('""', '"') for match in QUOTED.finditer(query) if match.group(1) is not None]
     return names[1:]
+
+
+def tested_in(queries, group):
+    """The folded names of columns that queries compare with numbers (group 2), or with texts (group 3)."""
+    found = [match for query in queries for match in TESTED.finditer(query) if match.group(1) is not None and match.group(group)]
+    return {folded(match.group(1).replace('""', '"')) for match in found}
+
+
+def wholes_in(queries):
+    """The columns of whole numbers where no schema says them; one that is compared with texts too is told."""
+    wholes = tested_in(queries, 2)
+    for name in sorted(wholes & tested_in(queries, 3)):
+        print(f"column {quoted(name)}: queries compare it with numbers and with texts; convert their rules under a schema", file=sys.stderr)
+    return wholes
 
 
 def flat(event, before=""):
@@ -130,7 +149,7 @@ def filled(database, table, columns, rows):
 
 
 def made(database, lines, queries):
-    """Makes the table of all keys and of all names in queries; the rowid's name."""
+    """Makes the table of all keys and of all names in queries; the rowid's name, and whether no line is left out."""
     events = [list(flat(json.loads(line))) for line in lines]
     columns = {}
     for name in [name for event in events for name, _ in event] + [name for query in queries for name in names_of(query)]:
@@ -138,13 +157,18 @@ def made(database, lines, queries):
     if not columns:
         sys.exit("no event has a key, and no query a column")
     places = {name: place for place, name in enumerate(columns)}
-    rows = []
-    for event in events:
+    wholes, rows, good = wholes_in(queries), [], True
+    for number, event in enumerate(events, 1):
         row = [None] * len(columns)
-        for name, value in event:
-            row[places[folded(name)]] = text_of(value)
+        try:
+            for name, value in event:
+                row[places[folded(name)]] = whole_of(name, value) if folded(name) in wholes else text_of(value)
+        except NoWhole as why:
+            print(f"line {number}: {why}", file=sys.stderr)
+            row, good = None, False
         rows.append(row)
-    return filled(database, "events", [(name, "TEXT COLLATE BINARY") for name in columns.values()], rows)
+    kinds = [(name, "INTEGER" if key in wholes else "TEXT COLLATE BINARY") for key, name in columns.items()]
+    return filled(database, "events", kinds, rows), good
 
 
 def ran(database, lines, queries, count, number_of_row):
@@ -224,7 +248,7 @@ def checked(path, table, queries, fields):
     names = {folded(column[1]) for column in database.execute(f"PRAGMA table_info({quoted(table)})")}
     lacking = {folded(name): name for query in queries for name in names_of(query) if folded(name) not in names}
     faults = [f"column {quoted(name)}: the table lacks it, and SQLite takes its name for a text" for name in lacking.values()]
-    wholes = {folded(name) for name, _, is_whole in fields if is_whole}
+    wholes = {folded(name) for name, _, is_whole in fields if is_whole} if fields else wholes_in(queries)
     faults += [f"column {quoted(name)}: the table lacks this field of the schema" for name, *_ in fields if folded(name) not in names]
     faults += list(column_faults(database, table, sql, wholes)) + list(index_faults(database, table))
     for fault in faults:
@@ -257,7 +281,7 @@ def main():
         kinds = [(name, "INTEGER" if is_whole else "TEXT COLLATE BINARY") for name, _, is_whole in fields]
         number_of_row = filled(database, table, kinds, rows)
     else:
-        number_of_row = made(database, lines, queries)
+        number_of_row, good = made(database, lines, queries)
     sys.exit(0 if ran(database, lines, queries, told.count, number_of_row) and good else 1)
 
 
