@@ -1,0 +1,1 @@
+SELECT * FROM "events" WHERE ("Image" LIKE '%\\wscript.exe' ESCAPE '\' OR "Image" LIKE '%\\cscript.exe' ESCAPE '\') AND "ParentImage" = "Image" COLLATE NOCASE AND NOT ("User" IS NOT NULL AND "ServiceAccount" IS NOT NULL AND "User" = "ServiceAccount" COLLATE NOCASE)
