@@ -1,10 +1,11 @@
 -- Whether a tree holds of an event's row: of each leaf the values of the fields that it looks at decide, and the rest is two-valued.
-use Rattle.std.specs.Prelude.{◌≡◌, ℤ, ◌≤ℤ◌, ◌<ℤ◌, List, ◌⊎◌, ⊤}
+use Rattle.std.specs.Prelude.{◌≡◌, ℤ, ◌≤ℤ◌, ◌<ℤ◌, true, List, ◌⊎◌, ⊤}
 use Rattle.std.specs.Fmt.{signed_decimal}
 use Rattle.event_schema.specs.Lists.{SomeOf, HasElement, HasNoElement}
 use Rattle.event_schema.specs.Rows.{field_values, value_text}
 use Rattle.event_schema.specs.declared.value.Value.{Value}
 use Rattle.event_schema.specs.declared.value.Value.TheVariants.{Text, Whole}
+use Rattle.languages.specs.Patterns.{finds}
 use Rattle.sig_base.specs.Folding.{folded}
 use Rattle.sig_strings.specs.Fits.{Fits}
 use Rattle.backend_core.specs.declared.tree.LeafTest.{LeafTest}
@@ -30,7 +31,7 @@ abbrev pub AreSame : Value → Value → Type 0
 AreSame v w = folded (value_text v) ≡ folded (value_text w)
 
 -- What a test says of a field's values in a row: whether there is one, whether the pattern fits some value, some value is the number or
--- stands so to it, or some value is the same as some value of another field.
+-- stands so to it, some value is the same as some value of another field, or the regular expression has a match in some value.
 abbrev pub TestHolds : List (List Value) → LeafTest → List Value → Type 0
 TestHolds row tests.Has values = HasElement values
 TestHolds row tests.Absent values = HasNoElement values
@@ -38,6 +39,7 @@ TestHolds row (tests.Fits pattern cased) values = SomeOf (λ value. Fits pattern
 TestHolds row (tests.Equals n) values = SomeOf (λ value. value_text value ≡ signed_decimal n) values
 TestHolds row (tests.Compare op n) values = SomeOf (ValueStands op n) values
 TestHolds row (tests.SameAs other) values = SomeOf (λ value. SomeOf (AreSame value) (field_values row other)) values
+TestHolds row (tests.Finds expression) values = SomeOf (λ value. finds expression (value_text value) ≡ true) values
 
 -- an all where each of its parts holds, an any where one of them does, a negated tree where its part doesn't, and one never
 module _ (row : List (List Value)) where

@@ -10,15 +10,17 @@ use Rattle.backend_core.specs.Trees.{Plain, all, any, negated, leaf, never, Plai
 
 abbrev pub lack_name : Lack → List ℕ
 lack_name lack.Many = codes "Many"
+lack_name lack.Regex = codes "Regex"
 lack_name lack.FieldRef = codes "FieldRef"
 lack_name lack.Cased = codes "Cased"
 lack_name lack.WholePattern = codes "WholePattern"
 lack_name lack.EmptyText = codes "EmptyText"
 
--- Where a backend lacks several of these for a leaf, the first in this order is told: a comparison of two fields, letters by their case, a
--- pattern of numbers, and the empty text; a field of several values is before them, which no backend lacks beside another.
+-- Where a backend lacks several of these for a leaf, the first in this order is told: a field of several values, a regular expression, a
+-- comparison of two fields, letters by their case, a pattern of numbers, and the empty text.
 pub record Asks : Type 0 where
   pub many : Bool
+  pub regex : Bool
   pub field_ref : Bool
   pub cased : Bool
   pub whole_pattern : Bool
@@ -27,6 +29,7 @@ pub record Asks : Type 0 where
 abbrev pub first_lack : Asks → Option Lack
 first_lack asks =
     if asks.many then Some lack.Many
+    else if asks.regex then Some lack.Regex
     else if asks.field_ref then Some lack.FieldRef
     else if asks.cased then Some lack.Cased
     else if asks.whole_pattern then Some lack.WholePattern

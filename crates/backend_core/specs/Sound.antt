@@ -1,11 +1,13 @@
 -- Trees that fit a schema and can be written: no field is missing, no list is needless, patterns are of characters other than
 -- U+0000, of single characters and of runs, and a field of whole numbers is compared with numbers and with fields of whole numbers
--- alone, by a pattern only where it has a wildcard.
+-- alone, by a pattern only where it has a wildcard. A regular expression, of a field of any kind, is one that the grammar reads, of
+-- characters other than U+0000.
 use Rattle.std.specs.Prelude.{ℕ, zero, suc, ◌≡◌, ◌<◌, ◌↔◌, true, List, [], ◌∷◌, length, ⊤}
 use Rattle.event_schema.specs.declared.schema.Field.{Field}
 use Rattle.event_schema.specs.declared.schema.FieldKind.{FieldKind}
 use Rattle.event_schema.specs.declared.schema.FieldKind.TheVariants as kinds
 use Rattle.event_schema.specs.Events.{IsPlainText, IsWholeNumber}
+use Rattle.languages.specs.Patterns.{is_pattern}
 use Rattle.sig_strings.specs.Edits.{all_written, has_wildcard, plain_text}
 use Rattle.sig_strings.specs.declared.part.Part.{Part}
 use Rattle.backend_core.specs.declared.tree.LeafTest.{LeafTest}
@@ -30,6 +32,7 @@ IsSoundTest fields kind (tests.Fits pattern cased) = IsSoundPattern pattern × (
 IsSoundTest fields kind (tests.Equals n) = (kind ≡ kinds.Whole) × IsWholeNumber n
 IsSoundTest fields kind (tests.Compare op n) = (kind ≡ kinds.Whole) × IsWholeNumber n
 IsSoundTest fields kind (tests.SameAs other) = (other < length fields) × ((kind ≡ kinds.Whole) ↔ (kind_at fields other ≡ kinds.Whole))
+IsSoundTest fields kind (tests.Finds expression) = (is_pattern expression ≡ true) × IsPlainText expression
 
 -- at least two parts
 abbrev pub AreTwo : Plains → Type 0

@@ -4,7 +4,7 @@ ghost use Rattle.std.specs.Prelude.{◌≡◌, IfOk, IfErr};
 ghost use Rattle.backend_core.specs.View.{tree_view};
 
 use crate::tree::{Leaf, LeafTest, Tree};
-use sig_base::Fault;
+use sig_base::{Fault, Text};
 use std::alloc::Global;
 
 impl LeafTest {
@@ -29,6 +29,10 @@ impl LeafTest {
                 number: *number,
             }),
             LeafTest::SameAs(other) => Ok(LeafTest::SameAs(*other)),
+            LeafTest::Finds(expression) => {
+                let expression = Text::copy(alloc, expression.as_str())?;
+                Ok(LeafTest::Finds(expression))
+            }
         }
     }
 }

@@ -19,6 +19,8 @@ use std::alloc::Global;
 pub enum Lack {
     /// a test of a field that may have several values
     Many,
+    /// a regular expression
+    Regex,
     /// a comparison of two fields
     FieldRef,
     /// a pattern by case, of a field whose texts' case isn't kept
@@ -36,6 +38,7 @@ impl Lack {
     {
         match self {
             Lack::Many => "Many",
+            Lack::Regex => "Regex",
             Lack::FieldRef => "FieldRef",
             Lack::Cased => "Cased",
             Lack::WholePattern => "WholePattern",

@@ -1,7 +1,7 @@
 //! Copies, once each.
 
 use crate::{Leaf, LeafTest, Op, Tree};
-use sig_base::{Limits, Place};
+use sig_base::{Limits, Place, Text};
 use sig_strings::{Pattern, SharedPattern};
 use std::test::Fail;
 
@@ -42,6 +42,11 @@ fn copies_are_the_same(rt: HostRuntime) -> Result<(), Fail> {
     parts.push(Tree::Leaf(Leaf {
         field: 6,
         test: LeafTest::SameAs(2),
+        place,
+    }))?;
+    parts.push(Tree::Leaf(Leaf {
+        field: 7,
+        test: LeafTest::Finds(Text::copy(alloc, "^[a-z]+'$")?),
         place,
     }))?;
     parts.push(Tree::Never)?;

@@ -1,6 +1,6 @@
 //! Trees of tests on the fields of a schema.
 
-use sig_base::Place;
+use sig_base::{Place, Text};
 use sig_strings::SharedPattern;
 
 /// All of some parts, any of them, not a part, one test, or what never holds.
@@ -37,6 +37,8 @@ pub enum LeafTest {
     Compare { op: Op, number: i64 },
     /// some value and some value of the field of this number have one text after folding
     SameAs(u32),
+    /// the regular expression of this text has a match somewhere in some value's text, or in a number's decimal
+    Finds(Text),
 }
 
 /// How a number stands to another.

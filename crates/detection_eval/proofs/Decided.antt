@@ -11,6 +11,7 @@ use Rattle.event_schema.specs.Rows.{value_text}
 use Rattle.event_schema.specs.declared.schema.Field.{Field}
 use Rattle.event_schema.specs.declared.value.Value.{Value}
 use Rattle.event_schema.specs.declared.value.Value.TheVariants as values
+use Rattle.languages.specs.Patterns.{finds}
 use Rattle.matching.proofs.SuffixLemmas.{SuffixHolds-here, SuffixHolds-more, SuffixHolds-split, SuffixHolds-nil}
 use Rattle.matching.specs.Steps.{is_dash}
 use Rattle.matching.specs.Suffixes.{SuffixHolds, CharThen}
@@ -34,6 +35,7 @@ use Rattle.detection_eval.proofs.Networks.{inside_decided}
 use Rattle.sig_strings.specs.Fits.{Fits, same_char}
 use Rattle.sig_strings.specs.declared.part.Part.{Part}
 use Rattle.sig_strings.specs.declared.part.Part.TheVariants.{Char, One, Run, Dash, Hole}
+use Rattle.value_patterns.specs.Expressions.{expression_text}
 
 -- it holds, or it doesn't
 abbrev pub Decided : Type 0 → Type 0
@@ -155,6 +157,7 @@ module _ (of_name : List ℕ → List Value) where
   holds own (tests.Compare op n) = some (ValueStands op n) (value_stands op n) own
   holds own (tests.SameAs name) =
       some (λ (value : Value). SomeOf (AreSame value) (of_name name)) (λ (value : Value). some (AreSame value) (are_same value) (of_name name)) own
+  holds own (tests.Finds text flags) = some _ (λ (value : Value). is_true (finds (expression_text flags text) (value_text value))) own
 
 -- ---- rules
 

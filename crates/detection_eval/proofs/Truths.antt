@@ -1,6 +1,7 @@
 -- The truth of each detection, set one by one.
-use Rattle.std.proofs.Common.{◌≡◌, ℕ, zero, suc, ◌+◌, ◌<◌, Bool, List, [], ◌∷◌, length, get_or, take, sym, subst, arith, add-one}
+use Rattle.std.proofs.Common.{◌≡◌, ℕ, zero, suc, ◌+◌, ◌<◌, Bool, List, [], ◌∷◌, ◌++◌, length, get_or, take, sym, ap, ◌∙◌, subst, arith, add-one}
 use Rattle.std.proofs.Math.ListN.{set}
+use Rattle.std.proofs.Math.Seq.{take-append_seam}
 use Rattle.std.specs.List.{AllZip}
 
 module _ {A : Type 0} (R : Bool → A → Type 0) (b : Bool) where
@@ -17,3 +18,7 @@ module _ {A : Type 0} (R : Bool → A → Type 0) (b : Bool) where
       → AllZip R (take i truths) (take i xs) → AllZip R (take (i + 1) (set truths i b)) (take (i + 1) xs)
   one_more truths xs i x long within is now before =
       subst (λ (k : ℕ). AllZip R (take k (set truths i b)) (take k xs)) (sym (add-one i)) (set_here truths xs i x long within is now before)
+
+-- what is written over all of a list is what it is then
+pub written_over : (n : ℕ) (new rest : List Bool) → length new ≡ n → take n (new ++ rest) ≡ new
+written_over n new rest e = ap (λ (k : ℕ). take k (new ++ rest)) (sym e) ∙ take-append_seam new rest

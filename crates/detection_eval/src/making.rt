@@ -1,9 +1,11 @@
-//! Detections whose names become numbers.
+//! Detections whose names and regular expressions become numbers.
 
 ghost use Rattle.std.specs.Prelude.{◌≡◌, map, option_and_then, IfOk, IfErr};
 ghost use Rattle.event_schema.specs.Rows.{field_number};
 ghost use Rattle.field_numbers.specs.Numbered.{AreNumbered};
+ghost use Rattle.sig_modifiers.specs.Expressions.{expression_of};
 ghost use Rattle.sig_modifiers.specs.References.{reference_of};
+ghost use Rattle.text_index.specs.Numbers.{first_number};
 ghost use Rattle.detection_eval.specs.Ready as spec;
 
 use crate::numbered::{
@@ -16,6 +18,7 @@ use rule_items::{Detection, Fields, Item};
 use sig_base::{Fault, Text};
 use sig_modifiers::{Test, Tests};
 use std::alloc::Global;
+use text_index::TextIndex;
 
 /// The number of each name's field.
 fn number_names(
@@ -65,34 +68,52 @@ fn number_reference(fields: &[Field], numbers: &FieldNumbers, test: &Test) -> Op
     }
 }
 
+/// The number of the regular expression that a test searches for.
+fn number_search(alloc: Global, texts: &TextIndex, test: &Test) -> Result<Option<u32>, Fault>
+    ensures ok { IfOk result (λ number. number ≡ option_and_then (first_number texts.now) (expression_of test.now)) }
+    ensures err { IfErr result (λ e. e ≡ Fault.Memory) }
+{
+    match test.expression(alloc)? {
+        Some(text) => Ok(texts.find(&text)),
+        None => Ok(None),
+    }
+}
+
 fn number_test(
     alloc: Global,
     fields: &[Field],
     numbers: &FieldNumbers,
+    texts: &TextIndex,
     test: &Test,
 ) -> Result<NumberedTest, Fault>
     requires { AreNumbered fields.now numbers.now }
-    ensures ok { IfOk result (λ t. t ≡ spec.numbered_test fields.now test.now) }
+    ensures ok { IfOk result (λ t. t ≡ spec.numbered_test fields.now texts.now test.now) }
     ensures err { IfErr result (λ e. e ≡ Fault.Memory) }
 {
     let other = number_reference(fields, numbers, test);
+    let search = number_search(alloc, texts, test)?;
     let test = test.copy(alloc)?;
-    Ok(NumberedTest { test, other })
+    Ok(NumberedTest {
+        test,
+        other,
+        search,
+    })
 }
 
 fn number_value(
     alloc: Global,
     fields: &[Field],
     numbers: &FieldNumbers,
+    texts: &TextIndex,
     tests: &[Test],
 ) -> Result<NumberedTests, Fault>
     requires { AreNumbered fields.now numbers.now }
-    ensures ok { IfOk result (λ all. all ≡ map (spec.numbered_test fields.now) tests.now) }
+    ensures ok { IfOk result (λ all. all ≡ map (spec.numbered_test fields.now texts.now) tests.now) }
     ensures err { IfErr result (λ e. e ≡ Fault.Memory) }
 {
     let mut all = NumberedTests::with_capacity(alloc, tests.len())?;
     for test in tests {
-        all.push(number_test(alloc, fields, numbers, test)?)?;
+        all.push(number_test(alloc, fields, numbers, texts, test)?)?;
     }
     Ok(all)
 }
@@ -101,15 +122,16 @@ fn number_values(
     alloc: Global,
     fields: &[Field],
     numbers: &FieldNumbers,
+    texts: &TextIndex,
     values: &[Tests],
 ) -> Result<NumberedValues, Fault>
     requires { AreNumbered fields.now numbers.now }
-    ensures ok { IfOk result (λ all. all ≡ map (map (spec.numbered_test fields.now)) values.now) }
+    ensures ok { IfOk result (λ all. all ≡ map (map (spec.numbered_test fields.now texts.now)) values.now) }
     ensures err { IfErr result (λ e. e ≡ Fault.Memory) }
 {
     let mut all = NumberedValues::with_capacity(alloc, values.len())?;
     for tests in values {
-        all.push(number_value(alloc, fields, numbers, tests.as_slice())?)?;
+        all.push(number_value(alloc, fields, numbers, texts, tests.as_slice())?)?;
     }
     Ok(all)
 }
@@ -118,14 +140,15 @@ fn number_item(
     alloc: Global,
     fields: &[Field],
     numbers: &FieldNumbers,
+    texts: &TextIndex,
     item: &Item,
 ) -> Result<NumberedItem, Fault>
     requires { AreNumbered fields.now numbers.now }
-    ensures ok { IfOk result (λ i. i ≡ spec.numbered_item fields.now item.now) }
+    ensures ok { IfOk result (λ i. i ≡ spec.numbered_item fields.now texts.now item.now) }
     ensures err { IfErr result (λ e. e ≡ Fault.Memory) }
 {
     let asked = number_asked(alloc, fields, numbers, &item.fields)?;
-    let tests = number_values(alloc, fields, numbers, item.tests.as_slice())?;
+    let tests = number_values(alloc, fields, numbers, texts, item.tests.as_slice())?;
     Ok(NumberedItem {
         asked,
         joined: item.joined,
@@ -137,15 +160,16 @@ fn number_alternative(
     alloc: Global,
     fields: &[Field],
     numbers: &FieldNumbers,
+    texts: &TextIndex,
     items: &[Item],
 ) -> Result<NumberedAlternative, Fault>
     requires { AreNumbered fields.now numbers.now }
-    ensures ok { IfOk result (λ all. all ≡ map (spec.numbered_item fields.now) items.now) }
+    ensures ok { IfOk result (λ all. all ≡ map (spec.numbered_item fields.now texts.now) items.now) }
     ensures err { IfErr result (λ e. e ≡ Fault.Memory) }
 {
     let mut all = NumberedAlternative::with_capacity(alloc, items.len())?;
     for item in items {
-        all.push(number_item(alloc, fields, numbers, item)?)?;
+        all.push(number_item(alloc, fields, numbers, texts, item)?)?;
     }
     Ok(all)
 }
@@ -154,34 +178,36 @@ fn number_detection(
     alloc: Global,
     fields: &[Field],
     numbers: &FieldNumbers,
+    texts: &TextIndex,
     detection: &Detection,
 ) -> Result<NumberedDetection, Fault>
     requires { AreNumbered fields.now numbers.now }
-    ensures ok { IfOk result (λ all. all ≡ spec.numbered_detection fields.now detection.now) }
+    ensures ok { IfOk result (λ all. all ≡ spec.numbered_detection fields.now texts.now detection.now) }
     ensures err { IfErr result (λ e. e ≡ Fault.Memory) }
 {
     let alternatives = detection.alternatives.as_slice();
     let mut all = NumberedDetection::with_capacity(alloc, alternatives.len())?;
     for items in alternatives {
-        all.push(number_alternative(alloc, fields, numbers, items.as_slice())?)?;
+        all.push(number_alternative(alloc, fields, numbers, texts, items.as_slice())?)?;
     }
     Ok(all)
 }
 
-/// The detections of a rule, with numbers for its names.
+/// The detections of a rule, with numbers for its names and its regular expressions.
 pub fn number_detections(
     alloc: Global,
     fields: &[Field],
     numbers: &FieldNumbers,
+    texts: &TextIndex,
     detections: &[Detection],
 ) -> Result<Vec<NumberedDetection>, Fault>
     requires { AreNumbered fields.now numbers.now }
-    ensures ok { IfOk result (λ all. all.items ≡ map (spec.numbered_detection fields.now) detections.now) }
+    ensures ok { IfOk result (λ all. all.items ≡ map (spec.numbered_detection fields.now texts.now) detections.now) }
     ensures err { IfErr result (λ e. e ≡ Fault.Memory) }
 {
     let mut all = Vec::with_capacity(alloc, detections.len())?;
     for detection in detections {
-        all.push(number_detection(alloc, fields, numbers, detection)?)?;
+        all.push(number_detection(alloc, fields, numbers, texts, detection)?)?;
     }
     Ok(all)
 }

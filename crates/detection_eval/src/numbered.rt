@@ -1,4 +1,4 @@
-//! Items of detections whose names are numbers.
+//! Items of detections whose names and regular expressions are numbers.
 
 use modifier_chains::Joined;
 use sig_base::Sequence;
@@ -14,11 +14,13 @@ pub enum Asked {
     Numbers(FieldPlaces),
 }
 
-/// A test, with the number of the field that it compares with; none where it compares with none, or no field has the name.
+/// A test, with the number of the field that it compares with, none where it compares with none or no field has the name; and with
+/// the number of the regular expression that it searches for, if it searches for one.
 #[derive(Drop)]
 pub struct NumberedTest {
     pub test: Test,
     pub other: Option<u32>,
+    pub search: Option<u32>,
 }
 
 /// The tests of a value, of which one has to hold, which contracts see as a list.

@@ -1,59 +1,93 @@
 //! Rules made ready.
 
-ghost use Rattle.std.specs.Prelude.{◌≡◌, ◌↔◌, List, IsTrue, IsOk, IfOk, IfErr};
+ghost use Rattle.std.specs.Prelude.{◌≡◌, List, IfOk, IfErr};
 ghost use Rattle.event_schema.specs.declared.schema.Field.{Field};
-ghost use Rattle.rule_matching.specs.Matching.{Matches};
+ghost use Rattle.rule_building.specs.Building.{Builds};
+ghost use Rattle.rule_model.specs.Expressions.{rule_expressions};
 ghost use Rattle.rule_model.specs.Plain.{PlainRule, rule_view};
-ghost use Rattle.detection_eval.specs.Ready.{StandsFor};
+ghost use Rattle.detection_eval.specs.Ready.{StandsFor, JudgesFor, ready_of, ready_view, searches_view};
 
 use crate::copying::{copy_formulas, copy_numbers};
-use crate::formula::is_some_true;
-use crate::judging::Judged;
+use crate::finders::Finders;
+use crate::indexing::index_texts;
+use crate::judge::Judge;
 use crate::making::number_detections;
-use event_schema::{Event, Schema};
+use crate::numbered::NumberedDetection;
+use event_schema::Schema;
 use field_numbers::FieldNumbers;
+use languages::{Builder, Search};
+use rule_building::build_searches;
 use rule_model::Rule;
 use sig_base::Fault;
 use sig_conditions::Formula;
 use std::alloc::Global;
 
 /// A rule made ready for the events of a schema: its names are numbers of fields, so that an event is matched without a
-/// comparison of names, and with no memory but what this keeps.
+/// comparison of names, and its regular expressions are built.
 #[derive(Drop)]
 pub struct Ready {
-    searched: Vec<u32>,
-    detections: Judged,
-    conditions: Vec<Formula>,
+    pub(crate) searched: Vec<u32>,
+    pub(crate) searches: Vec<Search>,
+    pub(crate) detections: Vec<NumberedDetection>,
+    pub(crate) conditions: Vec<Formula>,
+}
+
+/// Makes a rule ready whose regular expressions are built.
+fn number_rule(
+    alloc: Global,
+    schema: &Schema,
+    rule: &Rule,
+    searches: Vec<Search>,
+) -> Result<Ready, Fault>
+    ensures ok { IfOk result (λ ready. ready_view ready ≡ ready_of schema.now.fields (searches_view searches.items) (rule_view rule.now)) }
+    ensures err { IfErr result (λ e. e ≡ Fault.Memory) }
+{
+    let fields = schema.fields.as_slice();
+    let numbers = FieldNumbers::of(alloc, fields)?;
+    let searched = copy_numbers(alloc, numbers.searched())?;
+    let texts = index_texts(alloc, &searches)?;
+    let all = rule.detections.as_slice();
+    let detections = number_detections(alloc, fields, &numbers, &texts, all)?;
+    let conditions = copy_formulas(alloc, &rule.conditions)?;
+    Ok(Ready {
+        searched,
+        searches,
+        detections,
+        conditions,
+    })
 }
 
 impl Ready {
     /// Makes a rule ready; it owns copies of what it needs, and shares the rule's patterns. A name that the schema lacks has
-    /// no values. More than 2^32 - 1 fields can't be numbered, which is want of memory.
-    pub fn make(alloc: Global, schema: &Schema, rule: &Rule) -> Result<Ready, Fault>
-        ensures ok { IfOk result (λ ready. StandsFor schema.now.fields (rule_view rule.now) ready) }
-        ensures err { IfErr result (λ e. e ≡ Fault.Memory) }
+    /// no values. Each regular expression is built once, in the rule's order; 48 is answered at the place of the item of the first
+    /// that isn't built. More than 2^32 - 1 fields or regular expressions can't be numbered, which is want of memory.
+    pub fn make<B: Builder>(
+        alloc: Global,
+        schema: &Schema,
+        rule: &Rule,
+        builder: &mut B,
+    ) -> Result<Ready, Fault>
+        ensures answers { Builds (λ ready. StandsFor schema.now.fields (rule_view rule.now) ready) (rule_expressions (rule_view rule.now))
+            (B.refused builder.old) (B.refused builder.new) result }
     {
-        let fields = schema.fields.as_slice();
-        let numbers = FieldNumbers::of(alloc, fields)?;
-        let searched = copy_numbers(alloc, numbers.searched())?;
-        let all = number_detections(alloc, fields, &numbers, rule.detections.as_slice())?;
-        let detections = Judged::of(alloc, all)?;
-        let conditions = copy_formulas(alloc, &rule.conditions)?;
-        Ok(Ready {
-            searched,
-            detections,
-            conditions,
-        })
+        let expressions = rule.expressions(alloc)?;
+        let searches = build_searches(alloc, builder, expressions.as_slice())?;
+        number_rule(alloc, schema, rule, searches)
     }
 
-    /// Whether the rule matches an event, in one pass over its detections and without memory, so that it always answers.
-    pub fn matches(&mut self, event: &Event) -> Result<bool, Fault>
-        ensures answers { IsOk result }
-        ensures means { (fields : List Field) (rule : PlainRule) → StandsFor fields rule self.old
-            → IfOk result (λ is_match. IsTrue is_match ↔ Matches fields event.now.values rule) }
-        ensures same { (fields : List Field) (rule : PlainRule) → StandsFor fields rule self.old → StandsFor fields rule self.new }
+    /// What judges events by the rule, with all memory that this takes; only want of memory is answered.
+    pub fn judge(&self, alloc: Global) -> Result<Judge<'_>, Fault>
+        ensures ok { (fields : List Field) (rule : PlainRule) → StandsFor fields rule self.now
+            → IfOk result (λ judge. JudgesFor fields rule judge) }
+        ensures err { IfErr result (λ e. e ≡ Fault.Memory) }
     {
-        self.detections.judge(event, &self.searched);
-        Ok(is_some_true(&self.conditions, self.detections.truths()))
+        let finders = Finders::of(alloc, &self.searches)?;
+        let mut truths = Vec::new(alloc);
+        truths.resize(self.detections.len(), false)?;
+        Ok(Judge {
+            ready: self,
+            finders,
+            truths,
+        })
     }
 }

@@ -3,8 +3,9 @@
 ghost use Rattle.std.specs.Prelude.{◌≡◌, ◌↔◌, IsTrue};
 ghost use Rattle.event_schema.specs.Lists.{EachOf, SomeOf};
 ghost use Rattle.event_schema.specs.Rows.{field_values, values_if_any};
-ghost use Rattle.detection_eval.specs.Ready.{NumberedHolds, Satisfies, ValuesHold, SearchSatisfies, NumberedItemHolds, AlternativesHold};
+ghost use Rattle.detection_eval.specs.Ready.{OtherHolds, NumberedHolds, Satisfies, ValuesHold, SearchSatisfies, NumberedItemHolds, AlternativesHold};
 
+use crate::finders::Finders;
 use crate::numbered::{Asked, NumberedAlternative, NumberedItem, NumberedTest, NumberedTests};
 use event_schema::{Event, Value};
 use modifier_chains::Joined;
@@ -19,21 +20,47 @@ fn values_of(event: &Event, number: Option<u32>) -> &[Value]
     }
 }
 
-/// Whether a test holds of a field's values in an event.
-fn test_holds(event: &Event, own: &[Value], numbered: &NumberedTest) -> bool
-    ensures { IsTrue result ↔ NumberedHolds event.now.values own.now numbered.now }
+/// Whether a test without the number of a regular expression holds of a field's values in an event.
+fn other_holds(event: &Event, own: &[Value], numbered: &NumberedTest) -> bool
+    ensures { IsTrue result ↔ OtherHolds event.now.values own.now numbered.now }
 {
+    if numbered.test.is_expression() {
+        return false;
+    }
     numbered
         .test
         .holds_of(own, values_of(event, numbered.other))
 }
 
+/// Whether a test holds of a field's values in an event.
+fn test_holds(
+    finders: &mut Finders<'_>,
+    event: &Event,
+    own: &[Value],
+    numbered: &NumberedTest,
+) -> bool
+    ensures holds { IsTrue result ↔ NumberedHolds finders.old event.now.values own.now numbered.now }
+    ensures same { finders.new ≡ finders.old }
+{
+    match numbered.search {
+        Some(number) => finders.find_in_some(number, own),
+        None => other_holds(event, own, numbered),
+    }
+}
+
 /// Whether one of the tests holds of a field's values.
-fn is_satisfied(event: &Event, own: &[Value], tests: &[NumberedTest]) -> bool
-    ensures { IsTrue result ↔ Satisfies event.now.values own.now tests.now }
+#[tactic(auto, using(crate::proofs::Going::some_ends))]
+fn is_satisfied(
+    finders: &mut Finders<'_>,
+    event: &Event,
+    own: &[Value],
+    tests: &[NumberedTest],
+) -> bool
+    ensures holds { IsTrue result ↔ Satisfies finders.old event.now.values own.now tests.now }
+    ensures same { finders.new ≡ finders.old }
 {
     for test in tests {
-        if test_holds(event, own, test) {
+        if test_holds(finders, event, own, test) {
             return true;
         }
     }
@@ -41,28 +68,43 @@ fn is_satisfied(event: &Event, own: &[Value], tests: &[NumberedTest]) -> bool
 }
 
 /// Whether a value of an item is satisfied by a field's values.
-fn satisfies(event: &Event, own: &[Value], tests: &NumberedTests) -> bool
-    ensures { IsTrue result ↔ Satisfies event.now.values own.now tests.now }
+fn satisfies(finders: &mut Finders<'_>, event: &Event, own: &[Value], tests: &NumberedTests) -> bool
+    ensures holds { IsTrue result ↔ Satisfies finders.old event.now.values own.now tests.now }
+    ensures same { finders.new ≡ finders.old }
 {
-    is_satisfied(event, own, tests.as_slice())
+    is_satisfied(finders, event, own, tests.as_slice())
 }
 
-fn each_satisfied(event: &Event, own: &[Value], values: &[NumberedTests]) -> bool
-    ensures { IsTrue result ↔ EachOf (Satisfies event.now.values own.now) values.now }
+#[tactic(auto, using(crate::proofs::Going::each_ends))]
+fn each_satisfied(
+    finders: &mut Finders<'_>,
+    event: &Event,
+    own: &[Value],
+    values: &[NumberedTests],
+) -> bool
+    ensures holds { IsTrue result ↔ EachOf (Satisfies finders.old event.now.values own.now) values.now }
+    ensures same { finders.new ≡ finders.old }
 {
     for tests in values {
-        if !satisfies(event, own, tests) {
+        if !satisfies(finders, event, own, tests) {
             return false;
         }
     }
     true
 }
 
-fn some_satisfied(event: &Event, own: &[Value], values: &[NumberedTests]) -> bool
-    ensures { IsTrue result ↔ SomeOf (Satisfies event.now.values own.now) values.now }
+#[tactic(auto, using(crate::proofs::Going::some_ends))]
+fn some_satisfied(
+    finders: &mut Finders<'_>,
+    event: &Event,
+    own: &[Value],
+    values: &[NumberedTests],
+) -> bool
+    ensures holds { IsTrue result ↔ SomeOf (Satisfies finders.old event.now.values own.now) values.now }
+    ensures same { finders.new ≡ finders.old }
 {
     for tests in values {
-        if satisfies(event, own, tests) {
+        if satisfies(finders, event, own, tests) {
             return true;
         }
     }
@@ -70,38 +112,50 @@ fn some_satisfied(event: &Event, own: &[Value], values: &[NumberedTests]) -> boo
 }
 
 /// Whether all values of an item are satisfied by a field's values, or some one.
-fn are_satisfied(event: &Event, joined: Joined, own: &[Value], values: &[NumberedTests]) -> bool
-    ensures { IsTrue result ↔ ValuesHold joined (Satisfies event.now.values own.now) values.now }
+fn are_satisfied(
+    finders: &mut Finders<'_>,
+    event: &Event,
+    joined: Joined,
+    own: &[Value],
+    values: &[NumberedTests],
+) -> bool
+    ensures holds { IsTrue result ↔ ValuesHold joined (Satisfies finders.old event.now.values own.now) values.now }
+    ensures same { finders.new ≡ finders.old }
 {
     match joined {
-        Joined::All => each_satisfied(event, own, values),
-        Joined::Any => some_satisfied(event, own, values),
+        Joined::All => each_satisfied(finders, event, own, values),
+        Joined::Any => some_satisfied(finders, event, own, values),
     }
 }
 
 /// Whether the values of an item are satisfied by the field of this number.
 fn field_satisfies(
+    finders: &mut Finders<'_>,
     event: &Event,
     joined: Joined,
     values: &[NumberedTests],
     number: Option<u32>,
 ) -> bool
-    ensures { IsTrue result ↔ ValuesHold joined (Satisfies event.now.values (values_if_any event.now.values number)) values.now }
+    ensures holds { IsTrue result ↔ ValuesHold joined (Satisfies finders.old event.now.values (values_if_any event.now.values number)) values.now }
+    ensures same { finders.new ≡ finders.old }
 {
-    are_satisfied(event, joined, values_of(event, number), values)
+    are_satisfied(finders, event, joined, values_of(event, number), values)
 }
 
 /// Whether the values of an item are satisfied by some one of its fields.
+#[tactic(auto, using(crate::proofs::Going::some_ends))]
 fn some_field_satisfies(
+    finders: &mut Finders<'_>,
     event: &Event,
     joined: Joined,
     values: &[NumberedTests],
     numbers: &[Option<u32>],
 ) -> bool
-    ensures { IsTrue result ↔ SomeOf (λ number. ValuesHold joined (Satisfies event.now.values (values_if_any event.now.values number)) values.now) numbers.now }
+    ensures holds { IsTrue result ↔ SomeOf (λ number. ValuesHold joined (Satisfies finders.old event.now.values (values_if_any event.now.values number)) values.now) numbers.now }
+    ensures same { finders.new ≡ finders.old }
 {
     for number in numbers {
-        if field_satisfies(event, joined, values, *number) {
+        if field_satisfies(finders, event, joined, values, *number) {
             return true;
         }
     }
@@ -109,18 +163,31 @@ fn some_field_satisfies(
 }
 
 /// Whether a value is satisfied by the field of this number.
-fn is_satisfied_at(event: &Event, tests: &[NumberedTest], field: u32) -> bool
-    ensures { IsTrue result ↔ Satisfies event.now.values (field_values event.now.values field) tests.now }
+fn is_satisfied_at(
+    finders: &mut Finders<'_>,
+    event: &Event,
+    tests: &[NumberedTest],
+    field: u32,
+) -> bool
+    ensures holds { IsTrue result ↔ Satisfies finders.old event.now.values (field_values event.now.values field) tests.now }
+    ensures same { finders.new ≡ finders.old }
 {
-    is_satisfied(event, event.values(field as usize), tests)
+    is_satisfied(finders, event, event.values(field as usize), tests)
 }
 
 /// Whether a value is satisfied by some one of these fields.
-fn some_search_satisfies(event: &Event, searched: &[u32], tests: &[NumberedTest]) -> bool
-    ensures { IsTrue result ↔ SearchSatisfies searched.now event.now.values tests.now }
+#[tactic(auto, using(crate::proofs::Going::some_ends))]
+fn some_search_satisfies(
+    finders: &mut Finders<'_>,
+    event: &Event,
+    searched: &[u32],
+    tests: &[NumberedTest],
+) -> bool
+    ensures holds { IsTrue result ↔ SearchSatisfies finders.old searched.now event.now.values tests.now }
+    ensures same { finders.new ≡ finders.old }
 {
     for field in searched {
-        if is_satisfied_at(event, tests, *field) {
+        if is_satisfied_at(finders, event, tests, *field) {
             return true;
         }
     }
@@ -128,28 +195,48 @@ fn some_search_satisfies(event: &Event, searched: &[u32], tests: &[NumberedTest]
 }
 
 /// Whether a keyword's value is satisfied by some one of these fields.
-fn search_satisfies(event: &Event, searched: &[u32], tests: &NumberedTests) -> bool
-    ensures { IsTrue result ↔ SearchSatisfies searched.now event.now.values tests.now }
+fn search_satisfies(
+    finders: &mut Finders<'_>,
+    event: &Event,
+    searched: &[u32],
+    tests: &NumberedTests,
+) -> bool
+    ensures holds { IsTrue result ↔ SearchSatisfies finders.old searched.now event.now.values tests.now }
+    ensures same { finders.new ≡ finders.old }
 {
-    some_search_satisfies(event, searched, tests.as_slice())
+    some_search_satisfies(finders, event, searched, tests.as_slice())
 }
 
-fn each_keyword_satisfied(event: &Event, searched: &[u32], values: &[NumberedTests]) -> bool
-    ensures { IsTrue result ↔ EachOf (SearchSatisfies searched.now event.now.values) values.now }
+#[tactic(auto, using(crate::proofs::Going::each_ends))]
+fn each_keyword_satisfied(
+    finders: &mut Finders<'_>,
+    event: &Event,
+    searched: &[u32],
+    values: &[NumberedTests],
+) -> bool
+    ensures holds { IsTrue result ↔ EachOf (SearchSatisfies finders.old searched.now event.now.values) values.now }
+    ensures same { finders.new ≡ finders.old }
 {
     for tests in values {
-        if !search_satisfies(event, searched, tests) {
+        if !search_satisfies(finders, event, searched, tests) {
             return false;
         }
     }
     true
 }
 
-fn some_keyword_satisfied(event: &Event, searched: &[u32], values: &[NumberedTests]) -> bool
-    ensures { IsTrue result ↔ SomeOf (SearchSatisfies searched.now event.now.values) values.now }
+#[tactic(auto, using(crate::proofs::Going::some_ends))]
+fn some_keyword_satisfied(
+    finders: &mut Finders<'_>,
+    event: &Event,
+    searched: &[u32],
+    values: &[NumberedTests],
+) -> bool
+    ensures holds { IsTrue result ↔ SomeOf (SearchSatisfies finders.old searched.now event.now.values) values.now }
+    ensures same { finders.new ≡ finders.old }
 {
     for tests in values {
-        if search_satisfies(event, searched, tests) {
+        if search_satisfies(finders, event, searched, tests) {
             return true;
         }
     }
@@ -158,28 +245,37 @@ fn some_keyword_satisfied(event: &Event, searched: &[u32], values: &[NumberedTes
 
 /// Whether all values of a keyword are satisfied, or some one.
 fn are_keywords_satisfied(
+    finders: &mut Finders<'_>,
     event: &Event,
     searched: &[u32],
     joined: Joined,
     values: &[NumberedTests],
 ) -> bool
-    ensures { IsTrue result ↔ ValuesHold joined (SearchSatisfies searched.now event.now.values) values.now }
+    ensures holds { IsTrue result ↔ ValuesHold joined (SearchSatisfies finders.old searched.now event.now.values) values.now }
+    ensures same { finders.new ≡ finders.old }
 {
     match joined {
-        Joined::All => each_keyword_satisfied(event, searched, values),
-        Joined::Any => some_keyword_satisfied(event, searched, values),
+        Joined::All => each_keyword_satisfied(finders, event, searched, values),
+        Joined::Any => some_keyword_satisfied(finders, event, searched, values),
     }
 }
 
-fn item_holds(event: &Event, searched: &[u32], item: &NumberedItem) -> bool
-    ensures { IsTrue result ↔ NumberedItemHolds searched.now event.now.values item.now }
+fn item_holds(
+    finders: &mut Finders<'_>,
+    event: &Event,
+    searched: &[u32],
+    item: &NumberedItem,
+) -> bool
+    ensures holds { IsTrue result ↔ NumberedItemHolds finders.old searched.now event.now.values item.now }
+    ensures same { finders.new ≡ finders.old }
 {
     match &item.asked {
         Asked::Searched => {
-            are_keywords_satisfied(event, searched, item.joined, item.tests.as_slice())
+            are_keywords_satisfied(finders, event, searched, item.joined, item.tests.as_slice())
         }
         Asked::Numbers(numbers) => {
             some_field_satisfies(
+                finders,
                 event,
                 item.joined,
                 item.tests.as_slice(),
@@ -189,33 +285,49 @@ fn item_holds(event: &Event, searched: &[u32], item: &NumberedItem) -> bool
     }
 }
 
-fn each_item_holds(event: &Event, searched: &[u32], items: &[NumberedItem]) -> bool
-    ensures { IsTrue result ↔ EachOf (NumberedItemHolds searched.now event.now.values) items.now }
+#[tactic(auto, using(crate::proofs::Going::each_ends))]
+fn each_item_holds(
+    finders: &mut Finders<'_>,
+    event: &Event,
+    searched: &[u32],
+    items: &[NumberedItem],
+) -> bool
+    ensures holds { IsTrue result ↔ EachOf (NumberedItemHolds finders.old searched.now event.now.values) items.now }
+    ensures same { finders.new ≡ finders.old }
 {
     for item in items {
-        if !item_holds(event, searched, item) {
+        if !item_holds(finders, event, searched, item) {
             return false;
         }
     }
     true
 }
 
-fn alternative_holds(event: &Event, searched: &[u32], items: &NumberedAlternative) -> bool
-    ensures { IsTrue result ↔ EachOf (NumberedItemHolds searched.now event.now.values) items.now }
+fn alternative_holds(
+    finders: &mut Finders<'_>,
+    event: &Event,
+    searched: &[u32],
+    items: &NumberedAlternative,
+) -> bool
+    ensures holds { IsTrue result ↔ EachOf (NumberedItemHolds finders.old searched.now event.now.values) items.now }
+    ensures same { finders.new ≡ finders.old }
 {
-    each_item_holds(event, searched, items.as_slice())
+    each_item_holds(finders, event, searched, items.as_slice())
 }
 
 /// Whether some one of a detection's alternatives holds.
+#[tactic(auto, using(crate::proofs::Going::some_ends))]
 pub fn some_alternative_holds(
+    finders: &mut Finders<'_>,
     event: &Event,
     searched: &[u32],
     alternatives: &[NumberedAlternative],
 ) -> bool
-    ensures { IsTrue result ↔ AlternativesHold searched.now event.now.values alternatives.now }
+    ensures holds { IsTrue result ↔ AlternativesHold finders.old searched.now event.now.values alternatives.now }
+    ensures same { finders.new ≡ finders.old }
 {
     for items in alternatives {
-        if alternative_holds(event, searched, items) {
+        if alternative_holds(finders, event, searched, items) {
             return true;
         }
     }

@@ -1,12 +1,14 @@
 //! Small rules over small events, all reckoned by hand.
 
-use crate::Ready;
+use crate::{Judge, Ready};
 use event_schema::{Event, Field, FieldKind, FieldList, FieldValues, Schema, Value};
-use modifier_chains::{Joined, Op};
+use languages::{BuildFault, Builder, CrateBuilder};
+use modifier_chains::{Flags, Joined, Op};
+use regex::Regex;
 use rule_head::{Head, LogSource};
 use rule_items::{Alternative, Alternatives, Detection, Detections, Fields, Item, Values};
 use rule_model::Rule;
-use sig_base::{Limits, Place, Text, Texts};
+use sig_base::{Fault, Limits, Place, Text, Texts};
 use sig_conditions::{DetectionNumbers, Formula};
 use sig_modifiers::{Test, Tests};
 use sig_strings::{Pattern, SharedPattern};
@@ -73,24 +75,47 @@ fn event(alloc: Global, text: &str) -> Result<Event, Fail> {
 }
 
 /// For each of these events, with spaces between them, whether the rule matches.
-fn shown(alloc: Global, rule: &Rule, events: &str) -> Result<String, Fail> {
-    let mut ready = Ready::make(alloc, &schema(alloc)?, rule)?;
+fn judged(alloc: Global, judge: &mut Judge<'_>, events: &str) -> Result<String, Fail> {
     let mut shown = String::new(alloc);
     for word in events.split(' ') {
-        let is_match = ready.matches(&event(alloc, word)?)?;
+        let is_match = judge.matches(&event(alloc, word)?);
         shown.push_str(if is_match { "1" } else { "0" })?;
     }
     Ok(shown)
+}
+
+fn shown(alloc: Global, rule: &Rule, events: &str) -> Result<String, Fail> {
+    let mut builder = CrateBuilder::new(alloc, Vec::new(alloc));
+    let ready = Ready::make(alloc, &schema(alloc)?, rule, &mut builder)?;
+    judged(alloc, &mut ready.judge(alloc)?, events)
 }
 
 fn to_five(op: Op) -> Test {
     Test::Compare { op, number: 5 }
 }
 
-/// Tests by what stands for them: with a sign before `5` a comparison, behind `=` a field's name, else a pattern.
+/// The regular expression of `i/a+`, with the letters of its flags in front.
+fn expression(alloc: Global, written: &str) -> Result<Test, Fail> {
+    let Some((letters, text)) = written.split_once('/') else {
+        return Err(Fail::from("no expression"));
+    };
+    let flags = Flags {
+        i: letters.contains('i'),
+        m: letters.contains('m'),
+        s: letters.contains('s'),
+    };
+    let text = Text::copy(alloc, text)?;
+    Ok(Test::Finds { text, flags })
+}
+
+/// Tests by what stands for them: with a sign before `5` a comparison, behind `=` a field's name, behind `~` a regular
+/// expression, else a pattern.
 fn test(alloc: Global, text: &str) -> Result<Test, Fail> {
     if let Some(name) = text.strip_prefix("=") {
         return Ok(Test::SameAs(Text::copy(alloc, name)?));
+    }
+    if let Some(written) = text.strip_prefix("~") {
+        return expression(alloc, written);
     }
     match text {
         "<5" => Ok(to_five(Op::Lt)),
@@ -431,5 +456,183 @@ fn several_formulas(rt: HostRuntime) -> Result<(), Fail> {
         shown_formula(alloc, Formula::Detection(9))?.as_str(),
         "000000"
     );
+    Ok(())
+}
+
+#[test]
+fn expressions(rt: HostRuntime) -> Result<(), Fail> {
+    let alloc = rt.alloc();
+    let events = "aab||| xaabx||| ab||| ba||| b||| AB||| |ab|| a,b||| b,ab||| |||";
+    let (found, not_found) = shown_both(alloc, "u", "~/a+b", events)?;
+    assert_eq!(rt; found.as_str(), "1110000010");
+    assert_eq!(rt; not_found.as_str(), "0001111101");
+    let whole = shown_item(alloc, Joined::Any, "u", "~/^a.$", "ab||| aab||| ab,c|||")?;
+    assert_eq!(rt; whole.as_str(), "101");
+    let fields = shown_item(alloc, Joined::Any, "h,u", "~/^a", "a||| |a|| |||a |||")?;
+    assert_eq!(rt; fields.as_str(), "1010");
+    Ok(())
+}
+
+#[test]
+fn expressions_in_numbers(rt: HostRuntime) -> Result<(), Fail> {
+    let alloc = rt.alloc();
+    let events = "||7| ||70| ||-7| ||17| ||1,7| ||'7| |||";
+    let shown = shown_item(alloc, Joined::Any, "n", "~/^-?7", events)?;
+    assert_eq!(rt; shown.as_str(), "1110110");
+    Ok(())
+}
+
+#[test]
+fn expressions_of_keywords(rt: HostRuntime) -> Result<(), Fail> {
+    let alloc = rt.alloc();
+    let events = "ab||| |b|| |||ab a||| |||";
+    let any = shown_item(alloc, Joined::Any, "", "~/b$", events)?;
+    assert_eq!(rt; any.as_str(), "11000");
+    let all = shown_item(alloc, Joined::All, "", "~/b$,~/^a", "ab||| a|b|| b||| |||")?;
+    assert_eq!(rt; all.as_str(), "1100");
+    Ok(())
+}
+
+#[test]
+fn all_expressions(rt: HostRuntime) -> Result<(), Fail> {
+    let alloc = rt.alloc();
+    let events = "ab||| ba||| a,b||| b||| a|b|| |||";
+    let all = shown_item(alloc, Joined::All, "u", "~/a,~/b$", events)?;
+    assert_eq!(rt; all.as_str(), "101000");
+    let other = shown_item(alloc, Joined::All, "u", "~/a,*b", events)?;
+    assert_eq!(rt; other.as_str(), "101000");
+    Ok(())
+}
+
+/// Whether expressions with different flags, with commas between them, are found in one text.
+fn shown_flags(alloc: Global, values: &str, text: &str) -> Result<String, Fail> {
+    let mut shown = String::new(alloc);
+    for value in values.split(',') {
+        let one = shown_item(alloc, Joined::Any, "u", value, text)?;
+        shown.push_str(one.as_str())?;
+    }
+    Ok(shown)
+}
+
+#[test]
+fn flags(rt: HostRuntime) -> Result<(), Fail> {
+    let alloc = rt.alloc();
+    let case = shown_flags(alloc, "~/ab,~i/ab,~m/ab,~s/ab,~ims/ab", "xAB|||")?;
+    assert_eq!(rt; case.as_str(), "01001");
+    let lines = shown_flags(alloc, "~/^b$,~i/^b$,~m/^b$,~s/^b$,~ims/^B$", "a\nb|||")?;
+    assert_eq!(rt; lines.as_str(), "00101");
+    let dots = shown_flags(alloc, "~/a.b,~i/a.b,~m/a.b,~s/a.b,~ims/A.B", "a\nb|||")?;
+    assert_eq!(rt; dots.as_str(), "00011");
+    Ok(())
+}
+
+#[test]
+fn several_expressions_of_one_rule(rt: HostRuntime) -> Result<(), Fail> {
+    let alloc = rt.alloc();
+    let events = "ab||| a|b|| b|ab|| |||";
+    let same = shown_item(alloc, Joined::All, "u", "~/a,~/b,~/a", events)?;
+    assert_eq!(rt; same.as_str(), "1000");
+    let flagged = shown_item(alloc, Joined::All, "u", "~/A,~i/A", "ab||| Ab|||")?;
+    assert_eq!(rt; flagged.as_str(), "01");
+    let mixed = shown_item(alloc, Joined::Any, "u", "x,~/^b,null", events)?;
+    assert_eq!(rt; mixed.as_str(), "0011");
+    Ok(())
+}
+
+/// An item of a field and regular expressions that stands on a line.
+fn item_on(alloc: Global, line: u32, values: &str) -> Result<Item, Fail> {
+    let mut item = item(alloc, Joined::Any, "u", values)?;
+    item.place = Place { line, column: 5 };
+    Ok(item)
+}
+
+/// A rule of the regular expressions `a` on line 6, and `b`, `c` and `a` on line 7, with its first detection as its condition.
+fn four_expressions(alloc: Global) -> Result<Rule, Fail> {
+    let mut detections = Detections::new(alloc);
+    detections.push(one_item(alloc, item_on(alloc, 6, "~/a,x")?)?)?;
+    detections.push(one_item(alloc, item_on(alloc, 7, "~/b,~/c,~/a")?)?)?;
+    let mut conditions = Vec::new(alloc);
+    conditions.push(Formula::Detection(0))?;
+    rule(alloc, detections, conditions)
+}
+
+/// What a rule is refused with, if it is.
+fn refused(alloc: Global, made: &Result<Ready, Fault>) -> Result<String, Fail> {
+    let Err(Fault::Refused(refusal)) = made else {
+        return Ok(String::new(alloc));
+    };
+    let code = refusal.code.number();
+    let line = refusal.place.line;
+    let column = refusal.place.column;
+    Ok(format!(in alloc; "{code} at {line}:{column}")?)
+}
+
+/// What the rule of four regular expressions is refused with by a builder whose call of this ordinal fails.
+fn refused_at(alloc: Global, ordinal: u64) -> Result<String, Fail> {
+    let mut failing = Vec::new(alloc);
+    failing.push(ordinal)?;
+    let mut builder = CrateBuilder::new(alloc, failing);
+    let rule = four_expressions(alloc)?;
+    let made = Ready::make(alloc, &schema(alloc)?, &rule, &mut builder);
+    refused(alloc, &made)
+}
+
+#[test]
+fn expressions_that_are_not_built(rt: HostRuntime) -> Result<(), Fail> {
+    let alloc = rt.alloc();
+    for (ordinal, want) in [
+        (1, "48 at 6:5"),
+        (2, "48 at 7:5"),
+        (3, "48 at 7:5"),
+        (4, "48 at 7:5"),
+        (5, ""),
+    ] {
+        assert_eq!(rt; refused_at(alloc, ordinal)?.as_str(), want);
+    }
+    Ok(())
+}
+
+#[test]
+fn expressions_that_are_none(rt: HostRuntime) -> Result<(), Fail> {
+    let alloc = rt.alloc();
+    let mut detections = Detections::new(alloc);
+    detections.push(one_item(alloc, item_on(alloc, 6, "~/a,~/(")?)?)?;
+    let rule = rule(alloc, detections, Vec::new(alloc))?;
+    let mut builder = CrateBuilder::new(alloc, Vec::new(alloc));
+    let made = Ready::make(alloc, &schema(alloc)?, &rule, &mut builder);
+    assert_eq!(rt; refused(alloc, &made)?.as_str(), "48 at 6:5");
+    Ok(())
+}
+
+/// A builder that counts what it is asked for.
+#[derive(Drop)]
+struct Counting {
+    inner: CrateBuilder,
+    calls: u64,
+}
+
+impl Builder for Counting {
+    ghost refused = { λ b. b.inner };
+
+    fn build(&mut self, alloc: Global, pattern: &str) -> Result<Regex, BuildFault> {
+        self.calls = self.calls.saturating_add(1);
+        self.inner.build(alloc, pattern)
+    }
+}
+
+#[test]
+fn expressions_are_built_once(rt: HostRuntime) -> Result<(), Fail> {
+    let alloc = rt.alloc();
+    let mut builder = Counting {
+        inner: CrateBuilder::new(alloc, Vec::new(alloc)),
+        calls: 0,
+    };
+    let rule = four_expressions(alloc)?;
+    let ready = Ready::make(alloc, &schema(alloc)?, &rule, &mut builder)?;
+    assert_eq!(rt; builder.calls, 4);
+    let mut judge = ready.judge(alloc)?;
+    let shown = judged(alloc, &mut judge, "ab||| x||| b|||")?;
+    assert_eq!(rt; shown.as_str(), "110");
+    assert_eq!(rt; builder.calls, 4);
     Ok(())
 }

@@ -1,18 +1,16 @@
 -- What is counted of the parts of a vector, one by one.
-use Rattle.std.proofs.Common.{ℕ, ◌+◌, ◌≡◌, ◌≤◌, ◌<◌, refl, sym, ◌∙◌, ap, Bool, ◌&&◌, List, [], ◌∷◌, length, drop, get_or, arith, rules}
+use Rattle.std.proofs.Common.{ℕ, ◌+◌, ◌≡◌, ◌≤◌, refl, sym, ◌∙◌, ap, List, [], ◌∷◌, length, drop, arith}
 use Rattle.std.specs.Prelude.{min, max, not}
 use Rattle.std.specs.declared.alloc.Global.{Global}
 use Rattle.std.specs.declared.vec.Vec.{Vec}
-use Rattle.std.proofs.lemmas.List.{drop_all, drop_more}
-use Rattle.backend_core.specs.Trees.{all, any}
+use Rattle.std.proofs.lemmas.List.{drop_all}
 use Rattle.backend_core.specs.View.{tree_view, plains_of}
 use Rattle.backend_core.specs.declared.tree.Tree.{Tree}
 use Rattle.backend_core.specs.declared.tree.Tree as trees
-use Rattle.backend_core.specs.declared.tree.Tree.TheViews.{the_lemmas}
 use Rattle.lucene_writer.specs.declared.place.Standing.{Standing}
 use Rattle.lucene_writer.specs.declared.place.Standing.TheVariants.{Alone, InAnd}
 use Rattle.lucene_writer.specs.Counts.{one_if, add, tree_opens, parts_opens, items_opens, tree_clauses, parts_clauses, items_clauses}
-use Rattle.lucene_writer.specs.Pieces.{is_whole, is_denied, are_denied, all_denied}
+use Rattle.lucene_writer.specs.Pieces.{is_whole, all_denied}
 use Rattle.lucene_writer.proofs.Rows.{view-All, view-Any, denied_are}
 
 module _ (most : ℕ) where

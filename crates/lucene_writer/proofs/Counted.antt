@@ -87,6 +87,7 @@ module _ (fields : List Field) (most : ℕ) where
       by (tests.Equals z) x = record { whole = refl; alone = refl; in_and = refl }
       by (tests.Compare op z) x = record { whole = refl; alone = refl; in_and = refl }
       by (tests.SameAs other) x = record { whole = refl; alone = refl; in_and = refl }
+      by (tests.Finds expression) x = record { whole = refl; alone = refl; in_and = refl }
     depths trees.never s = record { whole = refl; alone = refl; in_and = refl }
     depths (trees.negated t) s =
         let x = (depths t s).alone in
@@ -206,6 +207,7 @@ module _ (fields : List Field) (most : ℕ)
         by (tests.Equals z) x = record { whole = refl; alone = refl; in_and = refl }
         by (tests.Compare op z) x = record { whole = refl; alone = refl; in_and = refl }
         by (tests.SameAs other) x = record { whole = refl; alone = refl; in_and = refl }
+        by (tests.Finds expression) x = record { whole = refl; alone = refl; in_and = refl }
       counted trees.never s = record { whole = refl; alone = refl; in_and = refl }
       counted (trees.negated t) s =
           let x = (counted t s).alone in

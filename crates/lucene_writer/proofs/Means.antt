@@ -323,6 +323,7 @@ module _ (fields : List Field)
         let e = ends_whole op z s.1 in
         (span_sound (name_at fields k) k (own_name k near) (whole_at fields k s.0) (span_of op z) e.0 e.1, tt)
     test_sound k (tests.SameAs other) near s may = absurd cc
+    test_sound k (tests.Finds expression) near s may = absurd cc
 
     joined_sound : (a b : Trees) → Every a → Every b → Every (joined_trees a b)
     joined_sound no_trees b x y = y
@@ -490,6 +491,7 @@ module _ (fields : List Field)
         test_is k (tests.Equals z) near s may = equals_parts (name_at fields k) k (own_name k near) z s.1
         test_is k (tests.Compare op z) near s may = compare_parts (name_at fields k) k (own_name k near) op z s.1
         test_is k (tests.SameAs other) near s may = absurd cc
+        test_is k (tests.Finds expression) near s may = absurd cc
 
         -- ---- trees
 

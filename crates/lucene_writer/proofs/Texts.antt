@@ -252,6 +252,7 @@ module _ (fields : List Field)
     test_texts n kind (tests.Equals z) s = equals_texts n z
     test_texts n kind (tests.Compare op z) s = compare_texts n op z
     test_texts n kind (tests.SameAs other) s = never_texts
+    test_texts n kind (tests.Finds expression) s = never_texts
 
     -- ---- trees
 

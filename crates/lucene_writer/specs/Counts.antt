@@ -23,6 +23,7 @@ test_opens at (tests.Fits (p ∷ ps) cased) = 0
 test_opens at (tests.Equals n) = 0
 test_opens at (tests.Compare op n) = 0
 test_opens at (tests.SameAs other) = one_if (is_alone at)
+test_opens at (tests.Finds expression) = one_if (is_alone at)
 
 -- a NOT stands behind *:* where it isn't in an all
 abbrev pub test_clauses : Standing → LeafTest → ℕ
@@ -33,6 +34,7 @@ test_clauses at (tests.Fits (p ∷ ps) cased) = 1
 test_clauses at (tests.Equals n) = 1
 test_clauses at (tests.Compare op n) = 1
 test_clauses at (tests.SameAs other) = 2
+test_clauses at (tests.Finds expression) = 2
 
 module _ (most : ℕ) where
   abbrev pub add : ℕ → ℕ → ℕ

@@ -1,5 +1,5 @@
--- What Lucene lacks: a comparison of two fields, a pattern by case of a field without a twin, a pattern of a field of whole numbers, and the empty text in a
--- field that may have several values, where NOT `f:?*` says that each value is empty, and not that one is.
+-- What Lucene lacks: a regular expression, a comparison of two fields, a pattern by case of a field without a twin, a pattern of a field of whole numbers, and the
+-- empty text in a field that may have several values, where NOT `f:?*` says that each value is empty, and not that one is.
 use Rattle.std.specs.Prelude.{ℕ, zero, suc, Bool, true, false, not, ◌&&◌, List, [], ◌∷◌, Option}
 use Rattle.event_schema.specs.declared.schema.Field.{Field}
 use Rattle.sig_strings.specs.declared.part.Part.{Part}
@@ -26,13 +26,16 @@ is_empty [] = true
 is_empty (p ∷ ps) = false
 
 abbrev pub nothing : Asks
-nothing = record { many = false; field_ref = false; cased = false; whole_pattern = false; empty_text = false }
+nothing = record { many = false; regex = false; field_ref = false; cased = false; whole_pattern = false; empty_text = false }
+
+abbrev pub a_regex : Asks
+a_regex = record { many = false; regex = true; field_ref = false; cased = false; whole_pattern = false; empty_text = false }
 
 abbrev pub other_field : Asks
-other_field = record { many = false; field_ref = true; cased = false; whole_pattern = false; empty_text = false }
+other_field = record { many = false; regex = false; field_ref = true; cased = false; whole_pattern = false; empty_text = false }
 
 abbrev pub pattern_asks : (cased whole empty : Bool) → Asks
-pattern_asks cased whole empty = record { many = false; field_ref = false; cased = cased; whole_pattern = whole; empty_text = empty }
+pattern_asks cased whole empty = record { many = false; regex = false; field_ref = false; cased = cased; whole_pattern = whole; empty_text = empty }
 
 -- of a field that has a twin, is of whole numbers, may have several values
 abbrev pub test_asks : (twin whole many : Bool) → LeafTest → Asks
@@ -42,6 +45,7 @@ test_asks twin whole many (tests.Fits pattern cased) = pattern_asks (cased && no
 test_asks twin whole many (tests.Equals n) = nothing
 test_asks twin whole many (tests.Compare op n) = nothing
 test_asks twin whole many (tests.SameAs other) = other_field
+test_asks twin whole many (tests.Finds expression) = a_regex
 
 abbrev pub lucene_lacks : List Field → Leaf → Option Lack
 lucene_lacks fields l = first_lack (test_asks (is_cased fields l.field) (is_whole_at fields l.field) (is_many fields l.field) l.test)

@@ -93,7 +93,7 @@ compare_text name op n = plain_text name ++ (codes ":" ++ (range_start op ++ (si
 abbrev pub never_text : Standing → List ℕ
 never_text at = enclosed_if (is_alone at) (codes "*:* AND NOT *:*")
 
--- a comparison with another field is lacking
+-- a comparison with another field and a regular expression are lacking
 abbrev pub test_text : Standing → List ℕ → LeafTest → List ℕ
 test_text at name tests.Has = has_text name
 test_text at name tests.Absent = not_text at (has_text name)
@@ -101,6 +101,7 @@ test_text at name (tests.Fits pattern cased) = fits_text at (searched cased name
 test_text at name (tests.Equals n) = plain_text name ++ (codes ":" ++ plain_text (signed_decimal n))
 test_text at name (tests.Compare op n) = compare_text name op n
 test_text at name (tests.SameAs other) = never_text at
+test_text at name (tests.Finds expression) = never_text at
 
 -- ---- trees
 
@@ -112,6 +113,7 @@ is_denied_test (tests.Fits pattern cased) = false
 is_denied_test (tests.Equals n) = false
 is_denied_test (tests.Compare op n) = false
 is_denied_test (tests.SameAs other) = false
+is_denied_test (tests.Finds expression) = false
 
 abbrev pub is_denied : Plain → Bool
 is_denied (all ts) = false

@@ -76,7 +76,7 @@ range_leaf name s = leaf (sought (name_for name) (a_range s.low_in (end_for s.lo
 abbrev pub never_parts : Parts
 never_parts = two_parts (leaf everything) (negated (leaf everything))
 
--- of a test of the field of this name; for a comparison with another field, which is lacking, it's what never holds
+-- of a test of the field of this name; for a comparison with another field and a regular expression, which are lacking, it's what never holds
 abbrev pub test_parts : List ℕ → LeafTest → Parts
 test_parts name tests.Has = one_part (has_leaf name)
 test_parts name tests.Absent = one_part (negated (has_leaf name))
@@ -84,6 +84,7 @@ test_parts name (tests.Fits pattern cased) = pattern_parts (searched cased name)
 test_parts name (tests.Equals n) = one_part (term_leaf name (map as_char (signed_decimal n)))
 test_parts name (tests.Compare op n) = one_part (range_leaf name (span_of op n))
 test_parts name (tests.SameAs other) = never_parts
+test_parts name (tests.Finds expression) = never_parts
 
 abbrev pub joined_trees : Trees → Trees → Trees
 joined_trees no_trees us = us

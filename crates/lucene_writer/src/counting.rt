@@ -40,7 +40,7 @@ fn test_opens(at: Standing, test: &LeafTest) -> usize
 {
     match test {
         LeafTest::Has | LeafTest::Equals(_) | LeafTest::Compare { .. } => 0,
-        LeafTest::Absent | LeafTest::SameAs(_) => one_if(is_alone(at)),
+        LeafTest::Absent | LeafTest::SameAs(_) | LeafTest::Finds(_) => one_if(is_alone(at)),
         LeafTest::Fits { pattern, .. } => {
             let empty = pattern.parts().is_empty();
             one_if(empty && is_alone(at))
@@ -53,7 +53,7 @@ fn test_clauses(at: Standing, test: &LeafTest) -> usize
 {
     match test {
         LeafTest::Has | LeafTest::Equals(_) | LeafTest::Compare { .. } => 1,
-        LeafTest::SameAs(_) => 2,
+        LeafTest::SameAs(_) | LeafTest::Finds(_) => 2,
         LeafTest::Absent => if is_in_and(at) { 1 } else { 2 },
         LeafTest::Fits { pattern, .. } => if pattern.parts().is_empty() { 2 } else { 1 },
     }

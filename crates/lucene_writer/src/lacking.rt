@@ -60,6 +60,7 @@ fn test_lacks(twin: bool, whole: bool, many: bool, test: &LeafTest) -> Option<La
             pattern_lacks(*cased && !twin, whole, many && pattern.parts().is_empty())
         }
         LeafTest::SameAs(_) => Some(Lack::FieldRef),
+        LeafTest::Finds(_) => Some(Lack::Regex),
     }
 }
 
@@ -81,8 +82,8 @@ fn pattern_lacks(cased: bool, whole: bool, empty: bool) -> Option<Lack>
 impl Lacking for LuceneText {
     ghost missing = { λ schema leaf. spec.lucene_lacks schema.fields leaf };
 
-    /// A query compares no field with another; a pattern by case needs a field's twin, a pattern a field of texts, and the empty
-    /// text a field of one value.
+    /// A query has no regular expression and compares no field with another; a pattern by case needs a field's twin, a pattern a
+    /// field of texts, and the empty text a field of one value.
     fn lacks(&self, schema: &Schema, leaf: &Leaf) -> Option<Lack>
         ensures { result ≡ spec.lucene_lacks schema.now.fields leaf.now }
     {

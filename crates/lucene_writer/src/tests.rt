@@ -202,6 +202,40 @@ fn other_fields_are_lacking(rt: HostRuntime) -> Result<(), Fail> {
     Ok(())
 }
 
+fn finds(alloc: Global, field: u32, expression: &str, place: Place) -> Result<Tree, Fail> {
+    let expression = Text::copy(alloc, expression)?;
+    Ok(leaf_at(field, LeafTest::Finds(expression), place))
+}
+
+#[test]
+fn regular_expressions_are_lacking(rt: HostRuntime) -> Result<(), Fail> {
+    let alloc = rt.alloc();
+    let at = Place { line: 7, column: 5 };
+    for field in [0, 2, 7, 8] {
+        let text = written(alloc, &finds(alloc, field, "^a", at)?)?;
+        assert_eq!(rt; text.as_str(), "7: 111 Regex");
+    }
+    let later = both(
+        alloc,
+        fits(alloc, 1, "x")?,
+        not(alloc, finds(alloc, 0, "a|b", at)?)?,
+    )?;
+    assert_eq!(rt; later.as_str(), "7: 111 Regex");
+    let sooner = both(
+        alloc,
+        finds(alloc, 0, "a|b", at)?,
+        leaf_at(0, LeafTest::SameAs(1), PLACE),
+    )?;
+    assert_eq!(rt; sooner.as_str(), "7: 111 Regex");
+    let behind = both(
+        alloc,
+        leaf_at(0, LeafTest::SameAs(1), PLACE),
+        finds(alloc, 0, "a|b", at)?,
+    )?;
+    assert_eq!(rt; behind.as_str(), "6: 111 FieldRef");
+    Ok(())
+}
+
 fn both(alloc: Global, first: Tree, second: Tree) -> Result<String, Fail> {
     written(alloc, &Tree::All(two(alloc, first, second)?))
 }

@@ -150,6 +150,6 @@ pub(crate) fn put_test(
         }
         LeafTest::Equals(number) => put_equals(alloc, out, name, number),
         LeafTest::Compare { op, number } => put_compare(alloc, out, name, *op, number),
-        LeafTest::SameAs(_) => put_never(out, at),
+        LeafTest::SameAs(_) | LeafTest::Finds(_) => put_never(out, at),
     }
 }

@@ -59,7 +59,8 @@ fn is_denied_test(test: &LeafTest) -> bool
         | LeafTest::Fits { .. }
         | LeafTest::Equals(_)
         | LeafTest::Compare { .. }
-        | LeafTest::SameAs(_) => false,
+        | LeafTest::SameAs(_)
+        | LeafTest::Finds(_) => false,
     }
 }
 

@@ -1,15 +1,15 @@
 -- Chains of positions, `all`, `cased` and `exists`; chains with encodings.
 use Rattle.std.proofs.Common.{ℕ, ◌≡◌, Bool, true, false, ◌&&◌, ◌||◌, not, nat_le, List, [], ◌∷◌, refl, ap, ◌∙◌, cond, count_by}
-use Rattle.std.specs.Prelude.{Option, Some, None, is_some, if◌then◌else◌}
+use Rattle.std.specs.Prelude.{Option, None, is_some, if◌then◌else◌}
 use Rattle.std.specs.List.{list_all, list_any}
 use Rattle.std.proofs.lemmas.Bool.{and_parts, and_from}
 use Rattle.std.proofs.lemmas.List.Sums.{sum_by-cons}
-use Rattle.modifier_chains.specs.Chains.{is_chain, is_empty, is_presence, is_network_chain, is_order_chain, order_of, is_all_or_none, is_reference, is_text_chain, at_most_one, units_lead, encodings_lead, has_some_of}
+use Rattle.modifier_chains.specs.Chains.{is_chain, is_empty, is_presence, is_network_chain, is_order_chain, is_all_or_none, is_reference, is_expression_chain, is_text_chain, at_most_one, units_lead, encodings_lead, has_some_of}
 use Rattle.modifier_chains.specs.CommonChains.{is_common_text_word, is_common_word, is_common_chain}
-use Rattle.modifier_chains.specs.Kinds.{is_position, is_all, is_cased, is_exists, is_windash, is_units, is_encoding, is_cidr, order_in, is_fieldref, is_text_word, text_kinds, unencoded_kinds}
+use Rattle.modifier_chains.specs.Kinds.{is_position, is_all, is_cased, is_exists, is_windash, is_units, is_encoding, is_cidr, order_in, is_fieldref, is_re, is_expression_word, expression_kinds, is_text_word, text_kinds, unencoded_kinds}
 use Rattle.modifier_chains.specs.declared.modifier.Modifier.{Modifier}
 use Rattle.modifier_chains.specs.declared.modifier.Op.{Op}
-use Rattle.modifier_chains.specs.declared.modifier.Modifier.TheVariants.{Position, All, Cased, Windash, Units, Encoding, Exists, Cidr, Order, Fieldref}
+use Rattle.modifier_chains.specs.declared.modifier.Modifier.TheVariants.{Position, All, Cased, Windash, Units, Encoding, Exists, Cidr, Order, Fieldref, Re, Flag}
 
 -- what a common word is and isn't
 record IsPlain (m : Modifier) : Type 0 where
@@ -20,18 +20,21 @@ record IsPlain (m : Modifier) : Type 0 where
   no_cidr : is_cidr m ≡ false
   no_order : order_in m ≡ None
   no_fieldref : is_fieldref m ≡ false
+  no_re : is_re m ≡ false
 
 plain : (m : Modifier) → is_common_word m ≡ true → IsPlain m
-plain (Position p) h = record { word = refl; no_windash = refl; no_units = refl; no_encoding = refl; no_cidr = refl; no_order = refl; no_fieldref = refl }
-plain All h = record { word = refl; no_windash = refl; no_units = refl; no_encoding = refl; no_cidr = refl; no_order = refl; no_fieldref = refl }
-plain Cased h = record { word = refl; no_windash = refl; no_units = refl; no_encoding = refl; no_cidr = refl; no_order = refl; no_fieldref = refl }
+plain (Position p) h = record { word = refl; no_windash = refl; no_units = refl; no_encoding = refl; no_cidr = refl; no_order = refl; no_fieldref = refl; no_re = refl }
+plain All h = record { word = refl; no_windash = refl; no_units = refl; no_encoding = refl; no_cidr = refl; no_order = refl; no_fieldref = refl; no_re = refl }
+plain Cased h = record { word = refl; no_windash = refl; no_units = refl; no_encoding = refl; no_cidr = refl; no_order = refl; no_fieldref = refl; no_re = refl }
 plain Windash h = absurd cc
 plain (Units form) h = absurd cc
 plain (Encoding e) h = absurd cc
-plain Exists h = record { word = refl; no_windash = refl; no_units = refl; no_encoding = refl; no_cidr = refl; no_order = refl; no_fieldref = refl }
+plain Exists h = record { word = refl; no_windash = refl; no_units = refl; no_encoding = refl; no_cidr = refl; no_order = refl; no_fieldref = refl; no_re = refl }
 plain Cidr h = absurd cc
 plain (Order op) h = absurd cc
 plain Fieldref h = absurd cc
+plain Re h = absurd cc
+plain (Flag flag) h = absurd cc
 
 -- what a list of common words has and hasn't
 record ArePlain (ms : List Modifier) : Type 0 where
@@ -92,6 +95,10 @@ no_reference : (ms : List Modifier) → list_all is_common_word ms ≡ true → 
 no_reference [] h = refl
 no_reference (m ∷ ms) h = let first : IsPlain m = plain m (and_parts (is_common_word m) (list_all is_common_word ms) h).0 in rw first.no_fieldref refl
 
+no_expression : (ms : List Modifier) → list_all is_common_word ms ≡ true → is_expression_chain ms ≡ false
+no_expression [] h = refl
+no_expression (m ∷ ms) h = let first : IsPlain m = plain m (and_parts (is_common_word m) (list_all is_common_word ms) h).0 in rw first.no_re refl
+
 -- the text chains among them, by what is said of each part
 text_chain : (words position all cased units leads encoding : Bool) (windashes encodings : ℕ)
     → windashes ≡ 0 → encodings ≡ 0 → units ≡ true → leads ≡ true → encoding ≡ false → (unencoded : Bool)
@@ -112,22 +119,25 @@ common_text ms h =
     are.windashes are.encodings are.units are.leads are.no_encoding (has_some_of unencoded_kinds ms)
     ∙ ap (λ b. b && at_most_one is_position ms && at_most_one is_all ms && at_most_one is_cased ms) are.words
 
-at_keyword : (empty presence text common : Bool) → text ≡ common → (empty || text) ≡ (empty || (presence && false) || common)
-at_keyword true presence text common h = refl
-at_keyword false true text common h = h
-at_keyword false false text common h = h
+at_keyword : (empty presence expression text common : Bool) → expression ≡ false → text ≡ common
+    → (empty || expression || text) ≡ (empty || (presence && false) || common)
+at_keyword true presence expression text common x h = refl
+at_keyword false true expression text common x h = rw x h
+at_keyword false false expression text common x h = rw x h
 
-at_field : (empty presence network order reference text common : Bool) → network ≡ false → order ≡ false → reference ≡ false → text ≡ common
-    → (empty || presence || network || order || reference || text) ≡ (empty || (presence && true) || common)
-at_field true presence network order reference text common n o r h = refl
-at_field false true network order reference text common n o r h = refl
-at_field false false network order reference text common n o r h = rw (n, o, r) h
+at_field : (empty presence network order reference expression text common : Bool) → network ≡ false → order ≡ false → reference ≡ false
+    → expression ≡ false → text ≡ common
+    → (empty || presence || network || order || reference || expression || text) ≡ (empty || (presence && true) || common)
+at_field true presence network order reference expression text common n o r x h = refl
+at_field false true network order reference expression text common n o r x h = refl
+at_field false false network order reference expression text common n o r x h = rw (n, o, r, x) h
 
 pub common : (keyword : Bool) (ms : List Modifier) → list_all is_common_word ms ≡ true → is_chain keyword ms ≡ is_common_chain keyword ms
-common true ms h = at_keyword (is_empty ms) (is_presence ms) (is_text_chain ms) _ (common_text ms h)
+common true ms h =
+    at_keyword (is_empty ms) (is_presence ms) (is_expression_chain ms) (is_text_chain ms) _ (no_expression ms h) (common_text ms h)
 common false ms h =
-    at_field (is_empty ms) (is_presence ms) (is_network_chain ms) (is_order_chain ms) (is_reference ms) (is_text_chain ms) _
-    (no_network ms h) (no_order ms h) (no_reference ms h) (common_text ms h)
+    at_field (is_empty ms) (is_presence ms) (is_network_chain ms) (is_order_chain ms) (is_reference ms) (is_expression_chain ms) (is_text_chain ms) _
+    (no_network ms h) (no_order ms h) (no_reference ms h) (no_expression ms h) (common_text ms h)
 
 -- ---- encodings and dashes
 
@@ -159,6 +169,8 @@ tail_apart (Exists ∷ ms) h = absurd cc
 tail_apart (Cidr ∷ ms) h = absurd cc
 tail_apart (Order op ∷ ms) h = absurd cc
 tail_apart (Fieldref ∷ ms) h = absurd cc
+tail_apart (Re ∷ ms) h = absurd cc
+tail_apart (Flag flag ∷ ms) h = absurd cc
 
 empty_apart : (ms : List Modifier) → is_empty ms ≡ true → list_any is_encoding ms ≡ false
 empty_apart [] h = refl
@@ -175,6 +187,8 @@ presence_alone (Encoding e) h = absurd cc
 presence_alone Cidr h = refl
 presence_alone (Order op) h = refl
 presence_alone Fieldref h = refl
+presence_alone Re h = refl
+presence_alone (Flag flag) h = refl
 
 network_alone : (m : Modifier) → is_cidr m ≡ true → is_encoding m ≡ false
 network_alone Cidr h = refl
@@ -187,6 +201,8 @@ network_alone (Encoding e) h = absurd cc
 network_alone Exists h = refl
 network_alone (Order op) h = refl
 network_alone Fieldref h = refl
+network_alone Re h = refl
+network_alone (Flag flag) h = refl
 
 order_alone : (m : Modifier) → is_some (order_in m) ≡ true → is_encoding m ≡ false
 order_alone (Order op) h = refl
@@ -199,6 +215,8 @@ order_alone (Encoding e) h = absurd cc
 order_alone Exists h = refl
 order_alone Cidr h = refl
 order_alone Fieldref h = refl
+order_alone Re h = refl
+order_alone (Flag flag) h = refl
 
 reference_alone : (m : Modifier) → is_fieldref m ≡ true → is_encoding m ≡ false
 reference_alone Fieldref h = refl
@@ -211,6 +229,37 @@ reference_alone (Encoding e) h = absurd cc
 reference_alone Exists h = refl
 reference_alone Cidr h = refl
 reference_alone (Order op) h = refl
+reference_alone Re h = refl
+reference_alone (Flag flag) h = refl
+
+expression_alone : (m : Modifier) → is_re m ≡ true → is_encoding m ≡ false
+expression_alone Re h = refl
+expression_alone (Position p) h = refl
+expression_alone All h = refl
+expression_alone Cased h = refl
+expression_alone Windash h = refl
+expression_alone (Units form) h = refl
+expression_alone (Encoding e) h = absurd cc
+expression_alone Exists h = refl
+expression_alone Cidr h = refl
+expression_alone (Order op) h = refl
+expression_alone Fieldref h = refl
+expression_alone (Flag flag) h = refl
+
+-- what stands behind `re` is no encoding
+word_alone : (m : Modifier) → is_expression_word m ≡ true → is_encoding m ≡ false
+word_alone (Flag flag) h = refl
+word_alone (Position p) h = refl
+word_alone All h = refl
+word_alone Cased h = refl
+word_alone Windash h = refl
+word_alone (Units form) h = refl
+word_alone (Encoding e) h = absurd cc
+word_alone Exists h = refl
+word_alone Cidr h = refl
+word_alone (Order op) h = refl
+word_alone Fieldref h = refl
+word_alone Re h = refl
 
 no_encoding_in : (m : Modifier) (ms : List Modifier) → is_encoding m ≡ false → list_any is_encoding ms ≡ false → list_any is_encoding (m ∷ ms) ≡ false
 no_encoding_in m ms first rest = rw (first, rest) refl
@@ -238,32 +287,60 @@ reference_apart [] h = refl
 reference_apart (m ∷ ms) h =
     let both = and_parts (is_fieldref m) (is_empty ms) h in no_encoding_in m ms (reference_alone m both.0) (empty_apart ms both.1)
 
+words_apart : (ms : List Modifier) → list_all is_expression_word ms ≡ true → list_any is_encoding ms ≡ false
+words_apart [] h = refl
+words_apart (m ∷ ms) h =
+    let both = and_parts (is_expression_word m) (list_all is_expression_word ms) h in no_encoding_in m ms (word_alone m both.0) (words_apart ms both.1)
+
+first_two : (a b c : Bool) → (a && b && c) ≡ true → (a ≡ true) × (b ≡ true)
+first_two true true c h = (refl, refl)
+first_two true false c h = absurd cc
+first_two false b c h = absurd cc
+
+expression_apart : (ms : List Modifier) → is_expression_chain ms ≡ true → list_any is_encoding ms ≡ false
+expression_apart [] h = refl
+expression_apart (m ∷ ms) h =
+    let both = first_two (is_re m) (list_all is_expression_word ms) (list_all (λ is_kind. at_most_one is_kind ms) expression_kinds) h in
+    no_encoding_in m ms (expression_alone m both.0) (words_apart ms both.1)
+
 without : (e w : Bool) → e ≡ false → (e && w) ≡ false
 without e w h = rw h refl
 
-by_kind : (ms : List Modifier) (empty presence network order reference text : Bool) → is_empty ms ≡ empty → is_presence ms ≡ presence
-    → is_network_chain ms ≡ network → is_order_chain ms ≡ order → is_reference ms ≡ reference → is_text_chain ms ≡ text
-    → (empty || presence || network || order || reference || text) ≡ true → (list_any is_encoding ms && list_any is_windash ms) ≡ false
-by_kind ms true presence network order reference text e p n o r t h = without (list_any is_encoding ms) (list_any is_windash ms) (empty_apart ms e)
-by_kind ms false true network order reference text e p n o r t h = without (list_any is_encoding ms) (list_any is_windash ms) (presence_apart ms p)
-by_kind ms false false true order reference text e p n o r t h = without (list_any is_encoding ms) (list_any is_windash ms) (network_apart ms n)
-by_kind ms false false false true reference text e p n o r t h = without (list_any is_encoding ms) (list_any is_windash ms) (order_apart ms o)
-by_kind ms false false false false true text e p n o r t h = without (list_any is_encoding ms) (list_any is_windash ms) (reference_apart ms r)
-by_kind ms false false false false false text e p n o r t h = text_apart ms (t ∙ h)
+by_kind : (ms : List Modifier) (empty presence network order reference expression text : Bool) → is_empty ms ≡ empty → is_presence ms ≡ presence
+    → is_network_chain ms ≡ network → is_order_chain ms ≡ order → is_reference ms ≡ reference → is_expression_chain ms ≡ expression
+    → is_text_chain ms ≡ text → (empty || presence || network || order || reference || expression || text) ≡ true
+    → (list_any is_encoding ms && list_any is_windash ms) ≡ false
+by_kind ms true presence network order reference expression text e p n o r x t h =
+    without (list_any is_encoding ms) (list_any is_windash ms) (empty_apart ms e)
+by_kind ms false true network order reference expression text e p n o r x t h =
+    without (list_any is_encoding ms) (list_any is_windash ms) (presence_apart ms p)
+by_kind ms false false true order reference expression text e p n o r x t h =
+    without (list_any is_encoding ms) (list_any is_windash ms) (network_apart ms n)
+by_kind ms false false false true reference expression text e p n o r x t h =
+    without (list_any is_encoding ms) (list_any is_windash ms) (order_apart ms o)
+by_kind ms false false false false true expression text e p n o r x t h =
+    without (list_any is_encoding ms) (list_any is_windash ms) (reference_apart ms r)
+by_kind ms false false false false false true text e p n o r x t h =
+    without (list_any is_encoding ms) (list_any is_windash ms) (expression_apart ms x)
+by_kind ms false false false false false false text e p n o r x t h = text_apart ms (t ∙ h)
 
 -- what keywords take fields take too
-wider : (empty presence network order reference text : Bool) → (empty || text) ≡ true → (empty || presence || network || order || reference || text) ≡ true
-wider true presence network order reference text h = refl
-wider false true network order reference text h = refl
-wider false false true order reference text h = refl
-wider false false false true reference text h = refl
-wider false false false false true text h = refl
-wider false false false false false text h = h
+wider : (empty presence network order reference expression text : Bool) → (empty || expression || text) ≡ true
+    → (empty || presence || network || order || reference || expression || text) ≡ true
+wider true presence network order reference expression text h = refl
+wider false true network order reference expression text h = refl
+wider false false true order reference expression text h = refl
+wider false false false true reference expression text h = refl
+wider false false false false true expression text h = refl
+wider false false false false false expression text h = h
 
 field_apart : (ms : List Modifier) → is_chain false ms ≡ true → (list_any is_encoding ms && list_any is_windash ms) ≡ false
 field_apart ms h =
-    by_kind ms (is_empty ms) (is_presence ms) (is_network_chain ms) (is_order_chain ms) (is_reference ms) (is_text_chain ms) refl refl refl refl refl refl h
+    by_kind ms (is_empty ms) (is_presence ms) (is_network_chain ms) (is_order_chain ms) (is_reference ms) (is_expression_chain ms) (is_text_chain ms)
+    refl refl refl refl refl refl refl h
 
 pub apart : (keyword : Bool) (ms : List Modifier) → is_chain keyword ms ≡ true → (list_any is_encoding ms && list_any is_windash ms) ≡ false
-apart true ms h = field_apart ms (wider (is_empty ms) (is_presence ms) (is_network_chain ms) (is_order_chain ms) (is_reference ms) (is_text_chain ms) h)
+apart true ms h =
+    field_apart ms
+    (wider (is_empty ms) (is_presence ms) (is_network_chain ms) (is_order_chain ms) (is_reference ms) (is_expression_chain ms) (is_text_chain ms) h)
 apart false ms h = field_apart ms h

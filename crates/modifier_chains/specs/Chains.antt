@@ -5,11 +5,12 @@ use Rattle.sig_base.specs.declared.refusal.Place.{Place}
 use Rattle.sig_base.specs.declared.refusal.Refusal.{Refusal}
 use Rattle.sig_base.specs.declared.refusal.Detail.TheVariants as details
 use Rattle.sig_base.specs.Judged.{must, first}
-use Rattle.modifier_chains.specs.Kinds.{is_position, is_all, is_cased, is_units, is_encoding, is_exists, is_cidr, order_in, is_fieldref, text_kinds, unencoded_kinds, is_text_word}
+use Rattle.modifier_chains.specs.Kinds.{is_position, is_all, is_cased, is_units, is_encoding, is_exists, is_cidr, order_in, is_fieldref, is_re, is_case_flag, is_line_flag, is_dot_flag, expression_kinds, is_expression_word, text_kinds, unencoded_kinds, is_text_word}
 use Rattle.modifier_chains.specs.Words.{modifier_of, is_unknown}
 use Rattle.modifier_chains.specs.Written.{Written}
 use Rattle.modifier_chains.specs.declared.form.ChainForm.{ChainForm}
-use Rattle.modifier_chains.specs.declared.form.ChainForm.TheVariants.{Bare, Presence, Networks, Orders, Reference, Texts}
+use Rattle.modifier_chains.specs.declared.form.ChainForm.TheVariants.{Bare, Presence, Networks, Orders, Reference, Expressions, Texts}
+use Rattle.modifier_chains.specs.declared.form.Flags.{Flags}
 use Rattle.modifier_chains.specs.declared.modifier.Joined.{Joined}
 use Rattle.modifier_chains.specs.declared.modifier.Joined.TheVariants as joinings
 use Rattle.modifier_chains.specs.declared.modifier.Modifier.{Modifier}
@@ -57,6 +58,18 @@ abbrev pub is_reference : List Modifier → Bool
 is_reference [] = false
 is_reference (modifier ∷ modifiers) = is_fieldref modifier && is_empty modifiers
 
+-- `re`, and then perhaps flags and `all`, each at most once and in any order
+abbrev pub is_expression_chain : List Modifier → Bool
+is_expression_chain [] = false
+is_expression_chain (modifier ∷ modifiers) =
+    is_re modifier
+    && list_all is_expression_word modifiers
+    && list_all (λ is_kind. at_most_one is_kind modifiers) expression_kinds
+
+-- the flags that stand there
+abbrev pub flags_of : List Modifier → Flags
+flags_of modifiers = record { i = list_any is_case_flag modifiers; m = list_any is_line_flag modifiers; s = list_any is_dot_flag modifiers }
+
 -- units stand directly before an encoding, and nowhere else
 abbrev pub units_lead : List Modifier → Bool
 units_lead [] = true
@@ -89,12 +102,14 @@ is_field_chain modifiers =
     || is_network_chain modifiers
     || is_order_chain modifiers
     || is_reference modifiers
+    || is_expression_chain modifiers
     || is_text_chain modifiers
 
 -- the chains of keywords: no modifier, and a line for each kind of chain that keywords take
 abbrev pub is_keyword_chain : List Modifier → Bool
 is_keyword_chain modifiers =
     is_empty modifiers
+    || is_expression_chain modifiers
     || is_text_chain modifiers
 
 abbrev pub is_chain : Bool → List Modifier → Bool
@@ -134,7 +149,8 @@ unordered_form modifiers =
     if is_empty modifiers then Bare
     else (if is_presence modifiers then Presence
     else (if is_network_chain modifiers then Networks
-    else (if is_reference modifiers then Reference else Texts (takes_null modifiers))))
+    else (if is_reference modifiers then Reference
+    else (if is_expression_chain modifiers then Expressions (flags_of modifiers) else Texts (takes_null modifiers)))))
 
 abbrev pub ordered_form : Option Op → List Modifier → ChainForm
 ordered_form None modifiers = unordered_form modifiers
@@ -144,6 +160,9 @@ ordered_form (Some op) modifiers = Orders op
 abbrev pub field_form : List Modifier → ChainForm
 field_form modifiers = ordered_form (order_of modifiers) modifiers
 
--- a keyword takes text chains alone, also without a modifier, and no null
+-- the kind of a chain at a keyword: regular expressions, or else texts, also without a modifier, and no null
+abbrev pub keyword_form : List Modifier → ChainForm
+keyword_form modifiers = if is_expression_chain modifiers then Expressions (flags_of modifiers) else Texts false
+
 abbrev pub form_of : Written → ChainForm
-form_of chain = if chain.keyword then Texts false else field_form chain.modifiers
+form_of chain = if chain.keyword then keyword_form chain.modifiers else field_form chain.modifiers

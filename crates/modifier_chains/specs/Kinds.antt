@@ -1,8 +1,9 @@
 -- The kinds of modifiers.
 use Rattle.std.specs.Prelude.{Bool, true, false, List, [], ◌∷◌, ◌||◌, Option, Some, None}
 use Rattle.std.specs.List.{list_any}
+use Rattle.modifier_chains.specs.declared.modifier.Flag.TheVariants.{IgnoreCase, MultiLine, DotAll}
 use Rattle.modifier_chains.specs.declared.modifier.Modifier.{Modifier}
-use Rattle.modifier_chains.specs.declared.modifier.Modifier.TheVariants.{Position, All, Cased, Windash, Units, Encoding, Exists, Cidr, Order, Fieldref}
+use Rattle.modifier_chains.specs.declared.modifier.Modifier.TheVariants.{Position, All, Cased, Windash, Units, Encoding, Exists, Cidr, Order, Fieldref, Re, Flag}
 use Rattle.modifier_chains.specs.declared.modifier.Op.{Op}
 
 -- says where in a text the pattern is looked for
@@ -54,6 +55,34 @@ order_in _ = None
 abbrev pub is_fieldref : Modifier → Bool
 is_fieldref Fieldref = true
 is_fieldref _ = false
+
+-- searches for a regular expression
+abbrev pub is_re : Modifier → Bool
+is_re Re = true
+is_re _ = false
+
+-- makes letters match in either case (flag `i`)
+abbrev pub is_case_flag : Modifier → Bool
+is_case_flag (Flag IgnoreCase) = true
+is_case_flag _ = false
+
+-- makes `^` and `$` match at the ends of lines (flag `m`)
+abbrev pub is_line_flag : Modifier → Bool
+is_line_flag (Flag MultiLine) = true
+is_line_flag _ = false
+
+-- makes `.` match a line feed too (flag `s`)
+abbrev pub is_dot_flag : Modifier → Bool
+is_dot_flag (Flag DotAll) = true
+is_dot_flag _ = false
+
+-- the kinds that stand behind `re`, each at most once
+abbrev pub expression_kinds : List (Modifier → Bool)
+expression_kinds = is_case_flag ∷ is_line_flag ∷ is_dot_flag ∷ is_all ∷ []
+
+-- stands behind `re`: a flag, or `all`
+abbrev pub is_expression_word : Modifier → Bool
+is_expression_word modifier = list_any (λ is_kind. is_kind modifier) expression_kinds
 
 -- the kinds of which a text chain has at most one modifier each
 abbrev pub text_kinds : List (Modifier → Bool)

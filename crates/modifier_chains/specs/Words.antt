@@ -6,8 +6,9 @@ use Rattle.std.specs.Str.{bytes_eq}
 use Rattle.sig_base.specs.Texts.{is_ascii}
 use Rattle.sig_encode.specs.declared.utf16.Form.TheVariants.{Le, Be, Marked}
 use Rattle.modifier_chains.specs.declared.modifier.Encoding.TheVariants.{Base64, Base64Offset}
+use Rattle.modifier_chains.specs.declared.modifier.Flag.TheVariants.{IgnoreCase, MultiLine, DotAll}
 use Rattle.modifier_chains.specs.declared.modifier.Modifier.{Modifier}
-use Rattle.modifier_chains.specs.declared.modifier.Modifier.TheVariants.{Position, All, Cased, Windash, Units, Encoding, Exists, Cidr, Order, Fieldref}
+use Rattle.modifier_chains.specs.declared.modifier.Modifier.TheVariants.{Position, All, Cased, Windash, Units, Encoding, Exists, Cidr, Order, Fieldref, Re, Flag}
 use Rattle.modifier_chains.specs.declared.modifier.Op.TheVariants.{Lt, Lte, Gt, Gte}
 use Rattle.modifier_chains.specs.declared.modifier.Position.TheVariants.{Around, After, Before}
 
@@ -33,6 +34,10 @@ modifier_words =
     ∷ (codes "gt", Order Gt)
     ∷ (codes "gte", Order Gte)
     ∷ (codes "fieldref", Fieldref)
+    ∷ (codes "re", Re)
+    ∷ (codes "i", Flag IgnoreCase)
+    ∷ (codes "m", Flag MultiLine)
+    ∷ (codes "s", Flag DotAll)
     ∷ []
 
 abbrev pub modifier_in : List (List ℕ × Modifier) → List ℕ → Option Modifier

@@ -6,8 +6,8 @@ ghost use Rattle.modifier_chains.specs.Chains as chains;
 ghost use Rattle.modifier_chains.specs.Kinds as kinds;
 
 use crate::counting::{
-    is_all, is_cased, is_empty, is_network_chain, is_position, is_presence, is_reference, order_of,
-    takes_null,
+    flags_of, is_all, is_cased, is_empty, is_expression_chain, is_network_chain, is_position,
+    is_presence, is_reference, order_of, takes_null,
 };
 use crate::form::ChainForm;
 use crate::modifier::{Joined, Modifier};
@@ -93,12 +93,22 @@ impl Chain {
         ensures { result ≡ chains.form_of self.now }
     {
         if self.is_keyword() {
-            return ChainForm::Texts { nulls: false };
+            return self.keyword_form();
         }
         if let Some(op) = order_of(self.modifiers()) {
             return ChainForm::Orders(op);
         }
         self.unordered_form()
+    }
+
+    /// The kind of the chain at a keyword.
+    fn keyword_form(&self) -> ChainForm
+        ensures { result ≡ chains.keyword_form self.now.modifiers }
+    {
+        if is_expression_chain(self.modifiers()) {
+            return ChainForm::Expressions(flags_of(self.modifiers()));
+        }
+        ChainForm::Texts { nulls: false }
     }
 
     /// The kind of the chain at a field, if it asks for no order.
@@ -116,6 +126,9 @@ impl Chain {
         }
         if is_reference(self.modifiers()) {
             return ChainForm::Reference;
+        }
+        if is_expression_chain(self.modifiers()) {
+            return ChainForm::Expressions(flags_of(self.modifiers()));
         }
         ChainForm::Texts {
             nulls: takes_null(self.modifiers()),

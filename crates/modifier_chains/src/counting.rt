@@ -5,7 +5,8 @@ ghost use Rattle.std.specs.List.{list_all, list_any};
 ghost use Rattle.modifier_chains.specs.Chains as chains;
 ghost use Rattle.modifier_chains.specs.Kinds as kinds;
 
-use crate::modifier::{Modifier, Op};
+use crate::form::Flags;
+use crate::modifier::{Flag, Modifier, Op};
 
 pub fn is_position(modifier: &Modifier) -> bool
     ensures { result ≡ kinds.is_position modifier.now }
@@ -69,6 +70,88 @@ fn is_fieldref(modifier: &Modifier) -> bool
     ensures { result ≡ kinds.is_fieldref modifier.now }
 {
     matches!(modifier, Modifier::Fieldref)
+}
+
+fn is_re(modifier: &Modifier) -> bool
+    ensures { result ≡ kinds.is_re modifier.now }
+{
+    matches!(modifier, Modifier::Re)
+}
+
+fn is_case_flag(modifier: &Modifier) -> bool
+    ensures { result ≡ kinds.is_case_flag modifier.now }
+{
+    matches!(modifier, Modifier::Flag(Flag::IgnoreCase))
+}
+
+fn is_line_flag(modifier: &Modifier) -> bool
+    ensures { result ≡ kinds.is_line_flag modifier.now }
+{
+    matches!(modifier, Modifier::Flag(Flag::MultiLine))
+}
+
+fn is_dot_flag(modifier: &Modifier) -> bool
+    ensures { result ≡ kinds.is_dot_flag modifier.now }
+{
+    matches!(modifier, Modifier::Flag(Flag::DotAll))
+}
+
+fn is_expression_word(modifier: &Modifier) -> bool
+    ensures { result ≡ kinds.is_expression_word modifier.now }
+{
+    is_case_flag(modifier) || is_line_flag(modifier) || is_dot_flag(modifier) || is_all(modifier)
+}
+
+fn are_expression_words(modifiers: &[Modifier]) -> bool
+    ensures { result ≡ list_all kinds.is_expression_word modifiers.now }
+{
+    modifiers.iter().all(is_expression_word)
+}
+
+fn has_case_flag(modifiers: &[Modifier]) -> bool
+    ensures { result ≡ list_any kinds.is_case_flag modifiers.now }
+{
+    modifiers.iter().any(is_case_flag)
+}
+
+fn has_line_flag(modifiers: &[Modifier]) -> bool
+    ensures { result ≡ list_any kinds.is_line_flag modifiers.now }
+{
+    modifiers.iter().any(is_line_flag)
+}
+
+fn has_dot_flag(modifiers: &[Modifier]) -> bool
+    ensures { result ≡ list_any kinds.is_dot_flag modifiers.now }
+{
+    modifiers.iter().any(is_dot_flag)
+}
+
+fn one_case_flag(modifiers: &[Modifier]) -> bool
+    ensures { result ≡ chains.at_most_one kinds.is_case_flag modifiers.now }
+{
+    modifiers.iter().filter(|m| is_case_flag(m)).count() <= 1
+}
+
+fn one_line_flag(modifiers: &[Modifier]) -> bool
+    ensures { result ≡ chains.at_most_one kinds.is_line_flag modifiers.now }
+{
+    modifiers.iter().filter(|m| is_line_flag(m)).count() <= 1
+}
+
+fn one_dot_flag(modifiers: &[Modifier]) -> bool
+    ensures { result ≡ chains.at_most_one kinds.is_dot_flag modifiers.now }
+{
+    modifiers.iter().filter(|m| is_dot_flag(m)).count() <= 1
+}
+
+/// Whether there are no two words of one kind behind `re`.
+fn one_of_each_flag(modifiers: &[Modifier]) -> bool
+    ensures { result ≡ list_all (λ is_kind. chains.at_most_one is_kind modifiers.now) kinds.expression_kinds }
+{
+    one_case_flag(modifiers)
+        && one_line_flag(modifiers)
+        && one_dot_flag(modifiers)
+        && one_all(modifiers)
 }
 
 fn is_text_word(modifier: &Modifier) -> bool
@@ -259,6 +342,27 @@ pub fn is_reference(modifiers: &[Modifier]) -> bool
     is_fieldref(modifier) && is_empty(rest)
 }
 
+/// Whether regular expressions are asked for, alone or with flags and `all` behind, each at most once.
+pub fn is_expression_chain(modifiers: &[Modifier]) -> bool
+    ensures { result ≡ chains.is_expression_chain modifiers.now }
+{
+    let Some((modifier, rest)) = modifiers.split_first() else {
+        return false;
+    };
+    is_re(modifier) && are_expression_words(rest) && one_of_each_flag(rest)
+}
+
+/// The flags of regular expressions that stand there.
+pub fn flags_of(modifiers: &[Modifier]) -> Flags
+    ensures { result ≡ chains.flags_of modifiers.now }
+{
+    Flags {
+        i: has_case_flag(modifiers),
+        m: has_line_flag(modifiers),
+        s: has_dot_flag(modifiers),
+    }
+}
+
 /// Whether null is taken beside texts.
 pub fn takes_null(modifiers: &[Modifier]) -> bool
     ensures { result ≡ chains.takes_null modifiers.now }
@@ -274,13 +378,14 @@ fn is_field_chain(modifiers: &[Modifier]) -> bool
         || is_network_chain(modifiers)
         || is_order_chain(modifiers)
         || is_reference(modifiers)
+        || is_expression_chain(modifiers)
         || is_text_chain(modifiers)
 }
 
 fn is_keyword_chain(modifiers: &[Modifier]) -> bool
     ensures { result ≡ chains.is_keyword_chain modifiers.now }
 {
-    is_empty(modifiers) || is_text_chain(modifiers)
+    is_empty(modifiers) || is_expression_chain(modifiers) || is_text_chain(modifiers)
 }
 
 /// Whether the modifiers may stand together, at a keyword or at a field.

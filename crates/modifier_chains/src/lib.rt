@@ -2,9 +2,9 @@
 #![tactic(auto)]
 
 pub use chain::Chain;
-pub use form::ChainForm;
+pub use form::{ChainForm, Flags};
 pub use law::{common_chains, encodings_without_dashes};
-pub use modifier::{Encoding, Joined, Modifier, Op, Position};
+pub use modifier::{Encoding, Flag, Joined, Modifier, Op, Position};
 
 mod chain;
 mod counting;

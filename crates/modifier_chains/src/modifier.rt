@@ -39,6 +39,17 @@ pub enum Op {
     Gte,
 }
 
+/// How a regular expression is read.
+#[derive(Clone, Copy, Debug, PartialEq, Eq)]
+pub enum Flag {
+    /// letters match in either case
+    IgnoreCase,
+    /// `^` and `$` match at the ends of lines
+    MultiLine,
+    /// `.` matches a line feed too
+    DotAll,
+}
+
 /// What a word behind a field's name asks for. What tells words of one kind apart is the kind's argument.
 #[derive(Clone, Copy, Debug, PartialEq, Eq)]
 pub enum Modifier {
@@ -62,6 +73,10 @@ pub enum Modifier {
     Order(Op),
     /// that the value is that of another field
     Fieldref,
+    /// that a regular expression is found in the value
+    Re,
+    /// how the regular expression is read
+    Flag(Flag),
 }
 
 /// Whether all values of an item have to be satisfied, or one of them.
@@ -72,7 +87,7 @@ pub enum Joined {
 }
 
 /// Each word, and what it asks for.
-const WORDS: [(&str, Modifier); 19] = [
+const WORDS: [(&str, Modifier); 23] = [
     ("contains", Modifier::Position(Position::Around)),
     ("startswith", Modifier::Position(Position::After)),
     ("endswith", Modifier::Position(Position::Before)),
@@ -92,6 +107,10 @@ const WORDS: [(&str, Modifier); 19] = [
     ("gt", Modifier::Order(Op::Gt)),
     ("gte", Modifier::Order(Op::Gte)),
     ("fieldref", Modifier::Fieldref),
+    ("re", Modifier::Re),
+    ("i", Modifier::Flag(Flag::IgnoreCase)),
+    ("m", Modifier::Flag(Flag::MultiLine)),
+    ("s", Modifier::Flag(Flag::DotAll)),
 ];
 
 /// The modifier that a word names in these rows.

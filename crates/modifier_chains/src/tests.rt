@@ -1,6 +1,6 @@
 //! Rows of the table of chains, reckoned by hand.
 
-use crate::{Chain, ChainForm, Joined, Op};
+use crate::{Chain, ChainForm, Flags, Joined, Op};
 use sig_base::{Detail, Fault, Place, Refusal, Text};
 use std::alloc::Global;
 use std::test::Fail;
@@ -77,7 +77,32 @@ wide|utf16|base64~41~41
 startswith|wide|base64~41~41
 wide|contains~41~41
 base64|exists~41~41
-base64|endswith|cased~texts any~texts any";
+base64|endswith|cased~texts any~texts any
+re~expression any~expression any
+re|i~expression i any~expression i any
+re|m~expression m any~expression m any
+re|s~expression s any~expression s any
+re|s|m|i|all~expression ims all~expression ims all
+re|all|i~expression i all~expression i all
+re|s|m~expression ms any~expression ms any
+re|s|i~expression is any~expression is any
+re|m|all|i~expression im all~expression im all
+re|i|i~41~41
+re|s|all|s~41~41
+re|all|all~41~41
+re|re~41~41
+i~41~41
+i|re~41~41
+all|re~41~41
+re|contains~41~41
+re|cased~41~41
+cased|re~41~41
+re|base64~41~41
+re|i|windash~41~41
+cidr|i~41~41
+gt|m~41~41
+re|I~40 I~40 I
+re|x~40 x~40 x";
 
 fn words(alloc: Global, joined: &str) -> Result<Vec<Text>, Fail> {
     let mut texts = Vec::new(alloc);
@@ -105,6 +130,19 @@ fn refused(alloc: Global, refusal: &Refusal) -> Result<String, Fail> {
     Ok(shown)
 }
 
+fn expression_word(flags: Flags) -> &'static str {
+    match (flags.i, flags.m, flags.s) {
+        (false, false, false) => "expression",
+        (true, false, false) => "expression i",
+        (false, true, false) => "expression m",
+        (false, false, true) => "expression s",
+        (true, true, false) => "expression im",
+        (true, false, true) => "expression is",
+        (false, true, true) => "expression ms",
+        (true, true, true) => "expression ims",
+    }
+}
+
 fn form_word(form: ChainForm) -> &'static str {
     match form {
         ChainForm::Bare => "bare",
@@ -115,6 +153,7 @@ fn form_word(form: ChainForm) -> &'static str {
         ChainForm::Orders(Op::Gt) => "above",
         ChainForm::Orders(Op::Gte) => "at least",
         ChainForm::Reference => "reference",
+        ChainForm::Expressions(flags) => expression_word(flags),
         ChainForm::Texts { nulls: true } => "nulls",
         ChainForm::Texts { nulls: false } => "texts",
     }
@@ -157,6 +196,6 @@ fn words_make_chains(rt: HostRuntime) -> Result<(), Fail> {
             "{row}"
         );
     }
-    assert_eq!(rt; ROWS.lines().count(), 69);
+    assert_eq!(rt; ROWS.lines().count(), 94);
     Ok(())
 }

@@ -2,6 +2,7 @@
 use Rattle.std.proofs.Common.{◌≡◌, Bool, true, false, List, [], ◌∷◌, map, refl, sym, ap, ◌∙◌}
 use Rattle.std.specs.Prelude.{Option, Some, None, Result, if◌then◌else◌, codes}
 use Rattle.sig_base.specs.declared.limits.Limits.{Limits}
+use Rattle.sig_base.specs.declared.refusal.Place.{Place}
 use Rattle.sig_base.specs.declared.refusal.Refusal.{Refusal}
 use Rattle.sig_base.specs.declared.refusal.Fault.{Fault}
 use Rattle.sig_base.specs.Judged.{first, Judged}
@@ -44,41 +45,41 @@ first_both f g h one (x ∷ xs) fs gs =
     let b = first_holds (g x) (map g xs) gs in
     skips (h x) (map h xs) (one x a.0 b.0) ∙ first_both f g h one xs a.1 b.1
 
-step_passes : (limits : Limits) (t : Tree) → spec.step_refusal t ≡ None → spec.items_refusal limits t ≡ None → step_cause limits t ≡ None
-step_passes limits t none items =
+step_passes : (unbuilt : List Place) (limits : Limits) (t : Tree) → spec.step_refusal t ≡ None → spec.items_refusal unbuilt limits t ≡ None → step_cause unbuilt limits t ≡ None
+step_passes unbuilt limits t none items =
     let kind = spec.kind_at t in
     let lines = first_holds (map_refusal t) (spec.typed_refusal t ∷ spec.needed_refusal kind t ∷ spec.entries_refusal kind t ∷ [])
     (least_none (map_refusal t ∷ spec.typed_refusal t ∷ spec.needed_refusal kind t ∷ spec.entries_refusal kind t ∷ []) none) in
     let typed = first_holds (spec.typed_refusal t) (spec.needed_refusal kind t ∷ spec.entries_refusal kind t ∷ []) lines.1 in
-    skips (spec.typed_refusal t) (items_cause limits t ∷ []) typed.0
-    ∙ skips (items_cause limits t) [] (least_none (map (item_refusal limits) (spec.added_in t)) items)
+    skips (spec.typed_refusal t) (items_cause unbuilt limits t ∷ []) typed.0
+    ∙ skips (items_cause unbuilt limits t) [] (least_none (map (item_refusal unbuilt limits) (spec.added_in t)) items)
 
-all_pass : (limits : Limits) (o : Option Tree) → refused_by spec.steps_refusal o ≡ None → first (map (spec.items_refusal limits) (spec.parts_if o)) ≡ None
-    → first (map (step_cause limits) (spec.parts_if o)) ≡ None
-all_pass limits None none items = refl
-all_pass limits (Some t) none items =
+all_pass : (unbuilt : List Place) (limits : Limits) (o : Option Tree) → refused_by spec.steps_refusal o ≡ None → first (map (spec.items_refusal unbuilt limits) (spec.parts_if o)) ≡ None
+    → first (map (step_cause unbuilt limits) (spec.parts_if o)) ≡ None
+all_pass unbuilt limits None none items = refl
+all_pass unbuilt limits (Some t) none items =
     let steps = least (map spec.step_refusal (parts_in t)) in
     let ids = spec.ids_refusal (parts_in t) in
     let lines = first_holds (list_refusal t) (steps ∷ ids ∷ []) (least_none (list_refusal t ∷ steps ∷ ids ∷ []) none) in
     let each = first_holds steps (ids ∷ []) lines.1 in
-    first_both spec.step_refusal (spec.items_refusal limits) (step_cause limits) (step_passes limits) (parts_in t)
+    first_both spec.step_refusal (spec.items_refusal unbuilt limits) (step_cause unbuilt limits) (step_passes unbuilt limits) (parts_in t)
     (least_none (map spec.step_refusal (parts_in t)) each.0) items
 
-pub nothing_left : (limits : Limits) (t : Tree) → spec.pipeline_refusal limits t ≡ None → steps_cause limits t ≡ None
-nothing_left limits t none =
+pub nothing_left : (unbuilt : List Place) (limits : Limits) (t : Tree) → spec.pipeline_refusal unbuilt limits t ≡ None → steps_cause unbuilt limits t ≡ None
+nothing_left unbuilt limits t none =
     let entries = least (map spec.top_entry (entries_in t)) in
-    let both = sooner_none (spec.shape_refusal t) (spec.all_items_refusal limits t) none in
+    let both = sooner_none (spec.shape_refusal t) (spec.all_items_refusal unbuilt limits t) none in
     let lines = first_holds (map_refusal t) (entries ∷ spec.steps_refusal_at t ∷ [])
     (least_none (map_refusal t ∷ entries ∷ spec.steps_refusal_at t ∷ []) both.0) in
     let behind = first_holds entries (spec.steps_refusal_at t ∷ []) lines.1 in
     let steps = first_holds (spec.steps_refusal_at t) [] behind.1 in
-    all_pass limits (value_in (codes "transformations") (entries_in t)) steps.0 (least_none (map (spec.items_refusal limits) (spec.steps_in t)) both.1)
+    all_pass unbuilt limits (value_in (codes "transformations") (entries_in t)) steps.0 (least_none (map (spec.items_refusal unbuilt limits) (spec.steps_in t)) both.1)
 
 -- what is read where nothing is found to refuse
-pub read_whole : (limits : Limits) (t : Tree) (shape items : Option Refusal) (r : Result Pipeline Fault)
-    → shape ≡ spec.shape_refusal t → items ≡ spec.all_items_refusal limits t → None ≡ sooner shape items
-    → Judged (IsPipeline t) (steps_cause limits t) r → Judged (IsPipeline t) (spec.pipeline_refusal limits t) r
-read_whole limits t shape items r shapes are none judged =
-    let nothing : spec.pipeline_refusal limits t ≡ None =
-    sym (ap (λ (o : Option Refusal). sooner o (spec.all_items_refusal limits t)) shapes) ∙ (sym (ap (sooner shape) are) ∙ sym none) in
-    judged_last (IsPipeline t) (spec.pipeline_refusal limits t) (steps_cause limits t) r (nothing ∙ sym (nothing_left limits t nothing)) judged
+pub read_whole : (unbuilt : List Place) (limits : Limits) (t : Tree) (shape items : Option Refusal) (r : Result Pipeline Fault)
+    → shape ≡ spec.shape_refusal t → items ≡ spec.all_items_refusal unbuilt limits t → None ≡ sooner shape items
+    → Judged (IsPipeline t) (steps_cause unbuilt limits t) r → Judged (IsPipeline t) (spec.pipeline_refusal unbuilt limits t) r
+read_whole unbuilt limits t shape items r shapes are none judged =
+    let nothing : spec.pipeline_refusal unbuilt limits t ≡ None =
+    sym (ap (λ (o : Option Refusal). sooner o (spec.all_items_refusal unbuilt limits t)) shapes) ∙ (sym (ap (sooner shape) are) ∙ sym none) in
+    judged_last (IsPipeline t) (spec.pipeline_refusal unbuilt limits t) (steps_cause unbuilt limits t) r (nothing ∙ sym (nothing_left unbuilt limits t nothing)) judged

@@ -240,8 +240,8 @@ added_by kind t = if adds kind then entries_at (codes "conditions") t else []
 abbrev pub added_in : Tree → List Member
 added_in t = added_by (kind_at t) t
 
-abbrev pub items_refusal : Limits → Tree → Option Refusal
-items_refusal limits t = least (list_map (item_refusal limits) (added_in t))
+abbrev pub items_refusal : List Place → Limits → Tree → Option Refusal
+items_refusal unbuilt limits t = least (list_map (item_refusal unbuilt limits) (added_in t))
 
 abbrev pub parts_if : Option Tree → List Tree
 parts_if None = []
@@ -254,8 +254,8 @@ parts_at key t = parts_if (value_in key (entries_in t))
 abbrev pub steps_in : Tree → List Tree
 steps_in t = parts_at (codes "transformations") t
 
-abbrev pub all_items_refusal : Limits → Tree → Option Refusal
-all_items_refusal limits t = least (list_map (items_refusal limits) (steps_in t))
+abbrev pub all_items_refusal : List Place → Limits → Tree → Option Refusal
+all_items_refusal unbuilt limits t = least (list_map (items_refusal unbuilt limits) (steps_in t))
 
-abbrev pub pipeline_refusal : Limits → Tree → Option Refusal
-pipeline_refusal limits t = sooner (shape_refusal t) (all_items_refusal limits t)
+abbrev pub pipeline_refusal : List Place → Limits → Tree → Option Refusal
+pipeline_refusal unbuilt limits t = sooner (shape_refusal t) (all_items_refusal unbuilt limits t)

@@ -13,7 +13,7 @@ use crate::causes::sooner;
 use crate::checks::kind_at;
 use crate::words::StepKind;
 use rule_items::{Alternative, Item};
-use sig_base::{Fault, Limits, Refusal};
+use sig_base::{Fault, Limits, Place, Refusal};
 use std::alloc::Global;
 use yaml_tree::{Entry, Node, all_entries, parts_of, value_at};
 
@@ -55,11 +55,16 @@ fn added_in(node: &Node) -> &[Entry]
     &[]
 }
 
-fn check_item(alloc: Global, limits: &Limits, entry: &Entry) -> Result<Option<Refusal>, Fault>
-    ensures ok { IfOk result (λ r. r ≡ item_refusal limits.now (entry_view entry.now)) }
+fn check_item(
+    alloc: Global,
+    limits: &Limits,
+    unbuilt: &[Place],
+    entry: &Entry,
+) -> Result<Option<Refusal>, Fault>
+    ensures ok { IfOk result (λ r. r ≡ item_refusal unbuilt.now limits.now (entry_view entry.now)) }
     ensures err { IfErr result (λ e. e ≡ Fault.Memory) }
 {
-    match Item::read(alloc, limits, entry) {
+    match Item::read(alloc, limits, unbuilt, entry) {
         Ok(_) => Ok(None),
         Err(Fault::Refused(refusal)) => Ok(Some(refusal)),
         Err(Fault::Memory) => Err(Fault::Memory),
@@ -69,32 +74,43 @@ fn check_item(alloc: Global, limits: &Limits, entry: &Entry) -> Result<Option<Re
 fn check_entries(
     alloc: Global,
     limits: &Limits,
+    unbuilt: &[Place],
     entries: &[Entry],
 ) -> Result<Option<Refusal>, Fault>
-    ensures ok { IfOk result (λ r. r ≡ least (list_map (item_refusal limits.now) (entries_view entries.now))) }
+    ensures ok { IfOk result (λ r. r ≡ least (list_map (item_refusal unbuilt.now limits.now) (entries_view entries.now))) }
     ensures err { IfErr result (λ e. e ≡ Fault.Memory) }
 {
     let mut found = None;
     for entry in entries {
-        found = sooner(found, check_item(alloc, limits, entry)?);
+        found = sooner(found, check_item(alloc, limits, unbuilt, entry)?);
     }
     Ok(found)
 }
 
-fn check_added(alloc: Global, limits: &Limits, node: &Node) -> Result<Option<Refusal>, Fault>
-    ensures ok { IfOk result (λ r. r ≡ spec.items_refusal limits.now (node_view node.now)) }
+fn check_added(
+    alloc: Global,
+    limits: &Limits,
+    unbuilt: &[Place],
+    node: &Node,
+) -> Result<Option<Refusal>, Fault>
+    ensures ok { IfOk result (λ r. r ≡ spec.items_refusal unbuilt.now limits.now (node_view node.now)) }
     ensures err { IfErr result (λ e. e ≡ Fault.Memory) }
 {
-    check_entries(alloc, limits, added_in(node))
+    check_entries(alloc, limits, unbuilt, added_in(node))
 }
 
-fn check_parts(alloc: Global, limits: &Limits, parts: &[Node]) -> Result<Option<Refusal>, Fault>
-    ensures ok { IfOk result (λ r. r ≡ least (list_map (spec.items_refusal limits.now) (nodes_view parts.now))) }
+fn check_parts(
+    alloc: Global,
+    limits: &Limits,
+    unbuilt: &[Place],
+    parts: &[Node],
+) -> Result<Option<Refusal>, Fault>
+    ensures ok { IfOk result (λ r. r ≡ least (list_map (spec.items_refusal unbuilt.now limits.now) (nodes_view parts.now))) }
     ensures err { IfErr result (λ e. e ≡ Fault.Memory) }
 {
     let mut found = None;
     for part in parts {
-        found = sooner(found, check_added(alloc, limits, part)?);
+        found = sooner(found, check_added(alloc, limits, unbuilt, part)?);
     }
     Ok(found)
 }
@@ -103,26 +119,28 @@ fn check_parts(alloc: Global, limits: &Limits, parts: &[Node]) -> Result<Option<
 pub(crate) fn check_items(
     alloc: Global,
     limits: &Limits,
+    unbuilt: &[Place],
     node: &Node,
 ) -> Result<Option<Refusal>, Fault>
-    ensures ok { IfOk result (λ r. r ≡ spec.all_items_refusal limits.now (node_view node.now)) }
+    ensures ok { IfOk result (λ r. r ≡ spec.all_items_refusal unbuilt.now limits.now (node_view node.now)) }
     ensures err { IfErr result (λ e. e ≡ Fault.Memory) }
 {
-    check_parts(alloc, limits, parts_at(node, "transformations"))
+    check_parts(alloc, limits, unbuilt, parts_at(node, "transformations"))
 }
 
 /// The items of entries.
 pub(crate) fn read_items(
     alloc: Global,
     limits: &Limits,
+    unbuilt: &[Place],
     entries: &[Entry],
 ) -> Result<Alternative, Fault>
     ensures { Judged (λ items. AllZip IsItem (entries_view entries.now) items)
-        (first (list_map (item_refusal limits.now) (entries_view entries.now))) result }
+        (first (list_map (item_refusal unbuilt.now limits.now) (entries_view entries.now))) result }
 {
     let mut items = Alternative::with_capacity(alloc, entries.len())?;
     for entry in entries {
-        let item = Item::read(alloc, limits, entry)?;
+        let item = Item::read(alloc, limits, unbuilt, entry)?;
         items.push(item)?;
     }
     Ok(items)

@@ -19,7 +19,7 @@ use crate::items::{check_items, entries_at, parts_at, read_items};
 use crate::pipeline::Pipeline;
 use crate::step::{Action, Choice, Step};
 use crate::words::{Listing, StepKind};
-use sig_base::{Fault, Limits, Sequence};
+use sig_base::{Fault, Limits, Place, Sequence};
 use std::alloc::Global;
 use yaml_tree::{Node, all_entries, place_of};
 
@@ -36,11 +36,16 @@ fn copy_choice(alloc: Global, node: &Node) -> Result<Choice, Fault>
 }
 
 /// The step that adds the items of its entries.
-fn read_added(alloc: Global, limits: &Limits, node: &Node) -> Result<Action, Fault>
+fn read_added(
+    alloc: Global,
+    limits: &Limits,
+    unbuilt: &[Place],
+    node: &Node,
+) -> Result<Action, Fault>
     ensures { Judged (spec.IsAdded (node_view node.now))
-        (first (list_map (item_refusal limits.now) (spec_entries_at (codes "conditions") (node_view node.now)))) result }
+        (first (list_map (item_refusal unbuilt.now limits.now) (spec_entries_at (codes "conditions") (node_view node.now)))) result }
 {
-    let items = read_items(alloc, limits, entries_at(node, "conditions"))?;
+    let items = read_items(alloc, limits, unbuilt, entries_at(node, "conditions"))?;
     Ok(Action::Add {
         items,
         negated: is_negated(node),
@@ -48,9 +53,15 @@ fn read_added(alloc: Global, limits: &Limits, node: &Node) -> Result<Action, Fau
 }
 
 /// What a step of this type does.
-fn read_action(alloc: Global, limits: &Limits, kind: StepKind, node: &Node) -> Result<Action, Fault>
+fn read_action(
+    alloc: Global,
+    limits: &Limits,
+    unbuilt: &[Place],
+    kind: StepKind,
+    node: &Node,
+) -> Result<Action, Fault>
     ensures { Judged (spec.IsAction kind (node_view node.now))
-        (first (list_map (item_refusal limits.now) (added_by (Some kind) (node_view node.now)))) result }
+        (first (list_map (item_refusal unbuilt.now limits.now) (added_by (Some kind) (node_view node.now)))) result }
 {
     match kind {
         StepKind::MapNames => Ok(Action::MapNames(copy_mapping(alloc, node)?)),
@@ -58,7 +69,7 @@ fn read_action(alloc: Global, limits: &Limits, kind: StepKind, node: &Node) -> R
         StepKind::Suffix => Ok(Action::Suffix(copy_text_or_none(alloc, node, "suffix")?)),
         StepKind::MapPrefixes => Ok(Action::MapPrefixes(copy_mapping(alloc, node)?)),
         StepKind::Drop => Ok(Action::Drop),
-        StepKind::Add => read_added(alloc, limits, node),
+        StepKind::Add => read_added(alloc, limits, unbuilt, node),
         StepKind::Source => Ok(Action::Source(copy_source(alloc, node)?)),
         StepKind::MapTexts => Ok(Action::MapTexts(copy_mapping(alloc, node)?)),
         StepKind::FillHoles => Ok(Action::FillHoles(copy_choice(alloc, node)?)),
@@ -88,33 +99,43 @@ fn read_conditions(alloc: Global, action: Action, node: &Node) -> Result<Step, F
     })
 }
 
-fn read_step(alloc: Global, limits: &Limits, node: &Node) -> Result<Step, Fault>
-    ensures { Judged (spec.IsStep (node_view node.now)) (causes.step_cause limits.now (node_view node.now)) result }
+fn read_step(alloc: Global, limits: &Limits, unbuilt: &[Place], node: &Node) -> Result<Step, Fault>
+    ensures { Judged (spec.IsStep (node_view node.now)) (causes.step_cause unbuilt.now limits.now (node_view node.now)) result }
 {
     let kind = typed_kind(alloc, node)?;
-    let action = read_action(alloc, limits, kind, node)?;
+    let action = read_action(alloc, limits, unbuilt, kind, node)?;
     read_conditions(alloc, action, node)
 }
 
-fn read_steps(alloc: Global, limits: &Limits, parts: &[Node]) -> Result<Sequence<Step>, Fault>
+fn read_steps(
+    alloc: Global,
+    limits: &Limits,
+    unbuilt: &[Place],
+    parts: &[Node],
+) -> Result<Sequence<Step>, Fault>
     ensures { Judged (λ steps. AllZip spec.IsStep (nodes_view parts.now) steps)
-        (first (list_map (causes.step_cause limits.now) (nodes_view parts.now))) result }
+        (first (list_map (causes.step_cause unbuilt.now limits.now) (nodes_view parts.now))) result }
 {
     let mut steps = Sequence::new(alloc);
     for part in parts {
-        let step = read_step(alloc, limits, part)?;
+        let step = read_step(alloc, limits, unbuilt, part)?;
         steps.push(step)?;
     }
     Ok(steps)
 }
 
 /// Reads a pipeline of which nothing is refused.
-fn read_all(alloc: Global, limits: &Limits, node: &Node) -> Result<Pipeline, Fault>
-    ensures { Judged (spec.IsPipeline (node_view node.now)) (causes.steps_cause limits.now (node_view node.now)) result }
+fn read_all(
+    alloc: Global,
+    limits: &Limits,
+    unbuilt: &[Place],
+    node: &Node,
+) -> Result<Pipeline, Fault>
+    ensures { Judged (spec.IsPipeline (node_view node.now)) (causes.steps_cause unbuilt.now limits.now (node_view node.now)) result }
 {
     let name = copy_text_or_none(alloc, node, "name")?;
     let vars = copy_vars(alloc, entries_at(node, "vars"))?;
-    let steps = read_steps(alloc, limits, parts_at(node, "transformations"))?;
+    let steps = read_steps(alloc, limits, unbuilt, parts_at(node, "transformations"))?;
     Ok(Pipeline {
         name,
         priority: priority_of(node),
@@ -127,15 +148,21 @@ impl Pipeline {
     /// Reads the pipeline that a document is. Of all keys and values that aren't allowed the first by place is refused: 90
     /// where a key or value isn't one of a pipeline or a key is missing, 91 where a step's type or a key of the pipeline is
     /// left out, 92 where a condition's type or key isn't known, 93 where a step has an earlier one's `id`, and an item that
-    /// is added with the code of items. At one place the smallest code is answered.
-    pub fn read(alloc: Global, limits: &Limits, node: &Node) -> Result<Pipeline, Fault>
-        ensures { Judged (spec.IsPipeline (node_view node.now)) (pipeline_refusal limits.now (node_view node.now)) result }
+    /// is added with the code of items, 48 where it stands at one of the places `unbuilt`, at which no regular expression is built.
+    /// At one place the smallest code is answered.
+    pub fn read(
+        alloc: Global,
+        limits: &Limits,
+        unbuilt: &[Place],
+        node: &Node,
+    ) -> Result<Pipeline, Fault>
+        ensures { Judged (spec.IsPipeline (node_view node.now)) (pipeline_refusal unbuilt.now limits.now (node_view node.now)) result }
     {
         let shape = check_shape(alloc, node)?;
-        let items = check_items(alloc, limits, node)?;
+        let items = check_items(alloc, limits, unbuilt, node)?;
         match sooner(shape, items) {
             Some(refusal) => Err(Fault::Refused(refusal)),
-            None => read_all(alloc, limits, node),
+            None => read_all(alloc, limits, unbuilt, node),
         }
     }
 }

@@ -146,7 +146,7 @@ fn told(alloc: Global, fault: &Fault) -> Result<String, Fail> {
 
 /// What refuses a row's pipeline, or nothing.
 fn refusal(alloc: Global, row: &str) -> Result<String, Fail> {
-    match Pipeline::read(alloc, &Limits::standard(), &document(alloc, row)?) {
+    match Pipeline::read(alloc, &Limits::standard(), &[], &document(alloc, row)?) {
         Ok(_) => Ok(String::new(alloc)),
         Err(fault) => told(alloc, &fault),
     }
@@ -375,7 +375,7 @@ fn push_step(alloc: Global, shown: &mut String, step: &Step) -> Result<(), Fail>
 
 /// What a row's pipeline is read as.
 fn shown(alloc: Global, row: &str) -> Result<String, Fail> {
-    let pipeline = Pipeline::read(alloc, &Limits::standard(), &document(alloc, row)?)?;
+    let pipeline = Pipeline::read(alloc, &Limits::standard(), &[], &document(alloc, row)?)?;
     let priority = pipeline.priority;
     let mut shown = format!(in alloc; "{} {priority}", pipeline.name.as_str())?;
     for var in pipeline.vars.as_slice() {

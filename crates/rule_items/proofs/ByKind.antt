@@ -13,18 +13,18 @@ use Rattle.rule_items.specs.Items.{IsItem, keyword_refusal}
 use Rattle.yaml_tree.specs.Nodes.{is_map, is_scalar, entries_in}
 use Rattle.rule_items.specs.declared.item.Item.{Item}
 
-abbrev ItemsJudged : Limits → Result (List Item) Fault → Place → List Member → Type 0
-ItemsJudged limits r place es = Judged (λ items. AllZip IsItem es items) (items_refusal limits place es) r
+abbrev ItemsJudged : List Place → Limits → Result (List Item) Fault → Place → List Member → Type 0
+ItemsJudged unbuilt limits r place es = Judged (λ items. AllZip IsItem es items) (items_refusal unbuilt limits place es) r
 
-pub map_judged : (limits : Limits) (t : Tree) (es : List Member) (place : Place) (r : Result (List Item) Fault) → is_map t ≡ true → entries_in t ≡ es → place ≡ place_of t
-    → Judged (λ items. AllZip IsItem es items) (items_refusal limits place es) r → Judged (λ items. IsAlternative t items) (alternative_refusal limits t) r
-map_judged limits (scalar a s) es place r is same at judged = absurd cc
-map_judged limits (list a es) fs place r is same at judged = absurd cc
-map_judged limits (map a ms) es place r is same at judged =
-    subst (λ p. ItemsJudged limits r p (entries_in (map a ms))) at (subst (λ fs. ItemsJudged limits r place fs) (sym same) judged)
+pub map_judged : (unbuilt : List Place) (limits : Limits) (t : Tree) (es : List Member) (place : Place) (r : Result (List Item) Fault) → is_map t ≡ true → entries_in t ≡ es → place ≡ place_of t
+    → Judged (λ items. AllZip IsItem es items) (items_refusal unbuilt limits place es) r → Judged (λ items. IsAlternative t items) (alternative_refusal unbuilt limits t) r
+map_judged unbuilt limits (scalar a s) es place r is same at judged = absurd cc
+map_judged unbuilt limits (list a es) fs place r is same at judged = absurd cc
+map_judged unbuilt limits (map a ms) es place r is same at judged =
+    subst (λ p. ItemsJudged unbuilt limits r p (entries_in (map a ms))) at (subst (λ fs. ItemsJudged unbuilt limits r place fs) (sym same) judged)
 
-pub scalar_judged : (limits : Limits) (t : Tree) (r : Result (List Item) Fault) → is_scalar t ≡ true
-    → Judged (λ items. IsKeywordAlone t items) (keyword_refusal limits t) r → Judged (λ items. IsAlternative t items) (alternative_refusal limits t) r
-scalar_judged limits (scalar a s) r is judged = judged
-scalar_judged limits (list a es) r is judged = absurd cc
-scalar_judged limits (map a ms) r is judged = absurd cc
+pub scalar_judged : (unbuilt : List Place) (limits : Limits) (t : Tree) (r : Result (List Item) Fault) → is_scalar t ≡ true
+    → Judged (λ items. IsKeywordAlone t items) (keyword_refusal unbuilt limits t) r → Judged (λ items. IsAlternative t items) (alternative_refusal unbuilt limits t) r
+scalar_judged unbuilt limits (scalar a s) r is judged = judged
+scalar_judged unbuilt limits (list a es) r is judged = absurd cc
+scalar_judged unbuilt limits (map a ms) r is judged = absurd cc

@@ -35,29 +35,29 @@ whole_fields : (b : Bool) (name : List ℕ) (values : List (List Test)) → (b �
 whole_fields true name values patterns legal scalars = patterns refl
 whole_fields false name values patterns legal scalars = (tt, (record { legal = legal; scalars = scalars }, tt))
 
-unfoldable more_checks : Limits → Written → Place → Tree → List (Option Refusal)
-more_checks limits chain place t =
+unfoldable more_checks : List Place → Limits → Written → Place → Tree → List (Option Refusal)
+more_checks unbuilt limits chain place t =
     must 79 place (nat_le (length (parts_in t)) limits.list_values)
-    ∷ first (list_map (value_refusal limits.value_chars limits.dashes chain) (parts_in t))
+    ∷ first (list_map (value_refusal unbuilt limits.value_chars limits.dashes chain) (parts_in t))
     ∷ []
 
 -- where no value is refused, there is one
-values_some : (limits : Limits) (chain : Written) (place : Place) (t : Tree) → values_refusal limits chain place t ≡ None → is_empty (parts_in t) ≡ false
+values_some : (unbuilt : List Place) (limits : Limits) (chain : Written) (place : Place) (t : Tree) → values_refusal unbuilt limits chain place t ≡ None → is_empty (parts_in t) ≡ false
 unfolding more_checks
-values_some limits chain place t none =
+values_some unbuilt limits chain place t none =
     let some = must 78 (place_of t) (not (is_empty (parts_in t))) in
-    let behind = (first_holds (first (list_map shape_refusal (parts_in t))) (some ∷ more_checks limits chain place t) none).1 in
-    not_holds (is_empty (parts_in t)) (must_holds 78 (place_of t) (not (is_empty (parts_in t))) (first_holds some (more_checks limits chain place t) behind).0)
+    let behind = (first_holds (first (list_map shape_refusal (parts_in t))) (some ∷ more_checks unbuilt limits chain place t) none).1 in
+    not_holds (is_empty (parts_in t)) (must_holds 78 (place_of t) (not (is_empty (parts_in t))) (first_holds some (more_checks unbuilt limits chain place t) behind).0)
 
 -- where tests are some, and those of keywords patterns
 module _ (some_test : (chain : Written) (value : Tree) (ts : List Test) → TestsOf chain value ts → HasElement ts)
     (keyword_tests : (chain : Written) (value : Tree) (ts : List Test) → chain.keyword ≡ true → TestsOf chain value ts → EachOf IsPatternTest ts) where
-  pub whole_item : (limits : Limits) (e : Member) (i : Item) → item_refusal limits e ≡ None → IsItem e i → all_scalars (name_in e.key) ≡ true
+  pub whole_item : (unbuilt : List Place) (limits : Limits) (e : Member) (i : Item) → item_refusal unbuilt limits e ≡ None → IsItem e i → all_scalars (name_in e.key) ≡ true
       → EachOf ArePlainTests i.tests → IsWholeItem i
-  whole_item limits e i none read scalars plain =
+  whole_item unbuilt limits e i none read scalars plain =
       let named = must 71 (key_place e) (is_item_key e.key) in
       let chained = chain_refusal (is_keyword_key e.key) (key_place e) (words_in e.key) in
-      let valued = values_refusal limits (key_chain e) (key_place e) e.value in
+      let valued = values_refusal unbuilt limits (key_chain e) (key_place e) e.value in
       let after = first_holds named (chained ∷ valued ∷ []) none in
       let allowed = must_holds 71 (key_place e) (is_item_key e.key) after.0 in
       let value : valued ≡ None = (first_holds valued [] (first_holds chained (valued ∷ []) after.1).1).0 in
@@ -66,7 +66,7 @@ module _ (some_test : (chain : Written) (value : Tree) (ts : List Test) → Test
             (whole_fields (is_keyword_key e.key) (name_in e.key) i.tests
             (λ keyword. zip_each (TestsOf (key_chain e)) ArePlainTests (EachOf IsPatternTest) (λ value ts h plain. keyword_tests (key_chain e) value ts keyword h) (parts_in e.value) i.tests read.tests plain)
             allowed scalars);
-        some = zip_some (TestsOf (key_chain e)) (parts_in e.value) i.tests read.tests (values_some limits (key_chain e) (key_place e) e.value value);
+        some = zip_some (TestsOf (key_chain e)) (parts_in e.value) i.tests read.tests (values_some unbuilt limits (key_chain e) (key_place e) e.value value);
         each = zip_each (TestsOf (key_chain e)) ArePlainTests IsWholeValue (whole_value some_test (key_chain e)) (parts_in e.value) i.tests read.tests plain;
       }
 

@@ -19,14 +19,14 @@ use Rattle.rule_items.specs.declared.item.Item.{Item}
 -- ---- one alternative: the items of a map, all of which have to hold, or a keyword
 
 -- why these entries of a map at this place are no items: there are none, and then the entries in their order
-abbrev pub items_refusal : Limits → Place → List Member → Option Refusal
-items_refusal limits place es = first (must 77 place (not (is_empty es)) ∷ list_map (item_refusal limits) es)
+abbrev pub items_refusal : List Place → Limits → Place → List Member → Option Refusal
+items_refusal unbuilt limits place es = first (must 77 place (not (is_empty es)) ∷ list_map (item_refusal unbuilt limits) es)
 
 -- why a node is no alternative: the entries of a map, a keyword's value, or a list in a list
-abbrev pub alternative_refusal : Limits → Tree → Option Refusal
-alternative_refusal limits (scalar a s) = keyword_refusal limits (scalar a s)
-alternative_refusal limits (list a es) = must 71 (place_of (list a es)) false
-alternative_refusal limits (map a ms) = items_refusal limits (place_of (map a ms)) (entered ms)
+abbrev pub alternative_refusal : List Place → Limits → Tree → Option Refusal
+alternative_refusal unbuilt limits (scalar a s) = keyword_refusal unbuilt limits (scalar a s)
+alternative_refusal unbuilt limits (list a es) = must 71 (place_of (list a es)) false
+alternative_refusal unbuilt limits (map a ms) = items_refusal unbuilt limits (place_of (map a ms)) (entered ms)
 
 -- one item, which is the keyword
 abbrev pub IsKeywordAlone : Tree → List Item → Type 0
@@ -45,12 +45,12 @@ is_key key e = bytes_eq e.key key
 
 -- Why a node makes no alternatives for a detection whose key stands at this place: there is nothing, no alternative, too
 -- many of them, and then the alternatives in their order.
-abbrev pub content_refusal : Limits → Place → Tree → Option Refusal
-content_refusal limits place t = first (
+abbrev pub content_refusal : List Place → Limits → Place → Tree → Option Refusal
+content_refusal unbuilt limits place t = first (
     must 77 (place_of t) (not (is_null t))
     ∷ must 78 (place_of t) (not (is_empty (parts_in t)))
     ∷ must 79 place (nat_le (length (parts_in t)) limits.list_values)
-    ∷ first (list_map (alternative_refusal limits) (parts_in t))
+    ∷ first (list_map (alternative_refusal unbuilt limits) (parts_in t))
     ∷ [])
 
 -- a detection's name; `timeframe`, which old rules have, is none
@@ -58,10 +58,10 @@ abbrev pub is_detection_key : Member → Bool
 is_detection_key e = is_identifier e.key && not (is_key (codes "timeframe") e)
 
 -- why an entry is no detection: its name, and then its alternatives
-abbrev pub detection_refusal : Limits → Member → Option Refusal
-detection_refusal limits e = first (
+abbrev pub detection_refusal : List Place → Limits → Member → Option Refusal
+detection_refusal unbuilt limits e = first (
     must 71 (key_place e) (is_detection_key e)
-    ∷ content_refusal limits (key_place e) e.value
+    ∷ content_refusal unbuilt limits (key_place e) e.value
     ∷ [])
 
 pub record IsDetection (e : Member) (d : Detection) : Type 0 where
@@ -86,11 +86,11 @@ begins_with_timeframe (e ∷ es) = is_key (codes "timeframe") e
 
 -- A map without a name of a detection is refused at its place, which is its first key's. Where this key is `timeframe`, it is
 -- refused itself.
-abbrev pub detections_refusal : Limits → Tree → Option Refusal
-detections_refusal limits t = first (
+abbrev pub detections_refusal : List Place → Limits → Tree → Option Refusal
+detections_refusal unbuilt limits t = first (
     must 71 (place_of t) (is_map t)
     ∷ must 77 (place_of t) (list_any is_identified (entries_in t) || begins_with_timeframe (entries_in t))
-    ∷ first (list_map (detection_refusal limits) (detection_entries t))
+    ∷ first (list_map (detection_refusal unbuilt limits) (detection_entries t))
     ∷ [])
 
 abbrev pub AreDetections : Tree → List Detection → Type 0

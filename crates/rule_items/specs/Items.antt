@@ -32,20 +32,20 @@ shape_refusal t = must 71 (place_of t) (is_scalar t)
 
 -- Why a node gives no values to a chain whose item stands at this place: an element that is no scalar, no values, too many
 -- of them, and then the values in their order.
-abbrev pub values_refusal : Limits → Written → Place → Tree → Option Refusal
-values_refusal limits chain place t = first (
+abbrev pub values_refusal : List Place → Limits → Written → Place → Tree → Option Refusal
+values_refusal unbuilt limits chain place t = first (
     first (list_map shape_refusal (parts_in t))
     ∷ must 78 (place_of t) (not (is_empty (parts_in t)))
     ∷ must 79 place (nat_le (length (parts_in t)) limits.list_values)
-    ∷ first (list_map (value_refusal limits.value_chars limits.dashes chain) (parts_in t))
+    ∷ first (list_map (value_refusal unbuilt limits.value_chars limits.dashes chain) (parts_in t))
     ∷ [])
 
 -- why an entry is no item: its name, its modifiers, and then its values
-abbrev pub item_refusal : Limits → Member → Option Refusal
-item_refusal limits e = first (
+abbrev pub item_refusal : List Place → Limits → Member → Option Refusal
+item_refusal unbuilt limits e = first (
     must 71 (key_place e) (is_item_key e.key)
     ∷ chain_refusal (is_keyword_key e.key) (key_place e) (words_in e.key)
-    ∷ values_refusal limits (key_chain e) (key_place e) e.value
+    ∷ values_refusal unbuilt limits (key_chain e) (key_place e) e.value
     ∷ [])
 
 -- the item that an entry is
@@ -60,8 +60,8 @@ pub record IsItem (e : Member) (i : Item) : Type 0 where
 abbrev pub bare_chain : Tree → Written
 bare_chain t = chain_of [] true (place_of t)
 
-abbrev pub keyword_refusal : Limits → Tree → Option Refusal
-keyword_refusal limits t = value_refusal limits.value_chars limits.dashes (bare_chain t) t
+abbrev pub keyword_refusal : List Place → Limits → Tree → Option Refusal
+keyword_refusal unbuilt limits t = value_refusal unbuilt limits.value_chars limits.dashes (bare_chain t) t
 
 pub record IsKeyword (t : Tree) (i : Item) : Type 0 where
   pub fields : i.fields ≡ Keyword

@@ -24,14 +24,19 @@ use yaml_tree::{
 mod tests;
 
 /// The items of entries.
-fn read_items(alloc: Global, limits: &Limits, entries: &[Entry]) -> Result<Alternative, Fault>
+fn read_items(
+    alloc: Global,
+    limits: &Limits,
+    unbuilt: &[Place],
+    entries: &[Entry],
+) -> Result<Alternative, Fault>
     ensures judged { Judged (λ items. AllZip IsItem (entries_view entries.now) items)
-        (first (list_map (item_refusal limits.now) (entries_view entries.now))) result }
+        (first (list_map (item_refusal unbuilt.now limits.now) (entries_view entries.now))) result }
     ensures whole { IfOk result (λ items. EachOf IsWholeItem items) }
 {
     let mut items = Alternative::with_capacity(alloc, entries.len())?;
     for entry in entries {
-        let item = Item::read(alloc, limits, entry)?;
+        let item = Item::read(alloc, limits, unbuilt, entry)?;
         items.push(item)?;
     }
     Ok(items)
@@ -47,51 +52,67 @@ fn has_none(entries: &[Entry]) -> bool
 fn read_map(
     alloc: Global,
     limits: &Limits,
+    unbuilt: &[Place],
     place: Place,
     entries: &[Entry],
 ) -> Result<Alternative, Fault>
     ensures judged { Judged (λ items. AllZip IsItem (entries_view entries.now) items)
-        (spec.items_refusal limits.now place (entries_view entries.now)) result }
+        (spec.items_refusal unbuilt.now limits.now place (entries_view entries.now)) result }
     ensures whole { IfOk result (λ items. IsWholeAlternative items) }
 {
     must(Code::EMPTY_DETECTION, place, !has_none(entries))?;
-    read_items(alloc, limits, entries)
+    read_items(alloc, limits, unbuilt, entries)
 }
 
 /// The item of a scalar, which is a keyword.
-fn read_keyword(alloc: Global, limits: &Limits, node: &Node) -> Result<Alternative, Fault>
-    ensures judged { Judged (λ items. spec.IsKeywordAlone (node_view node.now) items) (keyword_refusal limits.now (node_view node.now)) result }
+fn read_keyword(
+    alloc: Global,
+    limits: &Limits,
+    unbuilt: &[Place],
+    node: &Node,
+) -> Result<Alternative, Fault>
+    ensures judged { Judged (λ items. spec.IsKeywordAlone (node_view node.now) items) (keyword_refusal unbuilt.now limits.now (node_view node.now)) result }
     ensures whole { IfOk result (λ items. IsWholeAlternative items) }
 {
-    let item = Item::read_keyword(alloc, limits, node)?;
+    let item = Item::read_keyword(alloc, limits, unbuilt, node)?;
     let mut items = Alternative::with_capacity(alloc, 1)?;
     items.push(item)?;
     Ok(items)
 }
 
 /// Reads a map of items, or a scalar, which is a keyword.
-fn read_alternative(alloc: Global, limits: &Limits, node: &Node) -> Result<Alternative, Fault>
-    ensures judged { Judged (λ items. spec.IsAlternative (node_view node.now) items) (spec.alternative_refusal limits.now (node_view node.now)) result }
+fn read_alternative(
+    alloc: Global,
+    limits: &Limits,
+    unbuilt: &[Place],
+    node: &Node,
+) -> Result<Alternative, Fault>
+    ensures judged { Judged (λ items. spec.IsAlternative (node_view node.now) items) (spec.alternative_refusal unbuilt.now limits.now (node_view node.now)) result }
     ensures whole { IfOk result (λ items. IsWholeAlternative items) }
 {
     if let Some(entries) = entries_of(node) {
-        return read_map(alloc, limits, place_of(node), entries);
+        return read_map(alloc, limits, unbuilt, place_of(node), entries);
     }
     if !is_scalar(node) {
         return Err(refused(Code::WRONG_SHAPE, place_of(node)));
     }
-    read_keyword(alloc, limits, node)
+    read_keyword(alloc, limits, unbuilt, node)
 }
 
 /// The alternatives of nodes.
-fn read_alternatives(alloc: Global, limits: &Limits, nodes: &[Node]) -> Result<Alternatives, Fault>
+fn read_alternatives(
+    alloc: Global,
+    limits: &Limits,
+    unbuilt: &[Place],
+    nodes: &[Node],
+) -> Result<Alternatives, Fault>
     ensures judged { Judged (λ all. AllZip spec.IsAlternative (nodes_view nodes.now) all)
-        (first (list_map (spec.alternative_refusal limits.now) (nodes_view nodes.now))) result }
+        (first (list_map (spec.alternative_refusal unbuilt.now limits.now) (nodes_view nodes.now))) result }
     ensures whole { IfOk result (λ all. EachOf IsWholeAlternative all) }
 {
     let mut all = Alternatives::with_capacity(alloc, nodes.len())?;
     for node in nodes {
-        let alternative = read_alternative(alloc, limits, node)?;
+        let alternative = read_alternative(alloc, limits, unbuilt, node)?;
         all.push(alternative)?;
     }
     Ok(all)
@@ -101,11 +122,12 @@ fn read_alternatives(alloc: Global, limits: &Limits, nodes: &[Node]) -> Result<A
 fn read_content(
     alloc: Global,
     limits: &Limits,
+    unbuilt: &[Place],
     place: Place,
     value: &Node,
 ) -> Result<Alternatives, Fault>
     ensures judged { Judged (λ all. AllZip spec.IsAlternative (parts_in (node_view value.now)) all)
-        (spec.content_refusal limits.now place (node_view value.now)) result }
+        (spec.content_refusal unbuilt.now limits.now place (node_view value.now)) result }
     ensures whole { IfOk result (λ all. EachOf IsWholeAlternative all) }
 {
     must(Code::EMPTY_DETECTION, place_of(value), !is_null(value))?;
@@ -116,7 +138,7 @@ fn read_content(
         place,
         parts.len() <= limits.list_values,
     )?;
-    read_alternatives(alloc, limits, parts)
+    read_alternatives(alloc, limits, unbuilt, parts)
 }
 
 /// Whether an entry's key may be the name of a detection.
@@ -128,12 +150,17 @@ fn is_detection_key(entry: &Entry) -> bool
 
 impl Detection {
     /// Reads an entry of `detection` other than `condition`.
-    pub fn read(alloc: Global, limits: &Limits, entry: &Entry) -> Result<Detection, Fault>
-        ensures judged { Judged (λ d. spec.IsDetection (entry_view entry.now) d) (spec.detection_refusal limits.now (entry_view entry.now)) result }
+    pub fn read(
+        alloc: Global,
+        limits: &Limits,
+        unbuilt: &[Place],
+        entry: &Entry,
+    ) -> Result<Detection, Fault>
+        ensures judged { Judged (λ d. spec.IsDetection (entry_view entry.now) d) (spec.detection_refusal unbuilt.now limits.now (entry_view entry.now)) result }
         ensures whole { IfOk result (λ d. IsWholeDetection d) }
     {
         must(Code::WRONG_SHAPE, entry.place, is_detection_key(entry))?;
-        let alternatives = read_content(alloc, limits, entry.place, &entry.value)?;
+        let alternatives = read_content(alloc, limits, unbuilt, entry.place, &entry.value)?;
         let name = Text::copy(alloc, entry.key.as_str())?;
         Ok(Detection {
             name,
@@ -143,7 +170,7 @@ impl Detection {
     }
 }
 
-fn is_no_condition(entry: &Entry) -> bool
+pub(crate) fn is_no_condition(entry: &Entry) -> bool
     ensures { result ≡ spec.is_no_condition (entry_view entry.now) }
 {
     !entry.key.is("condition")
@@ -171,9 +198,14 @@ fn begins_with_timeframe(entries: &[Entry]) -> bool
 }
 
 /// The detections of entries, of which `condition` is passed over.
-fn read_entries(alloc: Global, limits: &Limits, entries: &[Entry]) -> Result<Detections, Fault>
+fn read_entries(
+    alloc: Global,
+    limits: &Limits,
+    unbuilt: &[Place],
+    entries: &[Entry],
+) -> Result<Detections, Fault>
     ensures judged { Judged (λ all. AllZip spec.IsDetection (filter spec.is_no_condition (entries_view entries.now)) all)
-        (first (list_map (spec.detection_refusal limits.now) (filter spec.is_no_condition (entries_view entries.now)))) result }
+        (first (list_map (spec.detection_refusal unbuilt.now limits.now) (filter spec.is_no_condition (entries_view entries.now)))) result }
     ensures whole { IfOk result (λ all. EachOf IsWholeDetection all) }
 {
     let mut all = Detections::with_capacity(alloc, entries.len())?;
@@ -181,21 +213,27 @@ fn read_entries(alloc: Global, limits: &Limits, entries: &[Entry]) -> Result<Det
         if !is_no_condition(entry) {
             continue;
         }
-        let detection = Detection::read(alloc, limits, entry)?;
+        let detection = Detection::read(alloc, limits, unbuilt, entry)?;
         all.push(detection)?;
     }
     Ok(all)
 }
 
-/// Reads the value of `detection`: its entries but `condition`, in their order.
+/// Reads the value of `detection`: its entries but `condition`, in their order. `unbuilt` are the places of values at which
+/// no regular expression is built.
 #[tactic(auto, using(crate::proofs::Zips::any_viewed))]
-pub fn read_detections(alloc: Global, limits: &Limits, node: &Node) -> Result<Detections, Fault>
-    ensures judged { Judged (λ all. spec.AreDetections (node_view node.now) all) (spec.detections_refusal limits.now (node_view node.now)) result }
+pub fn read_detections(
+    alloc: Global,
+    limits: &Limits,
+    unbuilt: &[Place],
+    node: &Node,
+) -> Result<Detections, Fault>
+    ensures judged { Judged (λ all. spec.AreDetections (node_view node.now) all) (spec.detections_refusal unbuilt.now limits.now (node_view node.now)) result }
     ensures whole { IfOk result (λ all. EachOf IsWholeDetection all) }
 {
     must(Code::WRONG_SHAPE, place_of(node), is_map(node))?;
     let entries = all_entries(node);
     let named = has_identified(entries) || begins_with_timeframe(entries);
     must(Code::EMPTY_DETECTION, place_of(node), named)?;
-    read_entries(alloc, limits, entries)
+    read_entries(alloc, limits, unbuilt, entries)
 }

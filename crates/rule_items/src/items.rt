@@ -41,16 +41,17 @@ fn check_shapes(values: &[Node]) -> Result<(), Fault>
 fn read_values(
     alloc: Global,
     limits: &Limits,
+    unbuilt: &[Place],
     chain: &Chain,
     values: &[Node],
 ) -> Result<Values, Fault>
     ensures judged { Judged (λ all. AllZip (TestsOf chain.now) (nodes_view values.now) all)
-        (first (list_map (value_refusal limits.now.value_chars limits.now.dashes chain.now) (nodes_view values.now))) result }
+        (first (list_map (value_refusal unbuilt.now limits.now.value_chars limits.now.dashes chain.now) (nodes_view values.now))) result }
     ensures plain { IfOk result (λ all. EachOf ArePlainTests all) }
 {
     let mut all = Values::with_capacity(alloc, values.len())?;
     for value in values {
-        let tests = resolve(alloc, limits, chain, value)?;
+        let tests = resolve(alloc, limits, unbuilt, chain, value)?;
         all.push(tests)?;
     }
     Ok(all)
@@ -73,12 +74,13 @@ fn read_fields(alloc: Global, keyword: bool, name: Text) -> Result<Fields, Fault
 fn read_tests(
     alloc: Global,
     limits: &Limits,
+    unbuilt: &[Place],
     chain: &Chain,
     place: Place,
     value: &Node,
 ) -> Result<Values, Fault>
     ensures judged { Judged (λ all. AllZip (TestsOf chain.now) (parts_in (node_view value.now)) all)
-        (spec.values_refusal limits.now chain.now place (node_view value.now)) result }
+        (spec.values_refusal unbuilt.now limits.now chain.now place (node_view value.now)) result }
     ensures plain { IfOk result (λ all. EachOf ArePlainTests all) }
 {
     let values = parts_of(value);
@@ -89,21 +91,26 @@ fn read_tests(
         place,
         values.len() <= limits.list_values,
     )?;
-    read_values(alloc, limits, chain, values)
+    read_values(alloc, limits, unbuilt, chain, values)
 }
 
 impl Item {
     /// Reads an entry of a map: a field's name with modifiers, or modifiers alone for keywords, and one value or a list
-    /// of them.
-    pub fn read(alloc: Global, limits: &Limits, entry: &Entry) -> Result<Item, Fault>
-        ensures judged { Judged (λ i. spec.IsItem (entry_view entry.now) i) (spec.item_refusal limits.now (entry_view entry.now)) result }
+    /// of them. `unbuilt` are the places of values at which no regular expression is built.
+    pub fn read(
+        alloc: Global,
+        limits: &Limits,
+        unbuilt: &[Place],
+        entry: &Entry,
+    ) -> Result<Item, Fault>
+        ensures judged { Judged (λ i. spec.IsItem (entry_view entry.now) i) (spec.item_refusal unbuilt.now limits.now (entry_view entry.now)) result }
         ensures whole { IfOk result (λ i. IsWholeItem i) }
     {
         some_test();
         keyword_tests();
         let key = Key::read(alloc, &entry.key, entry.place)?;
         let chain = Chain::read(alloc, key.words.as_slice(), key.keyword, entry.place)?;
-        let tests = read_tests(alloc, limits, &chain, entry.place, &entry.value)?;
+        let tests = read_tests(alloc, limits, unbuilt, &chain, entry.place, &entry.value)?;
         let fields = read_fields(alloc, key.keyword, key.name)?;
         Ok(Item {
             fields,
@@ -114,8 +121,13 @@ impl Item {
     }
 
     /// Reads a scalar by itself, which is a keyword without modifiers.
-    pub fn read_keyword(alloc: Global, limits: &Limits, node: &Node) -> Result<Item, Fault>
-        ensures judged { Judged (λ i. spec.IsKeyword (node_view node.now) i) (spec.keyword_refusal limits.now (node_view node.now)) result }
+    pub fn read_keyword(
+        alloc: Global,
+        limits: &Limits,
+        unbuilt: &[Place],
+        node: &Node,
+    ) -> Result<Item, Fault>
+        ensures judged { Judged (λ i. spec.IsKeyword (node_view node.now) i) (spec.keyword_refusal unbuilt.now limits.now (node_view node.now)) result }
         ensures whole { IfOk result (λ i. IsWholeItem i) }
     {
         some_test();
@@ -123,7 +135,7 @@ impl Item {
         let words = Texts::new(alloc);
         let place = place_of(node);
         let chain = Chain::read(alloc, words.as_slice(), true, place)?;
-        let tests = resolve(alloc, limits, &chain, node)?;
+        let tests = resolve(alloc, limits, unbuilt, &chain, node)?;
         let mut values = Values::with_capacity(alloc, 1)?;
         values.push(tests)?;
         Ok(Item {

@@ -15,6 +15,7 @@ use Rattle.event_schema.specs.declared.schema.Field.{Field}
 use Rattle.event_schema.specs.declared.schema.FieldKind.{FieldKind}
 use Rattle.sig_base.specs.declared.refusal.Place.{Place}
 use Rattle.modifier_chains.specs.declared.modifier.Joined.TheVariants.{Any}
+use Rattle.modifier_chains.specs.declared.form.Flags.{Flags}
 use Rattle.modifier_chains.specs.declared.modifier.Op.{Op}
 use Rattle.sig_modifiers.specs.declared.test.Test.{Test}
 use Rattle.sig_modifiers.specs.declared.test.Test.TheVariants as tests
@@ -67,13 +68,14 @@ alone_fits parts cased none = ap (λ (all : List (List Part)). map (λ chosen. t
 -- no pattern
 pub no_pattern : (test : Test)
     → (test ≡ tests.Absent) ⊎ (((there : Bool) × (test ≡ tests.Exists there)) ⊎ (((n : ℤ) × (test ≡ tests.Equals n))
-    ⊎ (((op : Op) × (n : ℤ) × (test ≡ tests.Compare op n)) ⊎ ((name : List ℕ) × (test ≡ tests.SameAs name)))))
+    ⊎ (((op : Op) × (n : ℤ) × (test ≡ tests.Compare op n)) ⊎ (((name : List ℕ) × (test ≡ tests.SameAs name))
+    ⊎ ((text : List ℕ) × (flags : Flags) × (test ≡ tests.Finds text flags))))))
     → written_tests test ≡ test ∷ []
 no_pattern test is = elim is [
   | inl absent ↦ rw absent refl
   | inr other ↦ elim other [
     | inl exists ↦ rw exists.1 refl
-    | inr number ↦ elim number [ inl equals ↦ rw equals.1 refl | inr more ↦ elim more [ inl orders ↦ rw orders.2 refl | inr same ↦ rw same.1 refl ] ]
+    | inr number ↦ elim number [ inl equals ↦ rw equals.1 refl | inr more ↦ elim more [ inl orders ↦ rw orders.2 refl | inr last ↦ elim last [ inl same ↦ rw same.1 refl | inr finds ↦ rw finds.2 refl ] ] ]
   ]
 ]
 

@@ -27,7 +27,7 @@ use Rattle.rule_schema.specs.Kinds.{asks_whole, asks_address, some_asks, is_whol
 use Rattle.sig_base.specs.declared.refusal.Place.{Place}
 use Rattle.sig_base.specs.Judged.{must, first}
 use Rattle.sig_modifiers.specs.PlainTests.{IsPlainNetwork, IsPlainTest, ArePlainTests, IsPatternTest}
-use Rattle.sig_modifiers.specs.References.{reference_of, references_in}
+use Rattle.sig_modifiers.specs.References.{reference_of, references_in, listed}
 use Rattle.sig_modifiers.specs.declared.test.Test.{Test}
 use Rattle.sig_modifiers.specs.declared.test.Test.TheVariants as tests
 
@@ -85,6 +85,7 @@ IsMet fields kind (tests.Equals n) = ⊤
 IsMet fields kind (tests.Inside n) = IsPlainNetwork n × (kind ≡ kinds.Address)
 IsMet fields kind (tests.Compare op n) = IsWholeNumber n
 IsMet fields kind (tests.SameAs name) = IsLike fields kind name
+IsMet fields kind (tests.Finds text flags) = ⊤
 
 abbrev pub AreMet : List Field → FieldKind → List Test → Type 0
 AreMet fields kind ts = EachOf (IsMet fields kind) ts
@@ -98,6 +99,7 @@ module _ (fields : List Field) where
   pattern_met kind (tests.Inside n) h = absurd h
   pattern_met kind (tests.Compare op n) h = absurd h
   pattern_met kind (tests.SameAs name) h = absurd h
+  pattern_met kind (tests.Finds text flags) h = tt
 
   pub patterns_met : (kind : FieldKind) (ts : List Test) → EachOf IsPatternTest ts → AreMet fields kind ts
   patterns_met kind [] h = tt
@@ -111,10 +113,6 @@ right_true true b is = refl
 right_true false b is = is
 
 -- the name that a test compares with, as `references_in` lists it
-abbrev listed : Option (List ℕ) → List (List ℕ)
-listed None = []
-listed (Some name) = name ∷ []
-
 abbrev one_named : Test → List (List ℕ)
 one_named test = listed (reference_of test)
 
@@ -128,6 +126,7 @@ module _ (fields : List Field) (kind : FieldKind) where
   test_met (tests.Inside n) plain asked like = (plain, asked refl)
   test_met (tests.Compare op n) plain asked like = plain
   test_met (tests.SameAs name) plain asked like = like.0
+  test_met (tests.Finds text flags) plain asked like = tt
 
   tests_met : (ts : List Test) → ArePlainTests ts → (list_any asks_address ts ≡ true → kind ≡ kinds.Address) → EachOf (IsLike fields kind) (flat_map one_named ts)
       → AreMet fields kind ts

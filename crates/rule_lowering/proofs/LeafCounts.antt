@@ -131,6 +131,7 @@ module _ (counted : (parts : List Part) → length (choices parts) ≡ 5 ^ dash_
   written_count (tests.Inside n) = length-map (patterns_of n) (λ pattern. tests.Fits pattern false) ∙ networks_counted n
   written_count (tests.Compare op n) = refl
   written_count (tests.SameAs name) = refl
+  written_count (tests.Finds text flags) = refl
 
   module _ (fields : List Field) where
     test_leaves : (place : Place) (kind : FieldKind) (n : ℕ) (test : Test) → leaves (test_tree fields place kind n test) ≡ test_count test

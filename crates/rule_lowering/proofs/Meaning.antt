@@ -125,6 +125,7 @@ module _ (fields : List Field) (named : List ℕ → List Value) where
       (address_fits networks_fit n met.0) all (subst (λ (k : FieldKind). EachOf (IsOfKind k) all) met.1 known))
   written_hold choices_fit networks_fit kind (tests.Compare op n) met all known = some_one (λ t. Holds named t all) (tests.Compare op n)
   written_hold choices_fit networks_fit kind (tests.SameAs name) met all known = some_one (λ t. Holds named t all) (tests.SameAs name)
+  written_hold choices_fit networks_fit kind (tests.Finds text flags) met all known = some_one (λ t. Holds named t all) (tests.Finds text flags)
 
 each_fits : (patterns : List (List Part)) (cased : Bool) → EachOf IsLeafTest (map (λ chosen. tests.Fits chosen cased) patterns)
 each_fits [] cased = tt
@@ -139,6 +140,7 @@ each_leaf (tests.Equals n) = (tt, tt)
 each_leaf (tests.Inside n) = each_fits (patterns_of n) false
 each_leaf (tests.Compare op n) = (tt, tt)
 each_leaf (tests.SameAs name) = (tt, tt)
+each_leaf (tests.Finds text flags) = (tt, tt)
 
 -- patterns of characters alone fit their own text, exactly or after folding
 module _

@@ -26,6 +26,7 @@ use Rattle.rule_items.specs.declared.item.Fields.TheVariants.{Keyword, Names}
 use Rattle.rule_items.specs.declared.item.Item.{Item}
 use Rattle.sig_base.specs.declared.refusal.Place.{Place}
 use Rattle.sig_conditions.specs.Formulas.{PlainFormula, FDetection, FNot, FAnd, FOr, PlainFormulas, no_forms, form}
+use Rattle.modifier_chains.specs.declared.form.Flags.{Flags}
 use Rattle.modifier_chains.specs.declared.modifier.Joined.{Joined}
 use Rattle.modifier_chains.specs.declared.modifier.Joined.TheVariants.{All, Any}
 use Rattle.sig_modifiers.specs.declared.test.Test.{Test}
@@ -39,6 +40,7 @@ use Rattle.sig_strings.specs.declared.part.Part.TheVariants.{Char, One, Run, Das
 use Rattle.rule_lowering.specs.Joining.{plains, listed, parts_of, tree_with, closed, join}
 use Rattle.rule_lowering.specs.TreeOf.{text_test, whole_test, leaf_test, leaf_if_any, written_tree, written_tests, test_tree, value_tree, keyword_tree, number_tree, fields_tree, item_tree, alternative_tree, detection_tree, numbered_tree, form_tree, form_trees, tree_of}
 use Rattle.field_numbers.specs.Numbers.{number_of, searched}
+use Rattle.value_patterns.specs.Expressions.{expression_text, IsPlainExpression}
 use Rattle.value_patterns.specs.Numbers.{is_whole}
 use Rattle.value_patterns.proofs.Numbers.{whole_holds}
 use Rattle.rule_lowering.specs.WholeNumbers.{written_number}
@@ -89,10 +91,12 @@ two_power : (k : ℕ) → 1 ≤ 2 ^ k
 two_power zero = omega arith
 two_power (suc k) = omega (arith, two_power k, pow-suc 2 k)
 
--- where the choices of a pattern without placeholders can be written, and so can the patterns of networks, which are counted
+-- where the choices of a pattern without placeholders can be written, and so can the patterns of networks, which are counted, and
+-- regular expressions with their flags
 module _ (choices_plain : (parts : List Part) → IsDashedPattern parts → EachOf IsPlainPattern (choices parts))
     (networks_plain : (n : Net) → n.bits < 2 ^ 32 → n.prefix ≤ 32 → EachOf IsPlainPattern (patterns_of n))
-    (networks_counted : (n : Net) → length (patterns_of n) ≡ pattern_count n) where
+    (networks_counted : (n : Net) → length (patterns_of n) ≡ pattern_count n)
+    (expressions_plain : (flags : Flags) (text : List ℕ) → IsPlainText text → IsPlainText (expression_text flags text)) where
   some_network : (n : Net) → HasElement (patterns_of n)
   some_network n = some_of_many (patterns_of n) (omega (arith, networks_counted n, two_power (8 * told_octets n.prefix - n.prefix)))
 
@@ -163,6 +167,7 @@ module _ (choices_plain : (parts : List Part) → IsDashedPattern parts → Each
     IsWrittenTest kind (tests.Inside n) = ⊤
     IsWrittenTest kind (tests.Compare op n) = IsWholeNumber n
     IsWrittenTest kind (tests.SameAs name) = IsLike fields kind name
+    IsWrittenTest kind (tests.Finds text flags) = IsPlainExpression flags text
 
     decimal_sound : (low : List ℕ) → IsPlainText low → IsSoundPattern (characters low)
     decimal_sound low h = record { written = characters_written low; plain = subst IsPlainText (sym (own_text low)) h }
@@ -182,6 +187,7 @@ module _ (choices_plain : (parts : List Part) → IsDashedPattern parts → Each
     text_sound kind other (tests.Inside n) h = tt
     text_sound kind other (tests.Compare op n) h = tt
     text_sound kind other (tests.SameAs name) h = h
+    text_sound kind other (tests.Finds text flags) h = (h.0, expressions_plain flags text h.1)
 
     written_sound : (number : Option ℤ) → ((n : ℤ) → number ≡ Some n → IsWholeNumber n) → IsSoundIfAny kinds.Whole (option_map leaf_tests.Equals number)
     written_sound None whole = tt
@@ -209,6 +215,7 @@ module _ (choices_plain : (parts : List Part) → IsDashedPattern parts → Each
     whole_sound (tests.Inside n) h = tt
     whole_sound (tests.Compare op n) h = (refl, h)
     whole_sound (tests.SameAs name) h = h
+    whole_sound (tests.Finds text flags) h = (h.0, expressions_plain flags text h.1)
 
     kind_sound : (kind : FieldKind) (test : Test) → IsWrittenTest kind test → IsSoundIfAny kind (leaf_test fields kind test)
     kind_sound kinds.Text test h = text_sound kinds.Text (λ is. absurd (cc)) test h
@@ -235,6 +242,7 @@ module _ (choices_plain : (parts : List Part) → IsDashedPattern parts → Each
     some_written (tests.Inside n) = some_map (λ pattern. tests.Fits pattern false) (patterns_of n) (some_network n)
     some_written (tests.Compare op n) = tt
     some_written (tests.SameAs name) = tt
+    some_written (tests.Finds text flags) = tt
 
     each_written : (kind : FieldKind) (test : Test) → IsPlainTest test → IsMet fields kind test → EachOf (IsWrittenTest kind) (written_tests test)
     each_written kind tests.Absent h met = (tt, tt)
@@ -247,6 +255,7 @@ module _ (choices_plain : (parts : List Part) → IsDashedPattern parts → Each
         (all_sound (patterns_of n) (networks_plain n h.0 h.1))
     each_written kind (tests.Compare op n) h met = (h, tt)
     each_written kind (tests.SameAs name) h met = (met, tt)
+    each_written kind (tests.Finds text flags) h met = (h, tt)
 
     -- a test that any rule may ask, of a field of a kind that takes it
     abbrev IsFitTest : FieldKind → Test → Type 0

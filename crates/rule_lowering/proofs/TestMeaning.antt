@@ -58,6 +58,7 @@ IsLeafTest (tests.Equals n) = ⊤
 IsLeafTest (tests.Inside n) = ⊥
 IsLeafTest (tests.Compare op n) = ⊤
 IsLeafTest (tests.SameAs name) = ⊤
+IsLeafTest (tests.Finds text flags) = ⊤
 
 -- ---- numbers that stand so to another
 
@@ -126,6 +127,7 @@ module _
       (λ v. decimal_means (signed_decimal n) (value_text v) (low_decimal n)) all
   text_means kind other (tests.Compare op n) all plain known = nothing (none_of (IsOfKind kind) (ValueStands op n) (none_stands kind other op n) all known)
   text_means kind other (tests.SameAs name) all plain known = same_means name all
+  text_means kind other (tests.Finds text flags) all plain known = iff_same
 
   -- ---- fields of whole numbers
 
@@ -193,6 +195,7 @@ module _
   whole_means (tests.Inside n) all plain whole = absurd plain
   whole_means (tests.Compare op n) all plain whole = some_same (leaves.ValueStands (leaf_op op) n) (ValueStands op n) (value_stands op n) all
   whole_means (tests.SameAs name) all plain whole = same_means name all
+  whole_means (tests.Finds text flags) all plain whole = iff_same
 
   pub test_means : (kind : FieldKind) (test : Test) (all : List Value) → IsLeafTest test → EachOf (IsOfKind kind) all
       → Passes row (leaf_test fields kind test) all ↔ Holds named test all

@@ -20,6 +20,7 @@ test_count (tests.Equals n) = 1
 test_count (tests.Inside n) = pattern_count n
 test_count (tests.Compare op n) = 1
 test_count (tests.SameAs name) = 1
+test_count (tests.Finds text flags) = 1
 
 abbrev pub value_count : List Test → ℕ
 value_count value = sum_by test_count value

@@ -30,6 +30,7 @@ use Rattle.sig_encode.specs.Networks.{patterns_of}
 use Rattle.sig_modifiers.specs.declared.test.Test.{Test}
 use Rattle.sig_modifiers.specs.declared.test.Test.TheVariants as tests
 use Rattle.sig_strings.specs.Edits.{has_wildcard, plain_text}
+use Rattle.value_patterns.specs.Expressions.{expression_text}
 use Rattle.sig_strings.specs.declared.part.Part.TheVariants.{Char}
 use Rattle.rule_lowering.specs.Joining.{join}
 use Rattle.rule_lowering.specs.WholeNumbers.{if_whole, written_number}
@@ -41,8 +42,8 @@ leaf_op ops.Lte = leaf_ops.Lte
 leaf_op ops.Gt = leaf_ops.Gt
 leaf_op ops.Gte = leaf_ops.Gte
 
--- What a leaf asks of a field of texts or addresses: a value, none, a text, or the text of another field; a number's text is
--- its decimal. No leaf asks for a network, which patterns stand for, and no text stands so to a number.
+-- What a leaf asks of a field of texts or addresses: a value, none, a text, the text of another field, or that a regular expression,
+-- with its flags in front, is found; a number's text is its decimal. No leaf asks for a network, which patterns stand for, and no text stands so to a number.
 abbrev pub text_test : List Field → Test → Option LeafTest
 text_test fields tests.Absent = Some leaf_tests.Absent
 text_test fields (tests.Exists true) = Some leaf_tests.Has
@@ -52,9 +53,11 @@ text_test fields (tests.Equals n) = Some (leaf_tests.Fits (map Char (signed_deci
 text_test fields (tests.Inside n) = None
 text_test fields (tests.Compare op n) = None
 text_test fields (tests.SameAs name) = Some (leaf_tests.SameAs (number_of fields name))
+text_test fields (tests.Finds text flags) = Some (leaf_tests.Finds (expression_text flags text))
 
 -- What a leaf asks of a field of whole numbers, if a value can pass the test: a value, none, a number, how it stands to one,
--- the number of another field, or that a number's decimal fits a pattern with a wildcard. A pattern without one asks for the
+-- the number of another field, that a number's decimal fits a pattern with a wildcard, or that a regular expression is found in
+-- it. A pattern without one asks for the
 -- number whose decimal it is.
 abbrev pub whole_test : List Field → Test → Option LeafTest
 whole_test fields tests.Absent = Some leaf_tests.Absent
@@ -66,6 +69,7 @@ whole_test fields (tests.Equals n) = option_map leaf_tests.Equals (if_whole n)
 whole_test fields (tests.Inside n) = None
 whole_test fields (tests.Compare op n) = Some (leaf_tests.Compare (leaf_op op) n)
 whole_test fields (tests.SameAs name) = Some (leaf_tests.SameAs (number_of fields name))
+whole_test fields (tests.Finds text flags) = Some (leaf_tests.Finds (expression_text flags text))
 
 -- what a leaf asks of a field of this kind, among these fields
 abbrev pub leaf_test : List Field → FieldKind → Test → Option LeafTest
@@ -92,6 +96,7 @@ written_tests (tests.Equals n) = tests.Equals n ∷ []
 written_tests (tests.Inside n) = map (λ pattern. tests.Fits pattern false) (patterns_of n)
 written_tests (tests.Compare op n) = tests.Compare op n ∷ []
 written_tests (tests.SameAs name) = tests.SameAs name ∷ []
+written_tests (tests.Finds text flags) = tests.Finds text flags ∷ []
 
 -- a test is any of those that stand for it
 abbrev pub test_tree : List Field → Place → FieldKind → ℕ → Test → Plain

@@ -47,8 +47,12 @@ fn count_test(test: &Test) -> u128
     match test {
         Test::Fits { pattern, .. } => count_choices(dash_count(pattern)),
         Test::Inside(network) => u128::from(network.pattern_count()),
-        Test::Absent | Test::Exists(_) | Test::Equals(_) | Test::Compare { .. } | Test::SameAs(_) =>
-            1,
+        Test::Absent
+        | Test::Exists(_)
+        | Test::Equals(_)
+        | Test::Compare { .. }
+        | Test::SameAs(_)
+        | Test::Finds { .. } => 1,
     }
 }
 

@@ -15,7 +15,7 @@ ghost use Rattle.rule_lowering.specs.TreeOf.{tree_of};
 use dash_choices::choices_fit;
 use sig_encode::patterns_fit;
 use sig_strings::plain_fits;
-use value_patterns::{choices_are_plain, network_patterns_are_plain};
+use value_patterns::{choices_are_plain, expressions_are_plain, network_patterns_are_plain};
 
 /// The tree of a whole rule that fits the schema holds of an event exactly where the rule matches it.
 pub fn tree_means_rule()
@@ -35,4 +35,5 @@ pub fn tree_is_sound()
 {
     choices_are_plain();
     network_patterns_are_plain();
+    expressions_are_plain();
 }

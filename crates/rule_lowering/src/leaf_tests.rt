@@ -8,17 +8,19 @@ ghost use Rattle.rule_lowering.specs.TreeOf as spec;
 ghost use Rattle.rule_lowering.specs.WholeNumbers.{written_number};
 ghost use Rattle.sig_strings.specs.Edits.{has_wildcard, plain_text};
 ghost use Rattle.sig_strings.specs.declared.part.Part.TheVariants.{Char};
+ghost use Rattle.value_patterns.specs.Expressions as value_expressions;
 
 use crate::whole::{read_whole, whole_number};
 use backend_core::{LeafTest, Op as LeafOp};
 use event_schema::{Field, FieldKind, decimal_in};
 use field_numbers::FieldNumbers;
 use itoa::Buffer;
-use modifier_chains::Op;
-use sig_base::{Fault, first_char};
+use modifier_chains::{Flags, Op};
+use sig_base::{Fault, Text, first_char};
 use sig_modifiers::Test;
 use sig_strings::{Part, Pattern, SharedPattern};
 use std::alloc::Global;
+use value_patterns::expression_text;
 
 /// The pattern of a number's decimal.
 fn decimal_pattern(alloc: Global, number: i64) -> Result<SharedPattern, Fault>
@@ -33,6 +35,15 @@ fn decimal_pattern(alloc: Global, number: i64) -> Result<SharedPattern, Fault>
         left = rest;
     }
     SharedPattern::share(alloc, Pattern::of_parts(parts))
+}
+
+/// That the regular expression of a text is found, which a leaf can ask of any field.
+fn found_expression(alloc: Global, flags: Flags, text: &Text) -> Result<Option<LeafTest>, Fault>
+    ensures ok { IfOk result (λ t. t ≡ Some (leaf_tests.Finds (value_expressions.expression_text flags text.now))) }
+    ensures err { IfErr result (λ e. e ≡ Fault.Memory) }
+{
+    let expression = expression_text(alloc, flags, text.as_str())?;
+    Ok(Some(LeafTest::Finds(expression)))
 }
 
 /// What a leaf asks of a field of texts or addresses, if one can ask it.
@@ -65,6 +76,7 @@ fn text_test(
         }
         Test::Inside(_) | Test::Compare { .. } => Ok(None),
         Test::SameAs(name) => Ok(Some(LeafTest::SameAs(numbers.find(fields, name)))),
+        Test::Finds { text, flags } => found_expression(alloc, *flags, text),
     }
 }
 
@@ -127,6 +139,7 @@ fn whole_test(
             number: *number,
         })),
         Test::SameAs(name) => Ok(Some(LeafTest::SameAs(numbers.find(fields, name)))),
+        Test::Finds { text, flags } => found_expression(alloc, *flags, text),
     }
 }
 

@@ -138,8 +138,12 @@ fn lower_test(
             lower_choices(alloc, fields, numbers, place, field, pattern, *cased)
         }
         Test::Inside(network) => lower_network(alloc, fields, numbers, place, field, network),
-        Test::Absent | Test::Exists(_) | Test::Equals(_) | Test::Compare { .. } | Test::SameAs(_) =>
-            { lower_written(alloc, fields, numbers, place, field, test) }
+        Test::Absent
+        | Test::Exists(_)
+        | Test::Equals(_)
+        | Test::Compare { .. }
+        | Test::SameAs(_)
+        | Test::Finds { .. } => { lower_written(alloc, fields, numbers, place, field, test) }
     }
 }
 

@@ -5,7 +5,7 @@ ghost use Rattle.std.specs.Prelude.{◌≤◌};
 use crate::lower;
 use backend_core::{Leaf, LeafTest, Op as LeafOp, Tree};
 use event_schema::{Field, FieldKind, FieldList, Schema};
-use modifier_chains::{Joined, Op};
+use modifier_chains::{Flags, Joined, Op};
 use rule_head::{Head, LogSource};
 use rule_items::{Alternative, Alternatives, Detection, Detections, Fields, Item, Values};
 use rule_model::Rule;
@@ -20,6 +20,12 @@ use std::test::Fail;
 const RULE: Place = Place { line: 1, column: 1 };
 
 const KEY: Place = Place { line: 9, column: 5 };
+
+const NO_FLAGS: Flags = Flags {
+    i: false,
+    m: false,
+    s: false,
+};
 
 fn field(alloc: Global, name: &str, kind: FieldKind, search: bool) -> Result<Field, Fail> {
     let mut at = Texts::new(alloc);
@@ -149,12 +155,16 @@ fn show_leaf(alloc: Global, shown: &mut String, leaf: &Leaf) -> Result<(), Fail>
             let other = *other;
             shown.push_str(&format!(in alloc; "^{other}")?)?;
         }
+        LeafTest::Finds(expression) => {
+            shown.push_str("/")?;
+            shown.push_str(expression.as_str())?;
+        }
     }
     Ok(())
 }
 
 /// `(a & b)`, `(a | b)`, `!a`, `never`, and a leaf as its field, `+`, `-`, `~` or `=` with its pattern, `#` with its number, `<`, `<=`, `>` or
-/// `>=` with what it's compared with, or `^` with another field.
+/// `>=` with what it's compared with, `^` with another field, or `/` with its regular expression.
 fn show(alloc: Global, shown: &mut String, tree: &Tree) -> Result<(), Fail> {
     match tree {
         Tree::All(parts) => {
@@ -445,6 +455,23 @@ fn comparisons(rt: HostRuntime) -> Result<(), Fail> {
     Ok(())
 }
 
+#[test]
+fn regular_expressions(rt: HostRuntime) -> Result<(), Fail> {
+    let alloc = rt.alloc();
+    for (kind, i, m, s, want) in [
+        (FieldKind::Text, false, false, false, "0/a+"),
+        (FieldKind::Address, true, false, false, "0/(?i)a+"),
+        (FieldKind::Whole, true, true, true, "0/(?ims)a+"),
+        (FieldKind::Whole, false, true, true, "0/(?ms)a+"),
+    ] {
+        let text = Text::copy(alloc, "a+")?;
+        let flags = Flags { i, m, s };
+        let tree = shown_test(alloc, kind, Test::Finds { text, flags })?;
+        assert_eq!(rt; tree.as_str(), want);
+    }
+    Ok(())
+}
+
 /// Fields A and B of this kind.
 fn two_fields(alloc: Global, kind: FieldKind) -> Result<Schema, Fail> {
     let mut fields = FieldList::new(alloc);
@@ -503,8 +530,12 @@ fn comparisons_count_once(rt: HostRuntime) -> Result<(), Fail> {
         number: 1,
     })?;
     tests.push(Test::SameAs(Text::copy(alloc, "B")?))?;
+    tests.push(Test::Finds {
+        text: Text::copy(alloc, "c")?,
+        flags: NO_FLAGS,
+    })?;
     all.tests.push(tests)?;
-    assert_eq!(rt; refused_leaves(alloc, all, 5)?, 6);
+    assert_eq!(rt; refused_leaves(alloc, all, 7)?, 8);
     Ok(())
 }
 

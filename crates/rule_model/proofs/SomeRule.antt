@@ -172,68 +172,69 @@ conditions_some limits t none =
 
 -- ---- items, alternatives, detections
 
-module _ (tests_some : (most dashes : ℕ) (chain : Written) (value : Tree) → value_refusal most dashes chain value ≡ None → (tests : List Test) × TestsOf chain value tests) where
-  values_all : (limits : Limits) (chain : Written) (place : Place) (t : Tree) → values_refusal limits chain place t ≡ None
+module _ (unbuilt : List Place)
+    (tests_some : (most dashes : ℕ) (chain : Written) (value : Tree) → value_refusal unbuilt most dashes chain value ≡ None → (tests : List Test) × TestsOf chain value tests) where
+  values_all : (limits : Limits) (chain : Written) (place : Place) (t : Tree) → values_refusal unbuilt limits chain place t ≡ None
       → (all : List (List Test)) × AllZip (TestsOf chain) (parts_in t) all
   values_all limits chain place t none =
       let lines = four_hold (first (map shape_refusal (parts_in t))) (must 78 (place_of t) (not (is_empty (parts_in t))))
-      (must 79 place (nat_le (length (parts_in t)) limits.list_values)) (first (map (value_refusal limits.value_chars limits.dashes chain) (parts_in t))) none in
-      zip_all (TestsOf chain) (value_refusal limits.value_chars limits.dashes chain) (tests_some limits.value_chars limits.dashes chain) (parts_in t) lines.3
+      (must 79 place (nat_le (length (parts_in t)) limits.list_values)) (first (map (value_refusal unbuilt limits.value_chars limits.dashes chain) (parts_in t))) none in
+      zip_all (TestsOf chain) (value_refusal unbuilt limits.value_chars limits.dashes chain) (tests_some limits.value_chars limits.dashes chain) (parts_in t) lines.3
 
-  item_some : (limits : Limits) (e : Member) → item_refusal limits e ≡ None → (i : Item) × IsItem e i
+  item_some : (limits : Limits) (e : Member) → item_refusal unbuilt limits e ≡ None → (i : Item) × IsItem e i
   item_some limits e none =
       let lines = three_hold (must 71 (key_place e) (is_item_key e.key)) (chain_refusal (is_keyword_key e.key) (key_place e) (words_in e.key))
-      (values_refusal limits (key_chain e) (key_place e) e.value) none in
+      (values_refusal unbuilt limits (key_chain e) (key_place e) e.value) none in
       let all = values_all limits (key_chain e) (key_place e) e.value lines.2 in (
         record { fields = fields_of e.key; tests = all.0; joined = joined_of (key_chain e); place = key_place e },
         record { fields = refl; tests = all.1; joined = refl; place = refl },
       )
 
-  keyword_some : (limits : Limits) (t : Tree) → keyword_refusal limits t ≡ None → (i : Item) × IsKeyword t i
+  keyword_some : (limits : Limits) (t : Tree) → keyword_refusal unbuilt limits t ≡ None → (i : Item) × IsKeyword t i
   keyword_some limits t none =
       let one = tests_some limits.value_chars limits.dashes (bare_chain t) t none in (
         record { fields = Keyword; tests = one.0 ∷ []; joined = joined_of (bare_chain t); place = place_of t },
         record { fields = refl; tests = (one.1, tt); joined = refl; place = refl },
       )
 
-  alternative_some : (limits : Limits) (t : Tree) → alternative_refusal limits t ≡ None → (items : List Item) × IsAlternative t items
+  alternative_some : (limits : Limits) (t : Tree) → alternative_refusal unbuilt limits t ≡ None → (items : List Item) × IsAlternative t items
   alternative_some limits (scalar a s) none =
       let one = keyword_some limits (scalar a s) none in
       (one.0 ∷ [], (one.0, refl, one.1))
   alternative_some limits (list a es) none = absurd cc
   alternative_some limits (tree_map a ms) none =
-      zip_all IsItem (item_refusal limits) (item_some limits) (entered ms)
-      (first_holds (must 77 (place_of (tree_map a ms)) (not (is_empty (entered ms)))) (map (item_refusal limits) (entered ms)) none).1
+      zip_all IsItem (item_refusal unbuilt limits) (item_some limits) (entered ms)
+      (first_holds (must 77 (place_of (tree_map a ms)) (not (is_empty (entered ms)))) (map (item_refusal unbuilt limits) (entered ms)) none).1
 
-  content_some : (limits : Limits) (place : Place) (t : Tree) → content_refusal limits place t ≡ None
+  content_some : (limits : Limits) (place : Place) (t : Tree) → content_refusal unbuilt limits place t ≡ None
       → (all : List (List Item)) × AllZip IsAlternative (parts_in t) all
   content_some limits place t none =
       let lines = four_hold (must 77 (place_of t) (not (is_null t))) (must 78 (place_of t) (not (is_empty (parts_in t))))
-      (must 79 place (nat_le (length (parts_in t)) limits.list_values)) (first (map (alternative_refusal limits) (parts_in t))) none in
-      zip_all IsAlternative (alternative_refusal limits) (alternative_some limits) (parts_in t) lines.3
+      (must 79 place (nat_le (length (parts_in t)) limits.list_values)) (first (map (alternative_refusal unbuilt limits) (parts_in t))) none in
+      zip_all IsAlternative (alternative_refusal unbuilt limits) (alternative_some limits) (parts_in t) lines.3
 
-  detection_some : (limits : Limits) (e : Member) → detection_refusal limits e ≡ None → (d : Detection) × IsDetection e d
+  detection_some : (limits : Limits) (e : Member) → detection_refusal unbuilt limits e ≡ None → (d : Detection) × IsDetection e d
   detection_some limits e none =
-      let lines = two_hold (must 71 (key_place e) (is_detection_key e)) (content_refusal limits (key_place e) e.value) none in
+      let lines = two_hold (must 71 (key_place e) (is_detection_key e)) (content_refusal unbuilt limits (key_place e) e.value) none in
       let all = content_some limits (key_place e) e.value lines.1 in
       (record { name = e.key; alternatives = all.0; place = key_place e }, record { name = refl; alternatives = all.1; place = refl })
 
-  detections_some : (limits : Limits) (t : Tree) → detections_refusal limits t ≡ None → (ds : List Detection) × AreDetections t ds
+  detections_some : (limits : Limits) (t : Tree) → detections_refusal unbuilt limits t ≡ None → (ds : List Detection) × AreDetections t ds
   detections_some limits t none =
       let lines = three_hold (must 71 (place_of t) (is_map t)) (must 77 (place_of t) (list_any is_identified (entries_in t) || begins_with_timeframe (entries_in t)))
-      (first (map (detection_refusal limits) (detection_entries t))) none in
-      zip_all IsDetection (detection_refusal limits) (detection_some limits) (detection_entries t) lines.2
+      (first (map (detection_refusal unbuilt limits) (detection_entries t))) none in
+      zip_all IsDetection (detection_refusal unbuilt limits) (detection_some limits) (detection_entries t) lines.2
 
-  pub rule_some : (limits : Limits) (t : Tree) → rule_refusal limits t ≡ None → (rule : PlainRule) × IsRule t rule
+  pub rule_some : (limits : Limits) (t : Tree) → rule_refusal unbuilt limits t ≡ None → (rule : PlainRule) × IsRule t rule
   rule_some limits t none =
       let source = value_in (codes "logsource") (entries_in t) in
       let detection = value_in (codes "detection") (entries_in t) in
       let lines = six_hold (first (head_checks t)) (must 70 (place_of t) (is_some source)) (refused_by source_refusal source)
-      (must 70 (place_of t) (is_some detection)) (refused_by (detections_refusal limits) detection) (refused_by (conditions_refusal limits) detection) none in
+      (must 70 (place_of t) (is_some detection)) (refused_by (detections_refusal unbuilt limits) detection) (refused_by (conditions_refusal limits) detection) none in
       let head = head_some t lines.0 in
       let from = at_required (place_of t) source lines.1 in
       let within = at_required (place_of t) detection lines.3 in
-      let all = detections_some limits within.0 (sym (ap (refused_by (detections_refusal limits)) within.1) ∙ lines.4) in
+      let all = detections_some limits within.0 (sym (ap (refused_by (detections_refusal unbuilt limits)) within.1) ∙ lines.4) in
       let conditions = conditions_some limits within.0 (sym (ap (refused_by (conditions_refusal limits)) within.1) ∙ lines.5) in (
         record { head = head.0; source = source_of from.0; detections = all.0; conditions = conditions.0 },
         record { head = head.1; logsource = from.0; source_there = from.1; source = refl; detection = within.0; detection_there = within.1; detections = all.1; conditions = conditions.1 },

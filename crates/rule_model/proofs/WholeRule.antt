@@ -108,73 +108,73 @@ each_kept P p (x ∷ xs) each =
 
 -- ---- values
 
-module _ (plain_tests : (most dashes : ℕ) (chain : Written) (value : Tree) (ts : List Test)
-    → value_refusal most dashes chain value ≡ None → HasScalarTexts value → TestsOf chain value ts → ArePlainTests ts)
+module _ (unbuilt : List Place) (plain_tests : (most dashes : ℕ) (chain : Written) (value : Tree) (ts : List Test)
+    → value_refusal unbuilt most dashes chain value ≡ None → HasScalarTexts value → TestsOf chain value ts → ArePlainTests ts)
     (some_test : (chain : Written) (value : Tree) (ts : List Test) → TestsOf chain value ts → HasElement ts)
     (keyword_tests : (chain : Written) (value : Tree) (ts : List Test) → chain.keyword ≡ true → TestsOf chain value ts → EachOf IsPatternTest ts) where
-  values_plain : (most dashes : ℕ) (chain : Written) (parts : List Tree) (all : List (List Test)) → first (map (value_refusal most dashes chain) parts) ≡ None
+  values_plain : (most dashes : ℕ) (chain : Written) (parts : List Tree) (all : List (List Test)) → first (map (value_refusal unbuilt most dashes chain) parts) ≡ None
       → EachOf HasScalarTexts parts → AllZip (TestsOf chain) parts all → EachOf ArePlainTests all
   values_plain most dashes chain parts all none scalars h =
-      each_read (TestsOf chain) HasScalarTexts ArePlainTests (value_refusal most dashes chain) (plain_tests most dashes chain) parts all none scalars h
+      each_read (TestsOf chain) HasScalarTexts ArePlainTests (value_refusal unbuilt most dashes chain) (plain_tests most dashes chain) parts all none scalars h
 
   -- ---- items, alternatives, detections
 
-  item_values : (limits : Limits) (e : Member) → item_refusal limits e ≡ None → first (map (value_refusal limits.value_chars limits.dashes (key_chain e)) (parts_in e.value)) ≡ None
+  item_values : (limits : Limits) (e : Member) → item_refusal unbuilt limits e ≡ None → first (map (value_refusal unbuilt limits.value_chars limits.dashes (key_chain e)) (parts_in e.value)) ≡ None
   item_values limits e none =
       let lines = three_hold (must 71 (key_place e) (is_item_key e.key)) (chain_refusal (is_keyword_key e.key) (key_place e) (words_in e.key))
-      (values_refusal limits (key_chain e) (key_place e) e.value) none in
+      (values_refusal unbuilt limits (key_chain e) (key_place e) e.value) none in
       let values = four_hold (first (map shape_refusal (parts_in e.value))) (must 78 (place_of e.value) (not (is_empty (parts_in e.value))))
-      (must 79 (key_place e) (nat_le (length (parts_in e.value)) limits.list_values)) (first (map (value_refusal limits.value_chars limits.dashes (key_chain e)) (parts_in e.value))) lines.2 in
+      (must 79 (key_place e) (nat_le (length (parts_in e.value)) limits.list_values)) (first (map (value_refusal unbuilt limits.value_chars limits.dashes (key_chain e)) (parts_in e.value))) lines.2 in
       values.3
 
-  item_whole : (limits : Limits) (e : Member) (i : Item) → item_refusal limits e ≡ None → IsScalarMember e → IsItem e i → IsWholeItem i
+  item_whole : (limits : Limits) (e : Member) (i : Item) → item_refusal unbuilt limits e ≡ None → IsScalarMember e → IsItem e i → IsWholeItem i
   item_whole limits e i none scalars read =
-      whole_item some_test keyword_tests limits e i none read (name_scalars e.key scalars.0)
+      whole_item some_test keyword_tests unbuilt limits e i none read (name_scalars e.key scalars.0)
       (values_plain limits.value_chars limits.dashes (key_chain e) (parts_in e.value) i.tests (item_values limits e none) (each_part e.value scalars.1) read.tests)
 
-  keyword_whole : (limits : Limits) (t : Tree) (i : Item) → keyword_refusal limits t ≡ None → HasScalarTexts t → IsKeyword t i → IsWholeItem i
+  keyword_whole : (limits : Limits) (t : Tree) (i : Item) → keyword_refusal unbuilt limits t ≡ None → HasScalarTexts t → IsKeyword t i → IsWholeItem i
   keyword_whole limits t i none scalars read =
       whole_keyword some_test keyword_tests t i read
-      (values_plain limits.value_chars limits.dashes (bare_chain t) (t ∷ []) i.tests (first_one (keyword_refusal limits t) ∙ none) (scalars, tt) read.tests)
+      (values_plain limits.value_chars limits.dashes (bare_chain t) (t ∷ []) i.tests (first_one (keyword_refusal unbuilt limits t) ∙ none) (scalars, tt) read.tests)
 
-  alternative_whole : (limits : Limits) (t : Tree) (items : List Item) → alternative_refusal limits t ≡ None → HasScalarTexts t → IsAlternative t items → IsWholeAlternative items
+  alternative_whole : (limits : Limits) (t : Tree) (items : List Item) → alternative_refusal unbuilt limits t ≡ None → HasScalarTexts t → IsAlternative t items → IsWholeAlternative items
   alternative_whole limits (scalar_node a s) items none scalars read =
       subst IsWholeAlternative (sym read.1) (record { some = tt; each = (keyword_whole limits (scalar_node a s) read.0 none scalars read.2, tt) })
   alternative_whole limits (list a es) items none scalars read = absurd read
   alternative_whole limits (tree_map a ms) items none scalars read =
       let place = place_of (tree_map a ms) in
-      let lines = first_holds (must 77 place (not (is_empty (entered ms)))) (map (item_refusal limits) (entered ms)) none in
+      let lines = first_holds (must 77 place (not (is_empty (entered ms)))) (map (item_refusal unbuilt limits) (entered ms)) none in
       record {
         some = zip_some IsItem (entered ms) items read (filled 77 place (entered ms) lines.0);
-        each = each_read IsItem IsScalarMember IsWholeItem (item_refusal limits) (item_whole limits) (entered ms) items lines.1 (each_entered ms scalars) read;
+        each = each_read IsItem IsScalarMember IsWholeItem (item_refusal unbuilt limits) (item_whole limits) (entered ms) items lines.1 (each_entered ms scalars) read;
       }
 
-  detection_whole : (limits : Limits) (e : Member) (d : Detection) → detection_refusal limits e ≡ None → IsScalarMember e → IsDetection e d → IsWholeDetection d
+  detection_whole : (limits : Limits) (e : Member) (d : Detection) → detection_refusal unbuilt limits e ≡ None → IsScalarMember e → IsDetection e d → IsWholeDetection d
   detection_whole limits e d none scalars read =
-      let lines = two_hold (must 71 (key_place e) (is_detection_key e)) (content_refusal limits (key_place e) e.value) none in
+      let lines = two_hold (must 71 (key_place e) (is_detection_key e)) (content_refusal unbuilt limits (key_place e) e.value) none in
       let content = four_hold (must 77 (place_of e.value) (not (is_null e.value))) (must 78 (place_of e.value) (not (is_empty (parts_in e.value))))
-      (must 79 (key_place e) (nat_le (length (parts_in e.value)) limits.list_values)) (first (map (alternative_refusal limits) (parts_in e.value))) lines.1 in
+      (must 79 (key_place e) (nat_le (length (parts_in e.value)) limits.list_values)) (first (map (alternative_refusal unbuilt limits) (parts_in e.value))) lines.1 in
       record {
         some = zip_some IsAlternative (parts_in e.value) d.alternatives read.alternatives (filled 78 (place_of e.value) (parts_in e.value) content.1);
-        each = each_read IsAlternative HasScalarTexts IsWholeAlternative (alternative_refusal limits) (alternative_whole limits)
+        each = each_read IsAlternative HasScalarTexts IsWholeAlternative (alternative_refusal unbuilt limits) (alternative_whole limits)
             (parts_in e.value) d.alternatives content.3 (each_part e.value scalars.1) read.alternatives;
       }
 
-  detections_whole : (limits : Limits) (t : Tree) (ds : List Detection) → detections_refusal limits t ≡ None → HasScalarTexts t → AreDetections t ds → EachOf IsWholeDetection ds
+  detections_whole : (limits : Limits) (t : Tree) (ds : List Detection) → detections_refusal unbuilt limits t ≡ None → HasScalarTexts t → AreDetections t ds → EachOf IsWholeDetection ds
   detections_whole limits t ds none scalars read =
       let lines = three_hold (must 71 (place_of t) (is_map t)) (must 77 (place_of t) (list_any is_identified (entries_in t) || begins_with_timeframe (entries_in t)))
-      (first (map (detection_refusal limits) (detection_entries t))) none in
-      each_read IsDetection IsScalarMember IsWholeDetection (detection_refusal limits) (detection_whole limits) (detection_entries t) ds lines.2
+      (first (map (detection_refusal unbuilt limits) (detection_entries t))) none in
+      each_read IsDetection IsScalarMember IsWholeDetection (detection_refusal unbuilt limits) (detection_whole limits) (detection_entries t) ds lines.2
       (each_kept IsScalarMember is_no_condition (entries_in t) (each_entry t scalars)) read
 
-  pub rule_whole : (limits : Limits) (t : Tree) (rule : PlainRule) → rule_refusal limits t ≡ None → IsRule t rule → HasScalarTexts t → IsWhole rule
+  pub rule_whole : (limits : Limits) (t : Tree) (rule : PlainRule) → rule_refusal unbuilt limits t ≡ None → IsRule t rule → HasScalarTexts t → IsWhole rule
   rule_whole limits t rule none read scalars =
       let source = value_in (codes "logsource") (entries_in t) in
       let detection = value_in (codes "detection") (entries_in t) in
       let lines = six_hold (first (head_checks t)) (must 70 (place_of t) (is_some source)) (refused_by source_refusal source)
-      (must 70 (place_of t) (is_some detection)) (refused_by (detections_refusal limits) detection) (refused_by (conditions_refusal limits) detection) none in
+      (must 70 (place_of t) (is_some detection)) (refused_by (detections_refusal unbuilt limits) detection) (refused_by (conditions_refusal limits) detection) none in
       let own = found_value (codes "detection") (entries_in t) read.detection (each_entry t scalars) read.detection_there in
-      let detected : detections_refusal limits read.detection ≡ None = sym (ap (refused_by (detections_refusal limits)) read.detection_there) ∙ lines.4 in
+      let detected : detections_refusal unbuilt limits read.detection ≡ None = sym (ap (refused_by (detections_refusal unbuilt limits)) read.detection_there) ∙ lines.4 in
       let conditioned : conditions_refusal limits read.detection ≡ None = sym (ap (refused_by (conditions_refusal limits)) read.detection_there) ∙ lines.5 in
       record {
         detections = detections_whole limits read.detection rule.detections detected own read.detections;

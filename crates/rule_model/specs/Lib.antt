@@ -1,4 +1,6 @@
 pub mod Plain
+pub mod AsBuilt
 pub mod Conditions
+pub mod Expressions
 pub mod Rules
 pub mod Whole

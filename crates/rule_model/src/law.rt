@@ -1,13 +1,15 @@
 //! What follows from the definitions, for the proofs of callers: each function does nothing else than name laws that it
 //! stands on, and its clauses are laws.
 
-ghost use Rattle.std.specs.Prelude.{◌≡◌, ◌≤◌, ℕ, List, Some, None};
+ghost use Rattle.std.specs.Prelude.{◌≡◌, ◌≤◌, ℕ, List, [], Some, None};
 ghost use Rattle.sig_conditions.specs.Conditions.{Cond};
 ghost use Rattle.sig_conditions.specs.Grammar.{ConditionReads};
 ghost use Rattle.sig_conditions.specs.Words.{nesting, words};
 ghost use Rattle.sig_base.specs.declared.limits.Limits.{Limits};
+ghost use Rattle.sig_base.specs.declared.refusal.Place.{Place};
 ghost use Rattle.yaml_tree.specs.Texts.{HasScalarTexts};
 ghost use Rattle.yaml_tree.specs.Tree.{Tree};
+ghost use Rattle.rule_model.specs.AsBuilt.{IsRefusedAsBuilt};
 ghost use Rattle.rule_model.specs.Conditions.{condition_of};
 ghost use Rattle.rule_model.specs.Plain.{PlainRule};
 ghost use Rattle.rule_model.specs.Rules.{rule_refusal, lone_refusal, IsRule, IsLoneRule};
@@ -34,24 +36,33 @@ pub fn one_rule()
 
 /// A document that no line of the table refuses is a rule.
 pub fn rule_or_refusal()
-    ensures { (limits : Limits) (t : Tree) → rule_refusal limits t ≡ None → (rule : PlainRule) × IsRule t rule }
+    ensures { (unbuilt : List Place) (limits : Limits) (t : Tree) → rule_refusal unbuilt limits t ≡ None → (rule : PlainRule) × IsRule t rule }
 {
     tests_or_refusal();
 }
 
 /// A document that is neither a correlation nor refused as a rule is one rule.
 pub fn lone_rules()
-    ensures each { (limits : Limits) (t : Tree) → lone_refusal limits t ≡ None → (rule : PlainRule) × IsLoneRule limits t rule }
-    ensures one { (limits : Limits) (t : Tree) (a b : PlainRule) → IsLoneRule limits t a → IsLoneRule limits t b → a ≡ b }
+    ensures each { (unbuilt : List Place) (limits : Limits) (t : Tree) → lone_refusal unbuilt limits t ≡ None → (rule : PlainRule) × IsLoneRule unbuilt limits t rule }
+    ensures one { (u v : List Place) (limits : Limits) (t : Tree) (a b : PlainRule)
+        → IsLoneRule u limits t a → IsLoneRule v limits t b → a ≡ b }
 {
     rule_or_refusal();
     one_rule();
 }
 
+/// Where regular expressions aren't built at some places, a document is refused as it is anyway, or 48 at one of these places.
+pub fn refused_as_built()
+    ensures rule { (unbuilt : List Place) (limits : Limits) (t : Tree)
+        → IsRefusedAsBuilt unbuilt (rule_refusal unbuilt limits t) (rule_refusal [] limits t) }
+    ensures lone { (unbuilt : List Place) (limits : Limits) (t : Tree)
+        → IsRefusedAsBuilt unbuilt (lone_refusal unbuilt limits t) (lone_refusal [] limits t) }
+{}
+
 /// A rule of a document that no line of the table refuses, and whose texts are of Unicode scalar values, is whole.
 pub fn rules_are_whole()
-    ensures { (limits : Limits) (t : Tree) (rule : PlainRule)
-        → rule_refusal limits t ≡ None → IsRule t rule → HasScalarTexts t → IsWhole rule }
+    ensures { (unbuilt : List Place) (limits : Limits) (t : Tree) (rule : PlainRule)
+        → rule_refusal unbuilt limits t ≡ None → IsRule t rule → HasScalarTexts t → IsWhole rule }
 {
     plain_tests();
     some_test();

@@ -1,11 +1,15 @@
 //! Sigma rules: what a document's tree is read as, and what every rule that is read keeps.
 #![tactic(auto)]
 
-pub use law::{condition_of_text, lone_rules, one_rule, rule_or_refusal, rules_are_whole};
+pub use expressions::find_expressions;
+pub use law::{
+    condition_of_text, lone_rules, one_rule, refused_as_built, rule_or_refusal, rules_are_whole,
+};
 pub use rule::Rule;
 
 mod conditions;
 mod copies;
+mod expressions;
 mod law;
 mod rule;
 #[cfg(test)]

@@ -12,7 +12,7 @@ ghost use Rattle.rule_model.specs.Whole.{IsWhole};
 use crate::conditions::read_conditions;
 use rule_head::{Head, LogSource, copy_rest};
 use rule_items::{Detections, read_detections};
-use sig_base::{Code, Fault, Limits, refused};
+use sig_base::{Code, Fault, Limits, Place, refused};
 use sig_conditions::Formula;
 use std::alloc::Global;
 use yaml_tree::{Node, all_entries, has_key, place_of, value_at};
@@ -29,21 +29,31 @@ pub struct Rule {
 impl Rule {
     /// Reads the rule that a document is. What is refused first is answered: the head's keys in their order, then
     /// the log source, then the detections by place, and then the conditions. A missing `logsource` or `detection`
-    /// is refused 70 at the document's node.
-    pub fn read(alloc: Global, limits: &Limits, node: &Node) -> Result<Rule, Fault>
-        ensures judged { Judged (λ r. IsRule (node_view node.now) (rule_view r)) (rule_refusal limits.now (node_view node.now)) result }
+    /// is refused 70 at the document's node. `unbuilt` are the places of values at which no regular expression is built.
+    pub fn read(
+        alloc: Global,
+        limits: &Limits,
+        unbuilt: &[Place],
+        node: &Node,
+    ) -> Result<Rule, Fault>
+        ensures judged { Judged (λ r. IsRule (node_view node.now) (rule_view r)) (rule_refusal unbuilt.now limits.now (node_view node.now)) result }
         ensures whole { IfOk result (λ r. IsWhole (rule_view r)) }
     {
-        let mut rule = Rule::read_bare(alloc, limits, node)?;
+        let mut rule = Rule::read_bare(alloc, limits, unbuilt, node)?;
         rule.head.rest = copy_rest(alloc, all_entries(node))?;
         Ok(rule)
     }
 
     /// Reads a rule as `read` does, but for the entries that its head keeps as they are: `rest` is empty. It takes no copy
     /// of the document, and the rule has the same meaning and the same query.
-    pub fn read_bare(alloc: Global, limits: &Limits, node: &Node) -> Result<Rule, Fault>
+    pub fn read_bare(
+        alloc: Global,
+        limits: &Limits,
+        unbuilt: &[Place],
+        node: &Node,
+    ) -> Result<Rule, Fault>
         ensures judged { Judged (λ r. IsRule (node_view node.now) (rule_with (rest_of (node_view node.now)) (rule_view r)))
-            (rule_refusal limits.now (node_view node.now)) result }
+            (rule_refusal unbuilt.now limits.now (node_view node.now)) result }
         ensures bare { IfOk result (λ r. (rule_view r).head.rest ≡ []) }
         ensures whole { IfOk result (λ r. IsWhole (rule_view r)) }
     {
@@ -56,7 +66,7 @@ impl Rule {
             return Err(refused(Code::MISSING_KEY, place_of(node)));
         };
         let conditions = read_conditions(alloc, limits, detection);
-        let detections = read_detections(alloc, limits, detection)?;
+        let detections = read_detections(alloc, limits, unbuilt, detection)?;
         let conditions = conditions?;
         Ok(Rule {
             head,
@@ -68,14 +78,19 @@ impl Rule {
 
     /// Reads a rule as `read_bare` does, where it is to have a query or to be run: before all else a correlation is refused,
     /// 146 at the document's node.
-    pub fn read_lone(alloc: Global, limits: &Limits, node: &Node) -> Result<Rule, Fault>
+    pub fn read_lone(
+        alloc: Global,
+        limits: &Limits,
+        unbuilt: &[Place],
+        node: &Node,
+    ) -> Result<Rule, Fault>
         ensures judged { Judged (λ r. IsRule (node_view node.now) (rule_with (rest_of (node_view node.now)) (rule_view r)))
-            (lone_refusal limits.now (node_view node.now)) result }
+            (lone_refusal unbuilt.now limits.now (node_view node.now)) result }
         ensures bare { IfOk result (λ r. (rule_view r).head.rest ≡ []) }
         ensures whole { IfOk result (λ r. IsWhole (rule_view r)) }
     {
         refuse_correlation(node)?;
-        Rule::read_bare(alloc, limits, node)
+        Rule::read_bare(alloc, limits, unbuilt, node)
     }
 }
 

@@ -1,4 +1,5 @@
-use crate::Rule;
+use crate::{Rule, find_expressions};
+use rule_items::Expression;
 use sig_base::{Detail, Fault, Limits, Place, Refusal, Text};
 use std::alloc::Global;
 use std::test::Fail;
@@ -99,7 +100,7 @@ fn document(
 
 /// The number, the place and the detail of what refuses a document, or nothing.
 fn shown(alloc: Global, limits: &Limits, node: &Node) -> Result<String, Fail> {
-    match Rule::read(alloc, limits, node) {
+    match Rule::read(alloc, limits, [].as_slice(), node) {
         Ok(_) => Ok(String::new(alloc)),
         Err(Fault::Memory) => Ok(String::from_str(alloc, "memory")?),
         Err(Fault::Refused(refusal)) => Ok(told(alloc, &refusal)?),
@@ -140,9 +141,9 @@ fn rules_are_read_and_copied(rt: HostRuntime) -> Result<(), Fail> {
         [("product", "p")].as_slice(),
         [("s", "x"), ("condition", "not s"), ("r", "y")].as_slice(),
     )?;
-    let bare = Rule::read_bare(alloc, &Limits::standard(), &node)?;
+    let bare = Rule::read_bare(alloc, &Limits::standard(), [].as_slice(), &node)?;
     assert_eq!(rt; said(alloc, &bare)?.as_str(), "t 0 p 2 1");
-    let rule = Rule::read(alloc, &Limits::standard(), &node)?.copy(alloc)?;
+    let rule = Rule::read(alloc, &Limits::standard(), [].as_slice(), &node)?.copy(alloc)?;
     assert_eq!(rt; said(alloc, &rule)?.as_str(), "t 4 p 2 1");
     Ok(())
 }
@@ -286,7 +287,7 @@ fn with_conditions(alloc: Global, conditions: &[&str]) -> Result<String, Fail> {
         Node::map(at(4, 3), detection),
     )?;
     let node = Node::map(TOP, entries);
-    match Rule::read(alloc, &Limits::standard(), &node) {
+    match Rule::read(alloc, &Limits::standard(), [].as_slice(), &node) {
         Ok(rule) => Ok(format!(in alloc; "{}", rule.conditions.len())?),
         Err(Fault::Memory) => Ok(String::from_str(alloc, "memory")?),
         Err(Fault::Refused(refusal)) => Ok(told(alloc, &refusal)?),
@@ -315,7 +316,7 @@ fn lone_refusal(alloc: Global, head: &[(&str, &str)]) -> Result<String, Fail> {
         [("product", "p")].as_slice(),
         [("s", "x"), ("condition", "s")].as_slice(),
     )?;
-    match Rule::read_lone(alloc, &Limits::standard(), &node) {
+    match Rule::read_lone(alloc, &Limits::standard(), [].as_slice(), &node) {
         Ok(_) => Ok(String::new(alloc)),
         Err(Fault::Memory) => Ok(String::from_str(alloc, "memory")?),
         Err(Fault::Refused(refusal)) => Ok(told(alloc, &refusal)?),
@@ -334,5 +335,85 @@ fn correlations_are_refused_before_all_else(rt: HostRuntime) -> Result<(), Fail>
     );
     let titled = [("title", "t"), ("correlation", "~")];
     assert_eq!(rt; lone_refusal(alloc, titled.as_slice())?.as_str(), "146 1 1");
+    Ok(())
+}
+
+/// A rule whose detection `sel` has the item `f|re|i: a` at line 5, column 5, with these pairs behind it.
+fn with_expression(alloc: Global, pairs: &[(&str, &str)]) -> Result<Node, Fail> {
+    let mut items = Vec::new(alloc);
+    add_pairs(alloc, &mut items, 5, 5, [("f|re|i", "a")].as_slice())?;
+    let mut detection = Vec::new(alloc);
+    let value = Node::map(at(5, 5), items);
+    add(alloc, &mut detection, "sel", at(4, 3), value)?;
+    add_pairs(alloc, &mut detection, 6, 3, pairs)?;
+    let mut entries = Vec::new(alloc);
+    add_pairs(alloc, &mut entries, 1, 1, [("title", "t")].as_slice())?;
+    let source = [("category", "c")];
+    add_map(alloc, &mut entries, 2, "logsource", source.as_slice())?;
+    let value = Node::map(at(4, 3), detection);
+    add(alloc, &mut entries, "detection", at(4, 1), value)?;
+    Ok(Node::map(TOP, entries))
+}
+
+/// What refuses it where no regular expression is built in this column of line 5.
+fn unbuilt_refusal(alloc: Global, column: u32, pairs: &[(&str, &str)]) -> Result<String, Fail> {
+    let node = with_expression(alloc, pairs)?;
+    let unbuilt = [at(5, column)];
+    match Rule::read_lone(alloc, &Limits::standard(), unbuilt.as_slice(), &node) {
+        Ok(_) => Ok(String::new(alloc)),
+        Err(Fault::Memory) => Ok(String::from_str(alloc, "memory")?),
+        Err(Fault::Refused(refusal)) => Ok(told(alloc, &refusal)?),
+    }
+}
+
+/// A regular expression that isn't built is refused with the detections, and so before a missing condition.
+#[test]
+fn what_is_not_built_is_refused(rt: HostRuntime) -> Result<(), Fail> {
+    let alloc = rt.alloc();
+    for (column, pairs, want) in [
+        (5, [("condition", "sel")].as_slice(), ""),
+        (13, [("condition", "sel")].as_slice(), "48 5 13"),
+        (5, [].as_slice(), "70 4 3"),
+        (13, [].as_slice(), "48 5 13"),
+        (13, [("condition", "sel sel")].as_slice(), "48 5 13"),
+    ] {
+        assert_eq!(rt;
+            unbuilt_refusal(alloc, column, pairs)?.as_str(),
+            want,
+            "{column}"
+        );
+    }
+    Ok(())
+}
+
+fn expressions_shown(alloc: Global, expressions: &[Expression]) -> Result<String, Fail> {
+    let mut shown = String::new(alloc);
+    for expression in expressions {
+        let place = expression.place;
+        let text = expression.text.as_str();
+        shown.push_str(&format!(in alloc; "{}:{} {text}", place.line, place.column)?)?;
+    }
+    Ok(shown)
+}
+
+/// In a document they stand at their values, and in a rule at their items.
+#[test]
+fn regular_expressions_are_found(rt: HostRuntime) -> Result<(), Fail> {
+    let alloc = rt.alloc();
+    let limits = Limits::standard();
+    let node = with_expression(alloc, [("condition", "sel")].as_slice())?;
+    let found = find_expressions(alloc, &limits, &node)?;
+    assert_eq!(rt;
+        expressions_shown(alloc, found.as_slice())?.as_str(),
+        "5:13 (?i)a"
+    );
+    let rule = Rule::read(alloc, &limits, [].as_slice(), &node)?;
+    let found = rule.expressions(alloc)?;
+    assert_eq!(rt;
+        expressions_shown(alloc, found.as_slice())?.as_str(),
+        "5:5 (?i)a"
+    );
+    let found = find_expressions(alloc, &limits, &Node::null(TOP))?;
+    assert_eq!(rt; expressions_shown(alloc, found.as_slice())?.as_str(), "");
     Ok(())
 }

@@ -1,5 +1,5 @@
 -- Why a rule has no query, line by line.
-use Rattle.std.proofs.Common.{ℕ, ◌≡◌, List, [], ◌∷◌, Option, Some, None, refl, subst, ap, ◌∙◌}
+use Rattle.std.proofs.Common.{ℕ, ◌≡◌, Bool, List, [], ◌∷◌, ◌++◌, Option, Some, None, refl, sym, subst, ap, ◌∙◌, append-nil}
 use Rattle.std.specs.Prelude.{min, ◌^◌, ◌-◌, option_map, Result, Ok, Err}
 use Rattle.backend_core.proofs.Checks.{parts, rest_decides, line_decides}
 use Rattle.backend_core.specs.Trees.{Plain}
@@ -10,10 +10,17 @@ use Rattle.event_schema.specs.declared.schema.Schema.{Schema}
 use Rattle.rule_lowering.specs.Leaves.{leaves}
 use Rattle.rule_lowering.specs.Refused.{leaves_refusal}
 use Rattle.rule_lowering.specs.TreeOf.{tree_of}
+use Rattle.rule_building.proofs.Documents.{found_items, found_only, found_none, no_items}
+use Rattle.rule_building.specs.Building.{Builds, FoundUnbuilt}
+use Rattle.rule_building.specs.ForUnbuilt.{ForItems, ForUnbuilt, is_answered}
+use Rattle.rule_building.specs.Unbuilt.{Unbuilt, ArePlacesOf, unbuilt_refusal}
+use Rattle.rule_items.specs.declared.expression.Expression.{Expression}
+use Rattle.rule_model.specs.Expressions.{document_expressions, rule_expressions}
 use Rattle.rule_model.specs.Plain.{PlainRule, rule_with}
 use Rattle.rule_model.specs.Rules.{lone_refusal, IsRule}
 use Rattle.rule_queries.specs.Queries.{rule_tree, query_under, query_of, query_refusal, checks_under, query_checks}
-use Rattle.rule_queries.specs.Verdicts.{ConvertAnswers, no_query}
+use Rattle.rule_queries.specs.Rebuilt.{Rebuilt}
+use Rattle.rule_queries.specs.Verdicts.{CheckAnswers, ConvertAnswers, no_rule, no_query}
 use Rattle.rule_schema.specs.Inferred.{schema_for, made_refusal, fit_refusal}
 use Rattle.sig_base.proofs.Firsts.{judged_as}
 use Rattle.sig_base.specs.Judged.{first, Judged}
@@ -33,75 +40,213 @@ module _ (missing : Schema → Leaf → Option Lack) (text : Schema → Plain �
   abbrev leaves_line : Limits → Schema → PlainRule → Option Refusal
   leaves_line limits schema rule = at_most 110 rule.head.place (min (leaves (rule_tree schema rule)) (2 ^ 127 - 1)) (leaves (rule_tree schema rule)) limits.leaves
 
-  pub no_line : (limits : Limits) (given : Option Schema) (rule : PlainRule) → query_refusal missing text too_deep limits given rule ≡ None → NoLine limits given rule
+  -- 48 at the first item of which a regular expression isn't built once more
+  abbrev built_line : List Place → PlainRule → Option Refusal
+  built_line unbuilt rule = unbuilt_refusal unbuilt (rule_expressions rule)
+
+  pub no_line : (unbuilt : List Place) (limits : Limits) (given : Option Schema) (rule : PlainRule) → query_refusal missing text too_deep unbuilt limits given rule ≡ None → NoLine limits given rule
   unfolding rule_tree
-  no_line limits given rule e =
+  no_line unbuilt limits given rule e =
       let schema = schema_for given rule in
-      let a = parts (made_refusal given rule) (checks_under missing text too_deep limits schema rule) e in
-      let b = parts (fit_refusal schema rule) (query_checks missing text too_deep limits schema rule) a.1 in
-      let c = parts (leaves_line limits schema rule) (write_checks missing text too_deep limits schema (rule_tree schema rule) rule.head.place) b.1 in
-      record { made = a.0; fits = b.0; written = c.1 }
+      let a = parts (made_refusal given rule) (checks_under missing text too_deep unbuilt limits schema rule) e in
+      let b = parts (fit_refusal schema rule) (query_checks missing text too_deep unbuilt limits schema rule) a.1 in
+      let c = parts (leaves_line limits schema rule) (built_line unbuilt rule ∷ write_checks missing text too_deep limits schema (rule_tree schema rule) rule.head.place) b.1 in
+      let d = parts (built_line unbuilt rule) (write_checks missing text too_deep limits schema (rule_tree schema rule) rule.head.place) c.1 in
+      record { made = a.0; fits = b.0; written = d.1 }
 
-  -- what the backend answers of the rule's tree, where its leaves are few enough
-  pub written : (limits : Limits) (rule : PlainRule) (schema : Schema) (t : Plain) (r : Result (List ℕ) Fault) → t ≡ tree_of schema rule
-      → leaves_refusal limits schema rule ≡ None → Writes missing text too_deep limits schema t rule.head.place r
-      → Judged (λ bytes. bytes ≡ query_under text schema rule) (first (query_checks missing text too_deep limits schema rule)) r
+  -- what is answered of the rule's tree, where its leaves are few enough
+  pub written : (unbuilt : List Place) (limits : Limits) (rule : PlainRule) (schema : Schema) (t : Plain) (r : Result (List ℕ) Fault) → t ≡ tree_of schema rule
+      → leaves_refusal limits schema rule ≡ None
+      → Judged (λ bytes. bytes ≡ text schema t) (first (built_line unbuilt rule ∷ write_checks missing text too_deep limits schema t rule.head.place)) r
+      → Judged (λ bytes. bytes ≡ query_under text schema rule) (first (query_checks missing text too_deep unbuilt limits schema rule)) r
   unfolding query_under rule_tree
-  written limits rule schema t r e few writes =
-      let at_tree : Writes missing text too_deep limits schema (tree_of schema rule) rule.head.place r = subst (λ (x : Plain). Writes missing text too_deep limits schema x rule.head.place r) e writes in
-      judged_as (λ (bytes : List ℕ). bytes ≡ text schema (tree_of schema rule)) (λ (bytes : List ℕ). bytes ≡ query_under text schema rule)
-      (write_refusal missing text too_deep limits schema (tree_of schema rule) rule.head.place) (first (query_checks missing text too_deep limits schema rule)) r
-      (rest_decides (leaves_line limits schema rule) (write_checks missing text too_deep limits schema (tree_of schema rule) rule.head.place) few) (λ bytes is. is) at_tree
+  written unbuilt limits rule schema t r e few judged =
+      let own : Plain = tree_of schema rule in
+      let lines : Plain → List (Option Refusal) = λ x. built_line unbuilt rule ∷ write_checks missing text too_deep limits schema x rule.head.place in
+      let at_tree : Judged (λ bytes. bytes ≡ text schema own) (first (lines own)) r = subst (λ (x : Plain). Judged (λ bytes. bytes ≡ text schema x) (first (lines x)) r) e judged in
+      judged_as (λ (bytes : List ℕ). bytes ≡ text schema own) (λ (bytes : List ℕ). bytes ≡ query_under text schema rule)
+      (first (lines own)) (first (query_checks missing text too_deep unbuilt limits schema rule)) r
+      (rest_decides (leaves_line limits schema rule) (lines own) few) (λ bytes is. is) at_tree
 
-  pub too_many : (limits : Limits) (rule : PlainRule) (schema : Schema) (r : Refusal) → leaves_refusal limits schema rule ≡ Some r
-      → first (query_checks missing text too_deep limits schema rule) ≡ Some r
+  -- the tree has too many leaves, or there is no memory for it
+  pub too_many : {Y : Type 0} (limits : Limits) (rule : PlainRule) (schema : Schema) (P : Y → Type 0) (fault : Fault) → Judged P (leaves_refusal limits schema rule) (Err fault)
+      → Judged (λ bytes. bytes ≡ query_under text schema rule) (first (query_checks missing text too_deep [] limits schema rule)) (Err fault)
   unfolding rule_tree
-  too_many limits rule schema r e =
-      line_decides (leaves_line limits schema rule) r (write_checks missing text too_deep limits schema (rule_tree schema rule) rule.head.place) e
+  too_many limits rule schema P Memory judged = tt
+  too_many limits rule schema P (Refused r) e =
+      line_decides (leaves_line limits schema rule) r (built_line [] rule ∷ write_checks missing text too_deep limits schema (rule_tree schema rule) rule.head.place) e
+
+  -- a regular expression isn't built, or there is no memory for it
+  pub not_built : {X Y : Type 0} (unbuilt : List Place) (limits : Limits) (rule : PlainRule) (schema : Schema) (t : Plain) (place : Place) (P : X → Type 0) (Q : Y → Type 0) (fault : Fault)
+      → Judged P (built_line unbuilt rule) (Err fault) → Judged Q (first (built_line unbuilt rule ∷ write_checks missing text too_deep limits schema t place)) (Err fault)
+  not_built unbuilt limits rule schema t place P Q Memory judged = tt
+  not_built unbuilt limits rule schema t place P Q (Refused r) e = line_decides (built_line unbuilt rule) r (write_checks missing text too_deep limits schema t place) e
+
+  -- all are built, so the backend decides
+  pub all_built : (unbuilt : List Place) (limits : Limits) (rule : PlainRule) (schema : Schema) (t : Plain) (place : Place) (r : Result (List ℕ) Fault) → built_line unbuilt rule ≡ None
+      → Writes missing text too_deep limits schema t place r → Judged (λ bytes. bytes ≡ text schema t) (first (built_line unbuilt rule ∷ write_checks missing text too_deep limits schema t place)) r
+  all_built unbuilt limits rule schema t place r none writes =
+      judged_as (λ (bytes : List ℕ). bytes ≡ text schema t) (λ (bytes : List ℕ). bytes ≡ text schema t) (write_refusal missing text too_deep limits schema t place)
+      (first (built_line unbuilt rule ∷ write_checks missing text too_deep limits schema t place)) r
+      (rest_decides (built_line unbuilt rule) (write_checks missing text too_deep limits schema t place) none) (λ bytes is. is) writes
+
+  -- no schema is made of the rule
+  pub unmade : {X Y : Type 0} (unbuilt : List Place) (limits : Limits) (rule : PlainRule) (P : X → Type 0) (Q : Y → Type 0) (fault : Fault)
+      → Judged P (made_refusal None rule) (Err fault) → Judged Q (query_refusal missing text too_deep unbuilt limits None rule) (Err fault)
+  unmade unbuilt limits rule P Q Memory judged = tt
+  unmade unbuilt limits rule P Q (Refused r) is = line_decides (made_refusal None rule) r (checks_under missing text too_deep unbuilt limits (schema_for None rule) rule) is
 
   -- the rule doesn't fit the schema that is made of it, or there is no memory to see whether it does
-  pub unfit_made : {Y : Type 0} (limits : Limits) (rule : PlainRule) (schema : Schema) (Q : Y → Type 0) (fault : Fault)
+  pub unfit_made : {Y : Type 0} (unbuilt : List Place) (limits : Limits) (rule : PlainRule) (schema : Schema) (Q : Y → Type 0) (fault : Fault)
       → (made_refusal None rule ≡ None) × (schema ≡ schema_for None rule)
-      → Judged {X = Unit {0}} (λ done. Unit {0}) (fit_refusal schema rule) (Err fault) → Judged {X = Y} Q (query_refusal missing text too_deep limits None rule) (Err fault)
-  unfit_made limits rule schema Q Memory made judged = tt
-  unfit_made limits rule schema Q (Refused r) made is =
-      rest_decides (made_refusal None rule) (checks_under missing text too_deep limits (schema_for None rule) rule) made.0
-      ∙ line_decides (fit_refusal (schema_for None rule) rule) r (query_checks missing text too_deep limits (schema_for None rule) rule)
+      → Judged {X = Unit {0}} (λ done. Unit {0}) (fit_refusal schema rule) (Err fault) → Judged {X = Y} Q (query_refusal missing text too_deep unbuilt limits None rule) (Err fault)
+  unfit_made unbuilt limits rule schema Q Memory made judged = tt
+  unfit_made unbuilt limits rule schema Q (Refused r) made is =
+      rest_decides (made_refusal None rule) (checks_under missing text too_deep unbuilt limits (schema_for None rule) rule) made.0
+      ∙ line_decides (fit_refusal (schema_for None rule) rule) r (query_checks missing text too_deep unbuilt limits (schema_for None rule) rule)
       (subst (λ (s : Schema). fit_refusal s rule ≡ Some r) made.1 is)
 
   -- what is answered of a rule that fits the schema that is made of it
-  pub written_made : (limits : Limits) (rule : PlainRule) (schema : Schema) (r : Result (List ℕ) Fault)
+  pub written_made : (unbuilt : List Place) (limits : Limits) (rule : PlainRule) (schema : Schema) (r : Result (List ℕ) Fault)
       → (made_refusal None rule ≡ None) × (schema ≡ schema_for None rule) → fit_refusal schema rule ≡ None
-      → Judged (λ bytes. bytes ≡ query_under text schema rule) (first (query_checks missing text too_deep limits schema rule)) r
-      → Judged (λ bytes. bytes ≡ query_of text None rule) (query_refusal missing text too_deep limits None rule) r
-  written_made limits rule schema r made fits judged =
+      → Judged (λ bytes. bytes ≡ query_under text schema rule) (first (query_checks missing text too_deep unbuilt limits schema rule)) r
+      → Judged (λ bytes. bytes ≡ query_of text None rule) (query_refusal missing text too_deep unbuilt limits None rule) r
+  written_made unbuilt limits rule schema r made fits judged =
       let own = schema_for None rule in
-      let at_own : Judged (λ bytes. bytes ≡ query_under text own rule) (first (query_checks missing text too_deep limits own rule)) r =
-      subst (λ (s : Schema). Judged (λ bytes. bytes ≡ query_under text s rule) (first (query_checks missing text too_deep limits s rule)) r) made.1 judged in
+      let at_own : Judged (λ bytes. bytes ≡ query_under text own rule) (first (query_checks missing text too_deep unbuilt limits own rule)) r =
+      subst (λ (s : Schema). Judged (λ bytes. bytes ≡ query_under text s rule) (first (query_checks missing text too_deep unbuilt limits s rule)) r) made.1 judged in
       judged_as (λ (bytes : List ℕ). bytes ≡ query_under text own rule) (λ (bytes : List ℕ). bytes ≡ query_of text None rule)
-      (first (query_checks missing text too_deep limits own rule)) (query_refusal missing text too_deep limits None rule) r
-      (rest_decides (made_refusal None rule) (checks_under missing text too_deep limits own rule) made.0
-      ∙ rest_decides (fit_refusal own rule) (query_checks missing text too_deep limits own rule) (subst (λ (s : Schema). fit_refusal s rule ≡ None) made.1 fits))
+      (first (query_checks missing text too_deep unbuilt limits own rule)) (query_refusal missing text too_deep unbuilt limits None rule) r
+      (rest_decides (made_refusal None rule) (checks_under missing text too_deep unbuilt limits own rule) made.0
+      ∙ rest_decides (fit_refusal own rule) (query_checks missing text too_deep unbuilt limits own rule) (subst (λ (s : Schema). fit_refusal s rule ≡ None) made.1 fits))
       (λ bytes is. is) at_own
 
   -- where no schema is given, what is said of none
-  pub given_none : {T : Type 0} (schema_of : T → Schema) (given : Option T) (limits : Limits) (rule : PlainRule) (r : Result (List ℕ) Fault) → given ≡ None
-      → Judged (λ bytes. bytes ≡ query_of text None rule) (query_refusal missing text too_deep limits None rule) r
-      → Judged (λ bytes. bytes ≡ query_of text (option_map schema_of given) rule) (query_refusal missing text too_deep limits (option_map schema_of given) rule) r
-  given_none schema_of None limits rule r none judged = judged
-  given_none schema_of (Some x) limits rule r none judged = absurd cc
+  pub given_none : {T : Type 0} (schema_of : T → Schema) (given : Option T) (unbuilt : List Place) (limits : Limits) (rule : PlainRule) (r : Result (List ℕ) Fault) → given ≡ None
+      → Judged (λ bytes. bytes ≡ query_of text None rule) (query_refusal missing text too_deep unbuilt limits None rule) r
+      → Judged (λ bytes. bytes ≡ query_of text (option_map schema_of given) rule) (query_refusal missing text too_deep unbuilt limits (option_map schema_of given) rule) r
+  given_none schema_of None unbuilt limits rule r none judged = judged
+  given_none schema_of (Some x) unbuilt limits rule r none judged = absurd cc
 
   -- what a node's conversion answers
-  pub node_answers : (limits : Limits) (given : Option Schema) (t : Tree) (rule : PlainRule) (r : Result (List ℕ) Fault) → (lone_refusal limits t ≡ None) × IsRule t rule
-      → Judged (λ bytes. bytes ≡ query_of text given rule) (query_refusal missing text too_deep limits given rule) r → ConvertAnswers missing text too_deep limits given t r
-  node_answers limits given t rule (Ok bytes) is j = (rule, record { lone = record { taken = is.0; is = is.1 }; written = j.0 }, j.1)
-  node_answers limits given t rule (Err Memory) is j = tt
-  node_answers limits given t rule (Err (Refused r)) is j = no_query rule (record { taken = is.0; is = is.1 }) j
+  pub node_answers : (unbuilt : Unbuilt) (limits : Limits) (given : Option Schema) (t : Tree) (rule : PlainRule) (r : Result (List ℕ) Fault) → (lone_refusal unbuilt.values limits t ≡ None) × IsRule t rule
+      → Judged (λ bytes. bytes ≡ query_of text given rule) (query_refusal missing text too_deep unbuilt.items limits given rule) r → ConvertAnswers missing text too_deep unbuilt limits given t r
+  node_answers unbuilt limits given t rule (Ok bytes) is j = (rule, record { lone = record { taken = is.0; is = is.1 }; written = j.0 }, j.1)
+  node_answers unbuilt limits given t rule (Err Memory) is j = tt
+  node_answers unbuilt limits given t rule (Err (Refused r)) is j = no_query rule (record { taken = is.0; is = is.1 }) j
 
   -- the same of a rule that was read without the other entries of its head, which no query asks for
-  pub bare_answers : (limits : Limits) (given : Option Schema) (t : Tree) (rest : List Member) (rule : PlainRule) (r : Result (List ℕ) Fault)
-      → (lone_refusal limits t ≡ None) × IsRule t (rule_with rest rule)
-      → Judged (λ bytes. bytes ≡ query_of text given rule) (query_refusal missing text too_deep limits given rule) r → ConvertAnswers missing text too_deep limits given t r
+  pub bare_answers : (unbuilt : Unbuilt) (limits : Limits) (given : Option Schema) (t : Tree) (rest : List Member) (rule : PlainRule) (r : Result (List ℕ) Fault)
+      → (lone_refusal unbuilt.values limits t ≡ None) × IsRule t (rule_with rest rule)
+      → Judged (λ bytes. bytes ≡ query_of text given rule) (query_refusal missing text too_deep unbuilt.items limits given rule) r → ConvertAnswers missing text too_deep unbuilt limits given t r
   unfolding query_under rule_tree
-  bare_answers limits None t rest rule r is j = node_answers limits None t (rule_with rest rule) r is j
-  bare_answers limits (Some schema) t rest rule r is j = node_answers limits (Some schema) t (rule_with rest rule) r is j
+  bare_answers unbuilt limits None t rest rule r is j = node_answers unbuilt limits None t (rule_with rest rule) r is j
+  bare_answers unbuilt limits (Some schema) t rest rule r is j = node_answers unbuilt limits (Some schema) t (rule_with rest rule) r is j
+
+  -- no rule was read
+  pub unread_answers : {X : Type 0} (unbuilt : Unbuilt) (limits : Limits) (given : Option Schema) (t : Tree) (P : X → Type 0) (fault : Fault)
+      → Judged P (lone_refusal unbuilt.values limits t) (Err fault) → ConvertAnswers missing text too_deep unbuilt limits given t (Err fault)
+  unread_answers unbuilt limits given t P Memory j = tt
+  unread_answers unbuilt limits given t P (Refused r) j = no_rule j
+
+  -- the rule doesn't fit the given schema
+  pub unfit_under : (limits : Limits) (rule : PlainRule) (schema : Schema) (texts : List (List ℕ)) (r : Refusal) → fit_refusal schema rule ≡ Some r
+      → Rebuilt (rule_expressions rule) texts texts (λ unbuilt. Judged (λ bytes. bytes ≡ query_under text schema rule) (first (checks_under missing text too_deep unbuilt limits schema rule)) (Err (Refused r)))
+  unfit_under limits rule schema texts r is = record {
+    unbuilt = [];
+    gained = [];
+    follows = sym (append-nil texts);
+    places = tt;
+    says = line_decides (fit_refusal schema rule) r (query_checks missing text too_deep [] limits schema rule) is;
+  }
+
+  -- or it does
+  pub fits_under : (limits : Limits) (rule : PlainRule) (schema : Schema) (before after : List (List ℕ)) (r : Result (List ℕ) Fault) → fit_refusal schema rule ≡ None
+      → Rebuilt (rule_expressions rule) before after (λ unbuilt. Judged (λ bytes. bytes ≡ query_under text schema rule) (first (query_checks missing text too_deep unbuilt limits schema rule)) r)
+      → Rebuilt (rule_expressions rule) before after (λ unbuilt. Judged (λ bytes. bytes ≡ query_under text schema rule) (first (checks_under missing text too_deep unbuilt limits schema rule)) r)
+  fits_under limits rule schema before after r none h = record {
+    unbuilt = h.unbuilt;
+    gained = h.gained;
+    follows = h.follows;
+    places = h.places;
+    says = judged_as (λ (bytes : List ℕ). bytes ≡ query_under text schema rule) (λ (bytes : List ℕ). bytes ≡ query_under text schema rule)
+        (first (query_checks missing text too_deep h.unbuilt limits schema rule)) (first (checks_under missing text too_deep h.unbuilt limits schema rule)) r
+        (rest_decides (fit_refusal schema rule) (query_checks missing text too_deep h.unbuilt limits schema rule) none) (λ bytes is. is) h.says;
+  }
+
+  -- the same for places of items, of a tree that was lowered
+  pub rule_written : (limits : Limits) (rule : PlainRule) (schema : Schema) (t : Plain) (before after : List (List ℕ)) (r : Result (List ℕ) Fault) → t ≡ tree_of schema rule
+      → leaves_refusal limits schema rule ≡ None
+      → Rebuilt (rule_expressions rule) before after (λ unbuilt. Judged (λ bytes. bytes ≡ text schema t) (first (built_line unbuilt rule ∷ write_checks missing text too_deep limits schema t rule.head.place)) r)
+      → Rebuilt (rule_expressions rule) before after (λ unbuilt. Judged (λ bytes. bytes ≡ query_under text schema rule) (first (query_checks missing text too_deep unbuilt limits schema rule)) r)
+  rule_written limits rule schema t before after r e few h =
+      record { unbuilt = h.unbuilt; gained = h.gained; follows = h.follows; places = h.places; says = written h.unbuilt limits rule schema t r e few h.says }
+
+-- ---- for places of items
+
+module _ (es : List Expression) where
+  pub rebuilt_as : (before after : List (List ℕ)) (P Q : List Place → Type 0) → ((unbuilt : List Place) → P unbuilt → Q unbuilt) → Rebuilt es before after P → Rebuilt es before after Q
+  rebuilt_as before after P Q f h = record { unbuilt = h.unbuilt; gained = h.gained; follows = h.follows; places = h.places; says = f h.unbuilt h.says }
+
+  pub rebuilt_none : (texts : List (List ℕ)) (P : List Place → Type 0) → P [] → Rebuilt es texts texts P
+  rebuilt_none texts P h = record { unbuilt = []; gained = []; follows = sym (append-nil texts); places = tt; says = h }
+
+  pub rebuilt_by : {X : Type 0} (before after : List (List ℕ)) (Is : X → Type 0) (r : Result X Fault) (P : List Place → Type 0)
+      → ((unbuilt : List Place) → Judged Is (unbuilt_refusal unbuilt es) r → P unbuilt) → Builds Is es before after r → Rebuilt es before after P
+  rebuilt_by before after Is r P f h = record { unbuilt = h.unbuilt; gained = h.gained; follows = h.follows; places = h.places; says = f h.unbuilt h.judged }
+
+-- for a rule that was read of the document without the other entries of its head
+pub rebuilt_items : ((t : Tree) (r s : PlainRule) → IsRule t r → IsRule t s → r ≡ s) → (t : Tree) (rest : List Member) (rule : PlainRule) (values : List Place)
+    (before after : List (List ℕ)) (P : List Place → Type 0) (Q : Unbuilt → Type 0) → IsRule t (rule_with rest rule)
+    → ((unbuilt : List Place) → P unbuilt → Q (record { values = values; items = unbuilt })) → Rebuilt (rule_expressions rule) before after P → ForItems t values before after Q
+rebuilt_items one t rest rule values before after P Q is f h = record {
+  items = h.unbuilt;
+  gained = h.gained;
+  follows = h.follows;
+  places = λ other is_too. subst (λ (r : PlainRule). ArePlacesOf (rule_expressions r) h.gained h.unbuilt) (one t (rule_with rest rule) other is is_too) h.places;
+  says = f h.unbuilt h.says;
+}
+
+-- ---- for places of values, which the code reads as a slice
+
+module _ (limits : Limits) (t : Tree) (values slice : List Place) (same : slice ≡ values) (before mid : List (List ℕ))
+    (found : FoundUnbuilt (document_expressions limits t) before mid (Ok values)) where
+  pub node_converted : (after : List (List ℕ)) (ended : Bool) (Says : Unbuilt → Type 0) → ForItems t slice mid after Says → ForUnbuilt limits t before after ended Says
+  node_converted after ended Says h =
+      found_items limits t values before mid after ended Says found (subst (λ (places : List Place). ForItems t places mid after Says) same h)
+
+  pub node_checked : (r : Result Place Fault) → CheckAnswers (record { values = slice; items = [] }) limits t r
+      → ForUnbuilt limits t before mid (is_answered r) (λ unbuilt. CheckAnswers unbuilt limits t r)
+  node_checked r h =
+      found_only limits t values before mid (is_answered r) (λ unbuilt. CheckAnswers unbuilt limits t r) found
+      (subst (λ (places : List Place). CheckAnswers (record { values = places; items = [] }) limits t r) same h)
+
+-- the places aren't found, for want of memory
+pub none_checked : (limits : Limits) (t : Tree) (before after : List (List ℕ)) (fault : Fault) → FoundUnbuilt (document_expressions limits t) before after (Err fault)
+    → ForUnbuilt limits t before after (is_answered {X = Place} (Err fault)) (λ unbuilt. CheckAnswers unbuilt limits t (Err fault))
+none_checked limits t before after fault found =
+    found_none limits t {X = Place} before after (λ unbuilt r. CheckAnswers unbuilt limits t r) fault found (λ unbuilt. tt)
+
+module _ (missing : Schema → Leaf → Option Lack) (text : Schema → Plain → List ℕ) (too_deep : Limits → Schema → Plain → Place → Option Refusal) where
+  pub none_converted : (limits : Limits) (given : Option Schema) (t : Tree) (before after : List (List ℕ)) (fault : Fault) → FoundUnbuilt (document_expressions limits t) before after (Err fault)
+      → ForUnbuilt limits t before after (is_answered {X = List ℕ} (Err fault)) (λ unbuilt. ConvertAnswers missing text too_deep unbuilt limits given t (Err fault))
+  none_converted limits given t before after fault found =
+      found_none limits t {X = List ℕ} before after (λ unbuilt r. ConvertAnswers missing text too_deep unbuilt limits given t r) fault found (λ unbuilt. tt)
+
+  -- no rule was read of the document
+  pub none_read : {X : Type 0} (limits : Limits) (given : Option Schema) (t : Tree) (values : List Place) (texts : List (List ℕ)) (P : X → Type 0) (fault : Fault)
+      → Judged P (lone_refusal values limits t) (Err fault)
+      → ForItems t values texts texts (λ places. ConvertAnswers missing text too_deep places limits given t (Err fault))
+  none_read limits given t values texts P fault judged =
+      no_items limits t values texts (λ places. ConvertAnswers missing text too_deep places limits given t (Err fault))
+      (unread_answers missing text too_deep (record { values = values; items = [] }) limits given t P fault judged)
+
+  -- a rule was read of it, and converted
+  pub one_read : ((t : Tree) (r s : PlainRule) → IsRule t r → IsRule t s → r ≡ s) → (limits : Limits) (given : Option Schema) (t : Tree) (rest : List Member) (rule : PlainRule)
+      (values : List Place) (before after : List (List ℕ)) (r : Result (List ℕ) Fault) → (lone_refusal values limits t ≡ None) × IsRule t (rule_with rest rule)
+      → Rebuilt (rule_expressions rule) before after (λ items. Judged (λ bytes. bytes ≡ query_of text given rule) (query_refusal missing text too_deep items limits given rule) r)
+      → ForItems t values before after (λ places. ConvertAnswers missing text too_deep places limits given t r)
+  one_read one limits given t rest rule values before after r is h =
+      rebuilt_items one t rest rule values before after (λ items. Judged (λ bytes. bytes ≡ query_of text given rule) (query_refusal missing text too_deep items limits given rule) r)
+      (λ places. ConvertAnswers missing text too_deep places limits given t r) is.1
+      (λ items judged. bare_answers missing text too_deep (record { values = values; items = items }) limits given t rest rule r is judged) h

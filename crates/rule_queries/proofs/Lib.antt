@@ -1,3 +1,4 @@
 pub mod Meaning
 pub mod Judging
 pub mod MoreLacks
+pub mod ByName

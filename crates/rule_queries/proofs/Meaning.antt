@@ -16,6 +16,7 @@ use Rattle.event_schema.specs.declared.schema.Schema.{Schema}
 use Rattle.event_schema.specs.declared.value.Value.{Value}
 use Rattle.rule_lowering.specs.TreeOf.{tree_of}
 use Rattle.rule_matching.specs.Matching.{Matches}
+use Rattle.rule_building.specs.Unbuilt.{Unbuilt}
 use Rattle.rule_model.specs.Plain.{PlainRule}
 use Rattle.rule_model.specs.Rules.{rule_refusal, correlation_refusal, IsRule}
 use Rattle.rule_model.specs.Whole.{IsWhole}
@@ -31,7 +32,7 @@ use Rattle.yaml_tree.specs.Texts.{HasScalarTexts}
 use Rattle.yaml_tree.specs.Tree.{Tree}
 
 abbrev WholeRules : Type 0
-WholeRules = (limits : Limits) (t : Tree) (rule : PlainRule) → rule_refusal limits t ≡ None → IsRule t rule → HasScalarTexts t → IsWhole rule
+WholeRules = (unbuilt : List Place) (limits : Limits) (t : Tree) (rule : PlainRule) → rule_refusal unbuilt limits t ≡ None → IsRule t rule → HasScalarTexts t → IsWhole rule
 
 abbrev TreesMean : Type 0
 TreesMean = (schema : Schema) (rule : PlainRule) (row : List (List Value)) → IsWhole rule → fit_refusal schema rule ≡ None → IsEvent schema.fields row
@@ -65,13 +66,13 @@ module _ (missing : Schema → Leaf → Option Lack) (text : Schema → Plain �
       → Means is_query is_within picks limits schema (λ row. TreeHolds row t) (text schema t)
 
   pub query_means : WholeRules → TreesMean → TreesSound → TextsMean
-      → (limits : Limits) (given : Option Schema) (t : Tree) (rule : PlainRule) → IfSome given IsSchema → HasScalarTexts t
-      → IsConverted missing text too_deep limits given t rule → Converts is_query is_within picks limits given rule (query_of text given rule)
+      → (unbuilt : Unbuilt) (limits : Limits) (given : Option Schema) (t : Tree) (rule : PlainRule) → IfSome given IsSchema → HasScalarTexts t
+      → IsConverted missing text too_deep unbuilt limits given t rule → Converts is_query is_within picks limits given rule (query_of text given rule)
   unfolding query_under rule_tree
-  query_means wholes means sounds texts_mean limits given t rule is texts converted =
-      let lines = no_line missing text too_deep limits given rule converted.written in
-      let taken = (parts (correlation_refusal t) (rule_refusal limits t ∷ []) converted.lone.taken).1 in
-      let whole = wholes limits t rule (parts (rule_refusal limits t) [] taken).0 converted.lone.is texts in
+  query_means wholes means sounds texts_mean unbuilt limits given t rule is texts converted =
+      let lines = no_line missing text too_deep unbuilt.items limits given rule converted.written in
+      let taken = (parts (correlation_refusal t) (rule_refusal unbuilt.values limits t ∷ []) converted.lone.taken).1 in
+      let whole = wholes unbuilt.values limits t rule (parts (rule_refusal unbuilt.values limits t) [] taken).0 converted.lone.is texts in
       let schema = schema_for given rule in
       let sound = sounds schema rule whole lines.fits in
       let query = texts_mean limits schema (tree_of schema rule) rule.head.place (schema_named given rule is whole lines.made) sound lines.written in

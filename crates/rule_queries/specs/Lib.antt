@@ -1,3 +1,4 @@
 pub mod NamedQueries
 pub mod Queries
+pub mod Rebuilt
 pub mod Verdicts

@@ -13,6 +13,7 @@ use Rattle.lucene_queries.specs.Queries as lucene_queries
 use Rattle.lucene_writer.specs.Lacking.{lucene_lacks}
 use Rattle.lucene_writer.specs.Queries as lucene
 use Rattle.lucene_writer.specs.Refused as lucene_refused
+use Rattle.rule_building.specs.Unbuilt.{Unbuilt}
 use Rattle.rule_model.specs.Plain.{PlainRule}
 use Rattle.rule_queries.specs.Queries as queries
 use Rattle.rule_queries.specs.Verdicts as verdicts
@@ -74,17 +75,17 @@ picks Lucene = LuceneSelects
 abbrev pub query_of : BackendName → Option Schema → PlainRule → List ℕ
 query_of backend given rule = queries.query_of (text backend) given rule
 
-abbrev pub query_refusal : BackendName → Limits → Option Schema → PlainRule → Option Refusal
-query_refusal backend limits given rule = queries.query_refusal (missing backend) (text backend) (too_deep backend) limits given rule
+abbrev pub query_refusal : BackendName → List Place → Limits → Option Schema → PlainRule → Option Refusal
+query_refusal backend unbuilt limits given rule = queries.query_refusal (missing backend) (text backend) (too_deep backend) unbuilt limits given rule
 
 abbrev pub Converts : BackendName → Limits → Option Schema → PlainRule → List ℕ → Type 0
 Converts backend limits given rule bytes = queries.Converts (is_query backend) (is_within backend) (picks backend) limits given rule bytes
 
-abbrev pub IsConverted : BackendName → Limits → Option Schema → Tree → PlainRule → Type 0
-IsConverted backend limits given t rule = verdicts.IsConverted (missing backend) (text backend) (too_deep backend) limits given t rule
+abbrev pub IsConverted : BackendName → Unbuilt → Limits → Option Schema → Tree → PlainRule → Type 0
+IsConverted backend unbuilt limits given t rule = verdicts.IsConverted (missing backend) (text backend) (too_deep backend) unbuilt limits given t rule
 
-abbrev pub IsRefused : BackendName → Limits → Option Schema → Tree → Refusal → Type 0
-IsRefused backend limits given t refusal = verdicts.IsRefused (missing backend) (text backend) (too_deep backend) limits given t refusal
+abbrev pub IsRefused : BackendName → Unbuilt → Limits → Option Schema → Tree → Refusal → Type 0
+IsRefused backend unbuilt limits given t refusal = verdicts.IsRefused (missing backend) (text backend) (too_deep backend) unbuilt limits given t refusal
 
-abbrev pub ConvertAnswers : BackendName → Limits → Option Schema → Tree → Result (List ℕ) Fault → Type 0
-ConvertAnswers backend limits given t result = verdicts.ConvertAnswers (missing backend) (text backend) (too_deep backend) limits given t result
+abbrev pub ConvertAnswers : BackendName → Unbuilt → Limits → Option Schema → Tree → Result (List ℕ) Fault → Type 0
+ConvertAnswers backend unbuilt limits given t result = verdicts.ConvertAnswers (missing backend) (text backend) (too_deep backend) unbuilt limits given t result

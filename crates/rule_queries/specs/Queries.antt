@@ -10,7 +10,9 @@ use Rattle.backend_core.specs.declared.tree.Leaf.{Leaf}
 use Rattle.event_schema.specs.declared.schema.Schema.{Schema}
 use Rattle.event_schema.specs.declared.value.Value.{Value}
 use Rattle.rule_schema.specs.Inferred.{schema_for, made_refusal, fit_refusal}
+use Rattle.rule_building.specs.Unbuilt.{unbuilt_refusal}
 use Rattle.rule_matching.specs.Matching.{Matches}
+use Rattle.rule_model.specs.Expressions.{rule_expressions}
 use Rattle.rule_model.specs.Plain.{PlainRule}
 use Rattle.rule_lowering.specs.Leaves.{leaves}
 use Rattle.rule_lowering.specs.TreeOf.{tree_of}
@@ -33,19 +35,21 @@ module _ (text : Schema → Plain → List ℕ) where
   query_of given rule = query_under (schema_for given rule) rule
 
 module _ (missing : Schema → Leaf → Option Lack) (text : Schema → Plain → List ℕ) (too_deep : Limits → Schema → Plain → Place → Option Refusal) where
-  -- why a rule that fits its schema has no query: its tree has too many leaves (told up to 2^127 - 1), or it isn't written
-  abbrev pub query_checks : Limits → Schema → PlainRule → List (Option Refusal)
-  query_checks limits schema rule =
+  -- why a rule that fits its schema has no query, where a regular expression isn't built at the items of these places: its tree has too
+  -- many leaves (told up to 2^127 - 1), one isn't built, or the tree isn't written
+  abbrev pub query_checks : List Place → Limits → Schema → PlainRule → List (Option Refusal)
+  query_checks unbuilt limits schema rule =
       at_most 110 rule.head.place (min (leaves (rule_tree schema rule)) (2 ^ 127 - 1)) (leaves (rule_tree schema rule)) limits.leaves
+      ∷ unbuilt_refusal unbuilt (rule_expressions rule)
       ∷ write_checks missing text too_deep limits schema (rule_tree schema rule) rule.head.place
 
   -- why a rule has no query under a schema: an item doesn't fit it, or one of those
-  abbrev pub checks_under : Limits → Schema → PlainRule → List (Option Refusal)
-  checks_under limits schema rule = fit_refusal schema rule ∷ query_checks limits schema rule
+  abbrev pub checks_under : List Place → Limits → Schema → PlainRule → List (Option Refusal)
+  checks_under unbuilt limits schema rule = fit_refusal schema rule ∷ query_checks unbuilt limits schema rule
 
   -- why a rule has no query under the given schema, or else the one that is made of it
-  abbrev pub query_refusal : Limits → Option Schema → PlainRule → Option Refusal
-  query_refusal limits given rule = first (made_refusal given rule ∷ checks_under limits (schema_for given rule) rule)
+  abbrev pub query_refusal : List Place → Limits → Option Schema → PlainRule → Option Refusal
+  query_refusal unbuilt limits given rule = first (made_refusal given rule ∷ checks_under unbuilt limits (schema_for given rule) rule)
 
 module _ {Query : Type 0} (is_query : Schema → List ℕ → Query → Type 0) (is_within : Limits → Schema → List ℕ → Query → Type 0)
     (picks : Query → List (List Value) → Type 0) where

@@ -1,10 +1,12 @@
--- What the node of a document is answered: its rule, its query, or the first refusal.
+-- What the node of a document is answered, where its regular expressions aren't built at some places: its rule, its query, or the
+-- first refusal.
 use Rattle.std.specs.Prelude.{◌≡◌, ⊤, ℕ, List, Some, None, Result, Ok, Err}
 use Rattle.std.specs.declared.option.Option.{Option}
 use Rattle.backend_core.specs.Trees.{Plain}
 use Rattle.backend_core.specs.declared.lack.Lack.{Lack}
 use Rattle.backend_core.specs.declared.tree.Leaf.{Leaf}
 use Rattle.event_schema.specs.declared.schema.Schema.{Schema}
+use Rattle.rule_building.specs.Unbuilt.{Unbuilt}
 use Rattle.rule_model.specs.Plain.{PlainRule}
 use Rattle.rule_model.specs.Rules.{rule_refusal, lone_refusal, IsRule, IsLoneRule}
 use Rattle.rule_queries.specs.Queries.{query_of, query_refusal}
@@ -16,32 +18,32 @@ use Rattle.sig_base.specs.declared.refusal.Refusal.{Refusal}
 use Rattle.yaml_tree.specs.Tree.{Tree}
 
 -- the node is this rule
-pub record IsChecked (limits : Limits) (t : Tree) (rule : PlainRule) : Type 0 where
-  pub taken : rule_refusal limits t ≡ None
+pub record IsChecked (unbuilt : Unbuilt) (limits : Limits) (t : Tree) (rule : PlainRule) : Type 0 where
+  pub taken : rule_refusal unbuilt.values limits t ≡ None
   pub is : IsRule t rule
 
 -- what checking a node answers: the place of its rule
-abbrev pub CheckAnswers : Limits → Tree → Result Place Fault → Type 0
-CheckAnswers limits t (Ok place) = (rule : PlainRule) × IsChecked limits t rule × (place ≡ rule.head.place)
-CheckAnswers limits t (Err (Refused r)) = rule_refusal limits t ≡ Some r
-CheckAnswers limits t (Err Memory) = ⊤
+abbrev pub CheckAnswers : Unbuilt → Limits → Tree → Result Place Fault → Type 0
+CheckAnswers unbuilt limits t (Ok place) = (rule : PlainRule) × IsChecked unbuilt limits t rule × (place ≡ rule.head.place)
+CheckAnswers unbuilt limits t (Err (Refused r)) = rule_refusal unbuilt.values limits t ≡ Some r
+CheckAnswers unbuilt limits t (Err Memory) = ⊤
 
 -- ---- queries, of any backend
 
 module _ (missing : Schema → Leaf → Option Lack) (text : Schema → Plain → List ℕ) (too_deep : Limits → Schema → Plain → Place → Option Refusal) where
   -- the node is this rule, which has a query under the given schema, or else the one that is made of the rule
-  pub record IsConverted (limits : Limits) (given : Option Schema) (t : Tree) (rule : PlainRule) : Type 0 where
-    pub lone : IsLoneRule limits t rule
-    pub written : query_refusal missing text too_deep limits given rule ≡ None
+  pub record IsConverted (unbuilt : Unbuilt) (limits : Limits) (given : Option Schema) (t : Tree) (rule : PlainRule) : Type 0 where
+    pub lone : IsLoneRule unbuilt.values limits t rule
+    pub written : query_refusal missing text too_deep unbuilt.items limits given rule ≡ None
 
   -- the first cause for which the node has no query: it is a correlation or no rule, or its rule has none
-  pub data IsRefused (limits : Limits) (given : Option Schema) (t : Tree) (refusal : Refusal) : Type 0 where
-    no_rule : lone_refusal limits t ≡ Some refusal → IsRefused limits given t refusal
-    no_query : (rule : PlainRule) → IsLoneRule limits t rule → query_refusal missing text too_deep limits given rule ≡ Some refusal
-        → IsRefused limits given t refusal
+  pub data IsRefused (unbuilt : Unbuilt) (limits : Limits) (given : Option Schema) (t : Tree) (refusal : Refusal) : Type 0 where
+    no_rule : lone_refusal unbuilt.values limits t ≡ Some refusal → IsRefused unbuilt limits given t refusal
+    no_query : (rule : PlainRule) → IsLoneRule unbuilt.values limits t rule → query_refusal missing text too_deep unbuilt.items limits given rule ≡ Some refusal
+        → IsRefused unbuilt limits given t refusal
 
   -- what converting a node answers; want of memory says nothing
-  abbrev pub ConvertAnswers : Limits → Option Schema → Tree → Result (List ℕ) Fault → Type 0
-  ConvertAnswers limits given t (Ok bytes) = (rule : PlainRule) × IsConverted limits given t rule × (bytes ≡ query_of text given rule)
-  ConvertAnswers limits given t (Err (Refused r)) = IsRefused limits given t r
-  ConvertAnswers limits given t (Err Memory) = ⊤
+  abbrev pub ConvertAnswers : Unbuilt → Limits → Option Schema → Tree → Result (List ℕ) Fault → Type 0
+  ConvertAnswers unbuilt limits given t (Ok bytes) = (rule : PlainRule) × IsConverted unbuilt limits given t rule × (bytes ≡ query_of text given rule)
+  ConvertAnswers unbuilt limits given t (Err (Refused r)) = IsRefused unbuilt limits given t r
+  ConvertAnswers unbuilt limits given t (Err Memory) = ⊤

@@ -1,109 +1,204 @@
 //! Nodes of documents as rules, and rules as queries.
 
-ghost use Rattle.std.specs.Prelude.{◌≡◌, None, option_map};
+ghost use Rattle.std.specs.Prelude.{◌≡◌, ◌∷◌, List, None, option_map};
+ghost use Rattle.backend_core.specs.Sound.{IsSound};
+ghost use Rattle.backend_core.specs.View.{tree_view};
+ghost use Rattle.backend_core.specs.Writing.{write_checks};
+ghost use Rattle.rule_building.specs.ForUnbuilt.{ForItems, ForUnbuilt, is_answered};
+ghost use Rattle.rule_building.specs.Unbuilt.{unbuilt_refusal};
+ghost use Rattle.rule_model.specs.Expressions.{rule_expressions};
 ghost use Rattle.rule_schema.specs.Inferred.{fit_refusal};
 ghost use Rattle.rule_model.specs.Plain.{rule_view};
 ghost use Rattle.rule_model.specs.Whole.{IsWhole};
 ghost use Rattle.rule_queries.specs.Queries.{query_of, query_under, query_refusal, checks_under, query_checks};
+ghost use Rattle.rule_queries.specs.Rebuilt.{Rebuilt};
 ghost use Rattle.rule_queries.specs.Verdicts.{ConvertAnswers, CheckAnswers};
 ghost use Rattle.sig_base.specs.Judged.{Judged, first};
+ghost use Rattle.sig_base.specs.declared.refusal.Place.{Place as PlaceData};
 ghost use Rattle.yaml_tree.specs.View.{node_view};
 
-use backend_core::Backend;
+use backend_core::{Backend, Tree};
 use event_schema::Schema;
+use languages::Builder;
+use rule_building::{build_items, find_unbuilt};
 use rule_lowering::lower;
-use rule_model::Rule;
+use rule_model::{Rule, one_rule};
 use rule_schema::{fit_indexed, fit_schema, infer_schema};
 use sig_base::{Bytes, Fault, Limits, Place};
 use std::alloc::Global;
 use yaml_tree::Node;
 
-/// The query of a rule that fits the schema. In this order it is refused 110, 111, 112 or 113, and 114.
-fn write_rule<B: Backend>(
+/// The query of a rule that fits the schema. In this order it is refused 110, 48 at an item of which
+/// a regular expression isn't built once more, 111, 112 or 113, and 114.
+fn write_rule<B: Backend, C: Builder>(
     backend: &B,
     alloc: Global,
     limits: &Limits,
     rule: &Rule,
     schema: &Schema,
+    builder: &mut C,
 ) -> Result<Bytes, Fault>
     requires whole { IsWhole (rule_view rule.now) }
     requires fits { fit_refusal schema.now (rule_view rule.now) ≡ None }
-    ensures { Judged (λ bytes. bytes ≡ query_under B.text schema.now (rule_view rule.now)) (first (query_checks B.missing B.text B.too_deep limits.now schema.now (rule_view rule.now))) result }
+    ensures { Rebuilt (rule_expressions (rule_view rule.now)) (C.refused builder.old) (C.refused builder.new) (λ unbuilt. Judged (λ bytes. bytes ≡ query_under B.text schema.now (rule_view rule.now)) (first (query_checks B.missing B.text B.too_deep unbuilt limits.now schema.now (rule_view rule.now))) result) }
 {
-    let tree = lower(alloc, limits, rule, schema)?;
-    backend.write(alloc, limits, schema, &tree, rule.head.place)
+    match lower(alloc, limits, rule, schema) {
+        Ok(tree) => write_built(backend, alloc, limits, rule, schema, &tree, builder),
+        Err(fault) => Err(fault),
+    }
 }
 
-/// The query of a rule under a schema. In this order it is refused 81, 82 or 83, 110, 111, 112 or 113, and 114.
-fn convert_under<B: Backend>(
+/// The query of a rule's tree, where each regular expression of the rule is built once more: 48 at the first item of which one isn't, and
+/// then as the backend refuses the tree.
+fn write_built<B: Backend, C: Builder>(
     backend: &B,
     alloc: Global,
     limits: &Limits,
     rule: &Rule,
     schema: &Schema,
+    tree: &Tree,
+    builder: &mut C,
 ) -> Result<Bytes, Fault>
-    requires { IsWhole (rule_view rule.now) }
-    ensures { Judged (λ bytes. bytes ≡ query_under B.text schema.now (rule_view rule.now)) (first (checks_under B.missing B.text B.too_deep limits.now schema.now (rule_view rule.now))) result }
+    requires sound { IsSound schema.now.fields (tree_view tree.now) }
+    ensures { Rebuilt (rule_expressions (rule_view rule.now)) (C.refused builder.old) (C.refused builder.new) (λ unbuilt.
+        Judged (λ bytes. bytes ≡ B.text schema.now (tree_view tree.now)) (first (unbuilt_refusal unbuilt (rule_expressions (rule_view rule.now))
+        ∷ write_checks B.missing B.text B.too_deep limits.now schema.now (tree_view tree.now) (rule_view rule.now).head.place)) result) }
 {
-    match fit_schema(rule, schema) {
-        Err(unfit) => Err(Fault::Refused(unfit)),
-        Ok(()) => write_rule(backend, alloc, limits, rule, schema),
+    match build_items(alloc, rule, builder) {
+        Ok(()) => backend.write(alloc, limits, schema, tree, rule.head.place),
+        Err(fault) => Err(fault),
     }
 }
 
-/// The query of a rule under the schema that is made of it. In this order it is refused 80, 82 or 83, 110, 111, 112 or 113, and 114.
-fn convert_made<B: Backend>(
+/// The query of a rule under a schema. In this order it is refused 81, 82 or 83, 110, 48, 111, 112 or 113, and 114.
+fn convert_under<B: Backend, C: Builder>(
     backend: &B,
     alloc: Global,
     limits: &Limits,
     rule: &Rule,
+    schema: &Schema,
+    builder: &mut C,
 ) -> Result<Bytes, Fault>
     requires { IsWhole (rule_view rule.now) }
-    ensures { Judged (λ bytes. bytes ≡ query_of B.text None (rule_view rule.now)) (query_refusal B.missing B.text B.too_deep limits.now None (rule_view rule.now)) result }
+    ensures { Rebuilt (rule_expressions (rule_view rule.now)) (C.refused builder.old) (C.refused builder.new) (λ unbuilt. Judged (λ bytes. bytes ≡ query_under B.text schema.now (rule_view rule.now)) (first (checks_under B.missing B.text B.too_deep unbuilt limits.now schema.now (rule_view rule.now))) result) }
 {
-    let schema = infer_schema(alloc, rule)?;
+    match fit_schema(rule, schema) {
+        Err(unfit) => Err(Fault::Refused(unfit)),
+        Ok(()) => write_rule(backend, alloc, limits, rule, schema, builder),
+    }
+}
+
+/// The query of a rule under the schema that is made of it. In this order it is refused 80, 82 or 83, 110, 48, 111, 112 or 113, and 114.
+fn convert_made<B: Backend, C: Builder>(
+    backend: &B,
+    alloc: Global,
+    limits: &Limits,
+    rule: &Rule,
+    builder: &mut C,
+) -> Result<Bytes, Fault>
+    requires { IsWhole (rule_view rule.now) }
+    ensures { Rebuilt (rule_expressions (rule_view rule.now)) (C.refused builder.old) (C.refused builder.new) (λ unbuilt. Judged (λ bytes. bytes ≡ query_of B.text None (rule_view rule.now)) (query_refusal B.missing B.text B.too_deep unbuilt limits.now None (rule_view rule.now)) result) }
+{
+    let schema = match infer_schema(alloc, rule) {
+        Ok(schema) => schema,
+        Err(fault) => return Err(fault),
+    };
     match fit_indexed(alloc, rule, &schema) {
         Err(unfit) => Err(unfit),
-        Ok(()) => write_rule(backend, alloc, limits, rule, &schema),
+        Ok(()) => write_rule(backend, alloc, limits, rule, &schema, builder),
     }
 }
 
 /// The query of a rule under the given schema, or else the one that is made of it.
-fn convert_rule<B: Backend>(
+fn convert_rule<B: Backend, C: Builder>(
     backend: &B,
     alloc: Global,
     limits: &Limits,
     rule: &Rule,
     given: Option<&Schema>,
+    builder: &mut C,
 ) -> Result<Bytes, Fault>
     requires { IsWhole (rule_view rule.now) }
-    ensures { Judged (λ bytes. bytes ≡ query_of B.text (option_map (λ s. s.now) given.entry) (rule_view rule.now)) (query_refusal B.missing B.text B.too_deep limits.now (option_map (λ s. s.now) given.entry) (rule_view rule.now)) result }
+    ensures { Rebuilt (rule_expressions (rule_view rule.now)) (C.refused builder.old) (C.refused builder.new) (λ unbuilt. Judged (λ bytes. bytes ≡ query_of B.text (option_map (λ s. s.now) given.entry) (rule_view rule.now)) (query_refusal B.missing B.text B.too_deep unbuilt limits.now (option_map (λ s. s.now) given.entry) (rule_view rule.now)) result) }
 {
     match given {
-        Some(schema) => convert_under(backend, alloc, limits, rule, schema),
-        None => convert_made(backend, alloc, limits, rule),
+        Some(schema) => convert_under(backend, alloc, limits, rule, schema, builder),
+        None => convert_made(backend, alloc, limits, rule, builder),
     }
 }
 
 /// The query of the rule that a node is, under the given schema or else the one that is made of the rule. What is refused is
-/// refused as `Rule::read_lone` says, and then 80 (where no schema is given), 81, 82 or 83, 110, 111, 112 or 113, and 114.
-pub fn convert_node<B: Backend>(
+/// refused as `Rule::read_lone` says, and then 80 (where no schema is given), 81, 82 or 83, 110, 48, 111, 112 or 113, and 114.
+pub fn convert_node<B: Backend, C: Builder>(
     backend: &B,
     alloc: Global,
     limits: &Limits,
     given: Option<&Schema>,
     node: &Node,
+    builder: &mut C,
 ) -> Result<Bytes, Fault>
-    ensures { ConvertAnswers B.missing B.text B.too_deep limits.now (option_map (λ s. s.now) given.entry) (node_view node.now) result }
+    ensures { ForUnbuilt limits.now (node_view node.now) (C.refused builder.old) (C.refused builder.new) (is_answered result)
+        (λ unbuilt. ConvertAnswers B.missing B.text B.too_deep unbuilt limits.now (option_map (λ s. s.now) given.entry) (node_view node.now) result) }
 {
-    let rule = Rule::read_lone(alloc, limits, node)?;
-    convert_rule(backend, alloc, limits, &rule, given)
+    match find_unbuilt(alloc, limits, node, builder) {
+        Ok(unbuilt) => convert_read(
+            backend,
+            alloc,
+            limits,
+            given,
+            unbuilt.as_slice(),
+            node,
+            builder,
+        ),
+        Err(fault) => Err(fault),
+    }
+}
+
+/// The same, where the places are found at which the regular expressions of values aren't built.
+fn convert_read<B: Backend, C: Builder>(
+    backend: &B,
+    alloc: Global,
+    limits: &Limits,
+    given: Option<&Schema>,
+    unbuilt: &[Place],
+    node: &Node,
+    builder: &mut C,
+) -> Result<Bytes, Fault>
+    ensures { ForItems (node_view node.now) unbuilt.now (C.refused builder.old) (C.refused builder.new)
+        (λ places. ConvertAnswers B.missing B.text B.too_deep places limits.now (option_map (λ s. s.now) given.entry) (node_view node.now) result) }
+{
+    one_rule();
+    match Rule::read_lone(alloc, limits, unbuilt, node) {
+        Ok(rule) => convert_rule(backend, alloc, limits, &rule, given, builder),
+        Err(fault) => Err(fault),
+    }
 }
 
 /// The place of the rule that a node is, refused as `Rule::read` says.
-pub fn check_node(alloc: Global, limits: &Limits, node: &Node) -> Result<Place, Fault>
-    ensures { CheckAnswers limits.now (node_view node.now) result }
+pub fn check_node<C: Builder>(
+    alloc: Global,
+    limits: &Limits,
+    node: &Node,
+    builder: &mut C,
+) -> Result<Place, Fault>
+    ensures { ForUnbuilt limits.now (node_view node.now) (C.refused builder.old) (C.refused builder.new) (is_answered result)
+        (λ unbuilt. CheckAnswers unbuilt limits.now (node_view node.now) result) }
 {
-    let rule = Rule::read_bare(alloc, limits, node)?;
+    match find_unbuilt(alloc, limits, node, builder) {
+        Ok(unbuilt) => check_read(alloc, limits, unbuilt.as_slice(), node),
+        Err(fault) => Err(fault),
+    }
+}
+
+/// The same, where the places are found at which the regular expressions of values aren't built.
+fn check_read(
+    alloc: Global,
+    limits: &Limits,
+    unbuilt: &[Place],
+    node: &Node,
+) -> Result<Place, Fault>
+    ensures { (items : List PlaceData) → CheckAnswers (record { values = unbuilt.now; items = items }) limits.now (node_view node.now) result }
+{
+    let rule = Rule::read_bare(alloc, limits, unbuilt, node)?;
     Ok(rule.head.place)
 }

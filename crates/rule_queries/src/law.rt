@@ -3,6 +3,7 @@
 ghost use Rattle.std.specs.Prelude.{◌≡◌, Option, None, IfSome};
 ghost use Rattle.event_schema.specs.Schemas.{IsSchema};
 ghost use Rattle.event_schema.specs.declared.schema.Schema.{Schema};
+ghost use Rattle.rule_building.specs.Unbuilt.{Unbuilt};
 ghost use Rattle.rule_model.specs.Plain.{PlainRule};
 ghost use Rattle.rule_model.specs.Rules.{rule_refusal};
 ghost use Rattle.rule_queries.specs.Queries.{query_of, Converts};
@@ -15,8 +16,8 @@ use backend_core::Backend;
 
 /// A node that isn't refused is a rule, and one rule only.
 pub fn one_verdict()
-    ensures each { (limits : Limits) (t : Tree) → rule_refusal limits t ≡ None → (rule : PlainRule) × IsChecked limits t rule }
-    ensures one { (limits : Limits) (t : Tree) (a b : PlainRule) → IsChecked limits t a → IsChecked limits t b → a ≡ b }
+    ensures each { (unbuilt : Unbuilt) (limits : Limits) (t : Tree) → rule_refusal unbuilt.values limits t ≡ None → (rule : PlainRule) × IsChecked unbuilt limits t rule }
+    ensures one { (u v : Unbuilt) (limits : Limits) (t : Tree) (a b : PlainRule) → IsChecked u limits t a → IsChecked v limits t b → a ≡ b }
 {
     rule_model::rule_or_refusal();
     rule_model::one_rule();
@@ -24,8 +25,8 @@ pub fn one_verdict()
 
 /// The query of each rule that has one means the rule.
 pub fn queries_mean_rules<B: Backend>()
-    ensures { (limits : Limits) (given : Option Schema) (t : Tree) (rule : PlainRule) → IfSome given IsSchema → HasScalarTexts t
-        → IsConverted B.missing B.text B.too_deep limits given t rule
+    ensures { (unbuilt : Unbuilt) (limits : Limits) (given : Option Schema) (t : Tree) (rule : PlainRule) → IfSome given IsSchema → HasScalarTexts t
+        → IsConverted B.missing B.text B.too_deep unbuilt limits given t rule
         → Converts B.Lang.is_query B.Lang.is_within B.Lang.picks limits given rule (query_of B.text given rule) }
 {
     rule_model::rules_are_whole();

@@ -3,6 +3,8 @@
 ghost use Rattle.std.specs.Prelude.{Option, IfSome, option_map};
 ghost use Rattle.event_schema.specs.Schemas.{IsSchema};
 ghost use Rattle.event_schema.specs.declared.schema.Schema.{Schema as SchemaData};
+ghost use Rattle.rule_building.specs.ForUnbuilt.{ForUnbuilt, is_answered};
+ghost use Rattle.rule_building.specs.Unbuilt.{Unbuilt};
 ghost use Rattle.rule_model.specs.Plain.{PlainRule};
 ghost use Rattle.rule_queries.specs.NamedQueries.{query_of, Converts, IsConverted, ConvertAnswers};
 ghost use Rattle.rule_queries.specs.declared.backend_name.BackendName.{BackendName as NameData};
@@ -14,6 +16,7 @@ ghost use Rattle.yaml_tree.specs.View.{node_view};
 use crate::backend_name::BackendName;
 use crate::{converting, law};
 use event_schema::Schema;
+use languages::Builder;
 use lucene_writer::LuceneText;
 use sig_base::{Bytes, Fault, Limits};
 use sqlite_writer::Sqlite;
@@ -21,25 +24,36 @@ use std::alloc::Global;
 use yaml_tree::Node;
 
 /// The query of the rule that a node is in the language of the backend, refused as `convert_node` says.
-pub fn convert_node(
+pub fn convert_node<C: Builder>(
     backend: BackendName,
     alloc: Global,
     limits: &Limits,
     given: Option<&Schema>,
     node: &Node,
+    builder: &mut C,
 ) -> Result<Bytes, Fault>
-    ensures { ConvertAnswers backend limits.now (option_map (λ s. s.now) given.entry) (node_view node.now) result }
+    ensures { ForUnbuilt limits.now (node_view node.now) (C.refused builder.old) (C.refused builder.new) (is_answered result)
+        (λ unbuilt. ConvertAnswers backend unbuilt limits.now (option_map (λ s. s.now) given.entry) (node_view node.now) result) }
 {
     match backend {
-        BackendName::Sqlite => converting::convert_node(&Sqlite, alloc, limits, given, node),
-        BackendName::Lucene => converting::convert_node(&LuceneText, alloc, limits, given, node),
+        BackendName::Sqlite => converting::convert_node(
+            &Sqlite, alloc, limits, given, node, builder,
+        ),
+        BackendName::Lucene => converting::convert_node(
+            &LuceneText,
+            alloc,
+            limits,
+            given,
+            node,
+            builder,
+        ),
     }
 }
 
 /// The query of each rule that has one means the rule, whichever the backend.
 pub fn queries_mean_rules()
-    ensures { (backend : NameData) (limits : LimitsData) (given : Option SchemaData) (t : Tree) (rule : PlainRule) → IfSome given IsSchema
-        → HasScalarTexts t → IsConverted backend limits given t rule → Converts backend limits given rule (query_of backend given rule) }
+    ensures { (backend : NameData) (unbuilt : Unbuilt) (limits : LimitsData) (given : Option SchemaData) (t : Tree) (rule : PlainRule) → IfSome given IsSchema
+        → HasScalarTexts t → IsConverted backend unbuilt limits given t rule → Converts backend limits given rule (query_of backend given rule) }
 {
     law::queries_mean_rules::<Sqlite>();
     law::queries_mean_rules::<LuceneText>();

@@ -10,6 +10,7 @@ ghost use Rattle.sqlite_writer.specs.Refused.{deep_refusal};
 use crate::{BackendName, convert_node, named, queries_mean_rules};
 use backend_core::{Backend, Lack, Lacking, Leaf, LeafTest, Tree, judge_lacks};
 use event_schema::Schema;
+use languages::CrateBuilder;
 use sig_base::{Bytes, Detail, Fault, Limits, Place, Text};
 use sql_queries::Sql;
 use sqlite_writer::Sqlite;
@@ -30,7 +31,8 @@ impl Lacking for Valueless {
             LeafTest::Fits { .. }
             | LeafTest::Equals(_)
             | LeafTest::Compare { .. }
-            | LeafTest::SameAs(_) => Sqlite.lacks(schema, leaf),
+            | LeafTest::SameAs(_)
+            | LeafTest::Finds(_) => Sqlite.lacks(schema, leaf),
         }
     }
 }
@@ -95,8 +97,8 @@ fn detection(alloc: Global, image: Node) -> Result<Node, Fail> {
     Ok(Node::map(at(6, 3), entries))
 }
 
-/// The lines `title: a`, `id: ..`, `logsource:` with `category: c` below it, and `detection:` with what is above.
-fn rule(alloc: Global, image: Node) -> Result<Node, Fail> {
+/// The lines `title: a`, `id: ..`, `logsource:` with `category: c` below it, and `detection:` with these entries below it.
+fn whole(alloc: Global, detection: Node) -> Result<Node, Fail> {
     let mut entries = Vec::new(alloc);
     let title = text(alloc, at(2, 8), "a")?;
     entries.push(entry(alloc, "title", at(2, 1), title)?)?;
@@ -104,9 +106,12 @@ fn rule(alloc: Global, image: Node) -> Result<Node, Fail> {
     let source = one(alloc, entry(alloc, "category", at(4, 3), category)?)?;
     let source = Node::map(at(4, 3), source);
     entries.push(entry(alloc, "logsource", at(3, 1), source)?)?;
-    let detection = detection(alloc, image)?;
     entries.push(entry(alloc, "detection", at(5, 1), detection)?)?;
     Ok(Node::map(at(2, 1), entries))
+}
+
+fn rule(alloc: Global, image: Node) -> Result<Node, Fail> {
+    whole(alloc, detection(alloc, image)?)
 }
 
 /// The query, or the place, the number and the detail of the refusal.
@@ -136,30 +141,73 @@ fn shown(alloc: Global, answer: Result<Bytes, Fault>) -> Result<String, Fail> {
 fn each_backend_has_its_own_lacks(rt: HostRuntime) -> Result<(), Fail> {
     let alloc = rt.alloc();
     let limits = Limits::standard();
+    let mut builder = CrateBuilder::new(alloc, Vec::new(alloc));
     let with_text = rule(alloc, text(alloc, at(7, 12), "cmd.exe")?)?;
     let query = "SELECT * FROM \"events\" WHERE \"Image\" = 'cmd.exe' COLLATE NOCASE";
     let answer = shown(
         alloc,
-        named::convert_node(BackendName::Sqlite, alloc, &limits, None, &with_text),
+        named::convert_node(
+            BackendName::Sqlite,
+            alloc,
+            &limits,
+            None,
+            &with_text,
+            &mut builder,
+        ),
     )?;
     assert_eq!(rt; answer.as_str(), query);
     let answer = shown(
         alloc,
-        convert_node(&Valueless, alloc, &limits, None, &with_text),
+        convert_node(&Valueless, alloc, &limits, None, &with_text, &mut builder),
     )?;
     assert_eq!(rt; answer.as_str(), query);
     let with_null = rule(alloc, Node::null(at(7, 12)))?;
     let query = "SELECT * FROM \"events\" WHERE \"Image\" IS NULL";
     let answer = shown(
         alloc,
-        convert_node(&Sqlite, alloc, &limits, None, &with_null),
+        convert_node(&Sqlite, alloc, &limits, None, &with_null, &mut builder),
     )?;
     assert_eq!(rt; answer.as_str(), query);
     let answer = shown(
         alloc,
-        convert_node(&Valueless, alloc, &limits, None, &with_null),
+        convert_node(&Valueless, alloc, &limits, None, &with_null, &mut builder),
     )?;
     assert_eq!(rt; answer.as_str(), "7:5: 111 Many");
+    Ok(())
+}
+
+/// `selection:` with `Image|re: a+` below it.
+fn with_expression(alloc: Global) -> Result<Node, Fail> {
+    let item = entry(alloc, "Image|re", at(7, 5), text(alloc, at(7, 15), "a+")?)?;
+    let selection = Node::map(at(7, 5), one(alloc, item)?);
+    let mut entries = Vec::new(alloc);
+    entries.push(entry(alloc, "selection", at(6, 3), selection)?)?;
+    let condition = text(alloc, at(8, 14), "selection")?;
+    entries.push(entry(alloc, "condition", at(8, 3), condition)?)?;
+    whole(alloc, Node::map(at(6, 3), entries))
+}
+
+/// The answer where the builder fails at these calls.
+fn converted(alloc: Global, failing: &[u64]) -> Result<String, Fail> {
+    let mut calls = Vec::new(alloc);
+    calls.extend_from_slice(failing)?;
+    let mut builder = CrateBuilder::new(alloc, calls);
+    let node = with_expression(alloc)?;
+    let limits = Limits::standard();
+    shown(
+        alloc,
+        convert_node(&Sqlite, alloc, &limits, None, &node, &mut builder),
+    )
+}
+
+#[test]
+fn expressions_are_built_once_more(rt: HostRuntime) -> Result<(), Fail> {
+    let alloc = rt.alloc();
+    let query = "SELECT * FROM \"events\" WHERE \"Image\" REGEXP 'a+'";
+    assert_eq!(rt; converted(alloc, &[])?.as_str(), query);
+    assert_eq!(rt; converted(alloc, &[3])?.as_str(), query);
+    assert_eq!(rt; converted(alloc, &[1])?.as_str(), "7:15: 48");
+    assert_eq!(rt; converted(alloc, &[2])?.as_str(), "7:5: 48");
     Ok(())
 }
 

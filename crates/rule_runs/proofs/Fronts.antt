@@ -1,11 +1,13 @@
 -- A file's first bytes, up to one past the limit, are run as the file is.
-use Rattle.std.proofs.Common.{ℕ, ◌+◌, ◌<◌, List, length, take, subst, arith, Option, inl, inr}
+use Rattle.std.proofs.Common.{ℕ, ◌+◌, ◌<◌, Bool, List, length, take, subst, arith, Option, inl, inr}
 use Rattle.std.proofs.lemmas.Bool.{cases_lt}
 use Rattle.std.proofs.lemmas.List.{take_all, length-take-le}
 use Rattle.event_schema.specs.declared.schema.Schema.{Schema}
+use Rattle.rule_building.specs.Unbuilt.{Unbuilt}
 use Rattle.rule_model.specs.Plain.{PlainRule}
-use Rattle.rule_runs.specs.Runs.{IsSingleRule, IsNoSingleRule, as_one, by_document, IsRun, IsNotRun, no_single, unfit}
+use Rattle.rule_runs.specs.Runs.{IsSingleRule, IsNoSingleRule, as_one, by_document, IsFit, IsUnfit, no_single, unfit, IsRun, IsNotRun, no_fit, not_built, AreOfSingle}
 use Rattle.sig_base.specs.declared.limits.Limits.{Limits}
+use Rattle.sig_base.specs.declared.refusal.Place.{Place}
 use Rattle.sig_base.specs.declared.refusal.Refusal.{Refusal}
 use Rattle.yaml_files.specs.Call.{IsCallRefusal}
 use Rattle.yaml_tree.specs.Tree.{At}
@@ -24,27 +26,41 @@ module _ (limits : Limits) (all : List ℕ) where
     | inr small ↦ subst Q (take_all (limits.file_bytes + 1) all (omega (arith, small))) is
   ]
 
-  single_front : (rule : PlainRule) → IsSingleRule limits front rule → IsSingleRule limits all rule
-  single_front rule = moved (λ bytes. IsSingleRule limits bytes rule) too_large
+  -- no documents are taken of what is too large, so nothing is said of their places
+  pub single_places_front : (refused : List (List ℕ)) (ended : Bool) (unbuilt : Unbuilt) → AreOfSingle limits front refused ended unbuilt → AreOfSingle limits all refused ended unbuilt
+  single_places_front refused ended unbuilt = moved (λ bytes. AreOfSingle limits bytes refused ended unbuilt) too_large
     where
-      too_large : limits.file_bytes < length all → IsSingleRule limits front rule → IsSingleRule limits all rule
+      too_large : limits.file_bytes < length all → AreOfSingle limits front refused ended unbuilt → AreOfSingle limits all refused ended unbuilt
+      too_large large are documents taken top single = let small = taken.within in absurd (omega (arith, large, small))
+
+  single_front : (unbuilt : List Place) (rule : PlainRule) → IsSingleRule unbuilt limits front rule → IsSingleRule unbuilt limits all rule
+  single_front unbuilt rule = moved (λ bytes. IsSingleRule unbuilt limits bytes rule) too_large
+    where
+      too_large : limits.file_bytes < length all → IsSingleRule unbuilt limits front rule → IsSingleRule unbuilt limits all rule
       too_large large single = let small = single.taken.within in absurd (omega (arith, past large, small))
 
-  no_single_front : (r : Refusal) → IsNoSingleRule limits front r → IsNoSingleRule limits all r
-  no_single_front r = moved (λ bytes. IsNoSingleRule limits bytes r) too_large
+  no_single_front : (unbuilt : List Place) (r : Refusal) → IsNoSingleRule unbuilt limits front r → IsNoSingleRule unbuilt limits all r
+  no_single_front unbuilt r = moved (λ bytes. IsNoSingleRule unbuilt limits bytes r) too_large
     where
       refused_too : (p : ℕ × At) → IsCallRefusal limits.file_bytes limits.documents front p → limits.file_bytes < length all → IsCallRefusal limits.file_bytes limits.documents all p
       refused_too p (inl (inl (_, is))) large = inl (inl (large, is))
       refused_too p (inl (inr (small, _, _, _))) large = absurd (omega (arith, past large, small))
       refused_too p (inr (small, _, _, _)) large = absurd (omega (arith, past large, small))
 
-      too_large : limits.file_bytes < length all → IsNoSingleRule limits front r → IsNoSingleRule limits all r
+      too_large : limits.file_bytes < length all → IsNoSingleRule unbuilt limits front r → IsNoSingleRule unbuilt limits all r
       too_large large (as_one p is same) = as_one p (refused_too p is large) same
       too_large large (by_document documents taken none) = let small = taken.within in absurd (omega (arith, past large, small))
 
-  pub run_front : (given : Option Schema) (rule : PlainRule) → IsRun limits given front rule → IsRun limits given all rule
-  run_front given rule run = record { single = single_front rule run.single; fits = run.fits }
+  pub fit_front : (unbuilt : List Place) (given : Option Schema) (rule : PlainRule) → IsFit unbuilt limits given front rule → IsFit unbuilt limits given all rule
+  fit_front unbuilt given rule fit = record { single = single_front unbuilt rule fit.single; fits = fit.fits }
 
-  pub not_run_front : (given : Option Schema) (r : Refusal) → IsNotRun limits given front r → IsNotRun limits given all r
-  not_run_front given r (no_single is) = no_single (no_single_front r is)
-  not_run_front given r (unfit rule single is) = unfit rule (single_front rule single) is
+  pub unfit_front : (unbuilt : List Place) (given : Option Schema) (r : Refusal) → IsUnfit unbuilt limits given front r → IsUnfit unbuilt limits given all r
+  unfit_front unbuilt given r (no_single is) = no_single (no_single_front unbuilt r is)
+  unfit_front unbuilt given r (unfit rule single is) = unfit rule (single_front unbuilt rule single) is
+
+  pub run_front : (unbuilt : Unbuilt) (given : Option Schema) (rule : PlainRule) → IsRun unbuilt limits given front rule → IsRun unbuilt limits given all rule
+  run_front unbuilt given rule run = record { fit = fit_front unbuilt.values given rule run.fit; built = run.built }
+
+  pub not_run_front : (unbuilt : Unbuilt) (given : Option Schema) (r : Refusal) → IsNotRun unbuilt limits given front r → IsNotRun unbuilt limits given all r
+  not_run_front unbuilt given r (no_fit is) = no_fit (unfit_front unbuilt.values given r is)
+  not_run_front unbuilt given r (not_built rule fit is) = not_built rule (fit_front unbuilt.values given rule fit) is

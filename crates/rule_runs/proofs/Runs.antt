@@ -1,71 +1,93 @@
 -- That each file is run as exactly one rule, or isn't run for exactly one cause.
-use Rattle.std.proofs.Common.{◌≡◌, ℕ, List, [], ◌∷◌, refl, ap, sym, ◌∙◌, subst, Option, Some, None, Result, Ok, Err, inl, inr}
+use Rattle.std.proofs.Common.{◌≡◌, ℕ, Bool, true, false, List, [], ◌∷◌, ◌++◌, refl, ap, sym, ◌∙◌, subst, append-nil, Option, Some, None, Result, Ok, Err, inl, inr}
 use Rattle.std.specs.Prelude.{◌⊎◌}
 use Rattle.event_schema.specs.declared.schema.Schema.{Schema}
+use Rattle.rule_building.proofs.Documents.{found_only, found_none}
+use Rattle.rule_building.specs.Building.{FoundUnbuilt}
+use Rattle.rule_building.specs.ForUnbuilt.{ForUnbuilt, is_answered}
+use Rattle.rule_building.specs.Unbuilt.{Unbuilt, AreUnbuilt, unbuilt_refusal}
+use Rattle.rule_model.specs.Expressions.{document_expressions, rule_expressions}
 use Rattle.rule_model.specs.Plain.{PlainRule, rule_view, rule_with}
 use Rattle.rule_model.specs.Rules.{lone_refusal, IsLoneRule, IsRule}
 use Rattle.rule_model.specs.declared.rule.Rule.{Rule}
-use Rattle.rule_runs.specs.Answers.{Answers, IsBare}
+use Rattle.rule_runs.specs.Answers.{Answers, ForDocuments, ForValues, IsBare}
 use Rattle.rule_runs.specs.Files.{yaml_refusal, single_tree}
 use Rattle.rule_runs.specs.Laws.{EachRun}
-use Rattle.rule_runs.specs.Runs.{AreDocuments, IsOnly, IsNoneOnly, no_tree, no_rule, IsSingleRule, IsNoSingleRule, as_one, by_document, IsRun, IsNotRun, no_single, unfit}
+use Rattle.rule_runs.specs.Runs.{AreDocuments, IsOnly, IsNoneOnly, no_tree, no_rule, IsSingleRule, IsNoSingleRule, as_one, by_document, IsFit, IsUnfit, no_single, unfit, IsRun, IsNotRun, no_fit, not_built, AreOfSingle}
 use Rattle.rule_schema.specs.Inferred.{unfit_refusal, schema_refusal, fit_refusal, inferred_schema}
 use Rattle.sig_base.specs.declared.limits.Limits.{Limits}
 use Rattle.sig_base.specs.Judged.{Judged, first}
 use Rattle.sig_base.specs.declared.refusal.Detail.TheVariants as details
 use Rattle.sig_base.specs.declared.refusal.Fault.{Fault}
 use Rattle.sig_base.specs.declared.refusal.Fault.TheVariants.{Memory, Refused}
+use Rattle.sig_base.specs.declared.refusal.Place.{Place}
 use Rattle.sig_base.specs.declared.refusal.Refusal.{Refusal}
+use Rattle.yaml_documents.specs.Given.{answers_view}
 use Rattle.yaml_documents.specs.Verdicts as yaml
 use Rattle.yaml_files.specs.Call.{IsCallRefusal, IsTaken}
 use Rattle.yaml_files.specs.Views.{IfRefused}
 use Rattle.yaml_tree.specs.Tree.{At, Tree, Answer, Member}
+use Rattle.yaml_tree.specs.declared.tree.Document.{Document}
 
 abbrev EachLone : Type 0
-EachLone = (limits : Limits) (t : Tree) → lone_refusal limits t ≡ None → (rule : PlainRule) × IsLoneRule limits t rule
+EachLone = (values : List Place) (limits : Limits) (t : Tree) → lone_refusal values limits t ≡ None → (rule : PlainRule) × IsLoneRule values limits t rule
 
 abbrev OneLone : Type 0
-OneLone = (limits : Limits) (t : Tree) (a b : PlainRule) → IsLoneRule limits t a → IsLoneRule limits t b → a ≡ b
+OneLone = (u v : List Place) (limits : Limits) (t : Tree) (a b : PlainRule) → IsLoneRule u limits t a → IsLoneRule v limits t b → a ≡ b
 
 -- ---- each
 
-each_only : EachLone → (limits : Limits) (documents : List Answer) → ((rule : PlainRule) × IsOnly limits documents rule) ⊎ ((r : Refusal) × IsNoneOnly limits documents r)
-each_only each limits documents = by (single_tree documents) refl
+each_only : EachLone → (values : List Place) (limits : Limits) (documents : List Answer) → ((rule : PlainRule) × IsOnly values limits documents rule) ⊎ ((r : Refusal) × IsNoneOnly values limits documents r)
+each_only each values limits documents = by (single_tree documents) refl
   where
-    judged : (t : Tree) → single_tree documents ≡ Ok t → (o : Option Refusal) → lone_refusal limits t ≡ o
-        → ((rule : PlainRule) × IsOnly limits documents rule) ⊎ ((r : Refusal) × IsNoneOnly limits documents r)
-    judged t single None is = let rule = each limits t is in inl (rule.0, record { top = t; single = single; lone = rule.1 })
+    judged : (t : Tree) → single_tree documents ≡ Ok t → (o : Option Refusal) → lone_refusal values limits t ≡ o
+        → ((rule : PlainRule) × IsOnly values limits documents rule) ⊎ ((r : Refusal) × IsNoneOnly values limits documents r)
+    judged t single None is = let rule = each values limits t is in inl (rule.0, record { top = t; single = single; lone = rule.1 })
     judged t single (Some r) is = inr (r, no_rule t single is)
 
-    by : (result : Result Tree Refusal) → single_tree documents ≡ result → ((rule : PlainRule) × IsOnly limits documents rule) ⊎ ((r : Refusal) × IsNoneOnly limits documents r)
-    by (Ok t) is = judged t is (lone_refusal limits t) refl
+    by : (result : Result Tree Refusal) → single_tree documents ≡ result → ((rule : PlainRule) × IsOnly values limits documents rule) ⊎ ((r : Refusal) × IsNoneOnly values limits documents r)
+    by (Ok t) is = judged t is (lone_refusal values limits t) refl
     by (Err r) is = inr (r, no_tree is)
 
-each_single : EachLone → yaml.EachVerdict → (limits : Limits) (bytes : List ℕ) → ((rule : PlainRule) × IsSingleRule limits bytes rule) ⊎ ((r : Refusal) × IsNoSingleRule limits bytes r)
-each_single each read limits bytes = by (read limits.file_bytes limits.documents limits.yaml_depth bytes)
+each_single : EachLone → yaml.EachVerdict → (values : List Place) (limits : Limits) (bytes : List ℕ) → ((rule : PlainRule) × IsSingleRule values limits bytes rule) ⊎ ((r : Refusal) × IsNoSingleRule values limits bytes r)
+each_single each read values limits bytes = by (read limits.file_bytes limits.documents limits.yaml_depth bytes)
   where
-    judged : (documents : List Answer) → AreDocuments limits bytes documents → ((rule : PlainRule) × IsOnly limits documents rule) ⊎ ((r : Refusal) × IsNoneOnly limits documents r)
-        → ((rule : PlainRule) × IsSingleRule limits bytes rule) ⊎ ((r : Refusal) × IsNoSingleRule limits bytes r)
+    judged : (documents : List Answer) → AreDocuments limits bytes documents → ((rule : PlainRule) × IsOnly values limits documents rule) ⊎ ((r : Refusal) × IsNoneOnly values limits documents r)
+        → ((rule : PlainRule) × IsSingleRule values limits bytes rule) ⊎ ((r : Refusal) × IsNoSingleRule values limits bytes r)
     judged documents taken (inl (rule, only)) = inl (rule, record { documents = documents; taken = taken; only = only })
     judged documents taken (inr (r, none)) = inr (r, by_document documents taken none)
 
     by : ((given : List Answer) × IsTaken limits.file_bytes limits.documents limits.yaml_depth bytes given) ⊎ ((p : ℕ × At) × IsCallRefusal limits.file_bytes limits.documents bytes p)
-        → ((rule : PlainRule) × IsSingleRule limits bytes rule) ⊎ ((r : Refusal) × IsNoSingleRule limits bytes r)
-    by (inl (documents, taken)) = judged documents taken (each_only each limits documents)
+        → ((rule : PlainRule) × IsSingleRule values limits bytes rule) ⊎ ((r : Refusal) × IsNoSingleRule values limits bytes r)
+    by (inl (documents, taken)) = judged documents taken (each_only each values limits documents)
     by (inr (p, is)) = inr (yaml_refusal p, as_one p is refl)
 
-pub each_run : EachLone → yaml.EachVerdict → EachRun
-each_run each read limits given bytes = by (each_single each read limits bytes)
+each_fit : EachLone → yaml.EachVerdict → (values : List Place) (limits : Limits) (given : Option Schema) (bytes : List ℕ)
+    → ((rule : PlainRule) × IsFit values limits given bytes rule) ⊎ ((r : Refusal) × IsUnfit values limits given bytes r)
+each_fit each read values limits given bytes = by (each_single each read values limits bytes)
   where
-    fitted : (rule : PlainRule) → IsSingleRule limits bytes rule → (o : Option Refusal) → unfit_refusal given rule ≡ o
-        → ((rule : PlainRule) × IsRun limits given bytes rule) ⊎ ((r : Refusal) × IsNotRun limits given bytes r)
+    fitted : (rule : PlainRule) → IsSingleRule values limits bytes rule → (o : Option Refusal) → unfit_refusal given rule ≡ o
+        → ((rule : PlainRule) × IsFit values limits given bytes rule) ⊎ ((r : Refusal) × IsUnfit values limits given bytes r)
     fitted rule single None is = inl (rule, record { single = single; fits = is })
     fitted rule single (Some r) is = inr (r, unfit rule single is)
 
-    by : ((rule : PlainRule) × IsSingleRule limits bytes rule) ⊎ ((r : Refusal) × IsNoSingleRule limits bytes r)
-        → ((rule : PlainRule) × IsRun limits given bytes rule) ⊎ ((r : Refusal) × IsNotRun limits given bytes r)
+    by : ((rule : PlainRule) × IsSingleRule values limits bytes rule) ⊎ ((r : Refusal) × IsNoSingleRule values limits bytes r)
+        → ((rule : PlainRule) × IsFit values limits given bytes rule) ⊎ ((r : Refusal) × IsUnfit values limits given bytes r)
     by (inl (rule, single)) = fitted rule single (unfit_refusal given rule) refl
     by (inr (r, is)) = inr (r, no_single is)
+
+pub each_run : EachLone → yaml.EachVerdict → EachRun
+each_run each read unbuilt limits given bytes = by (each_fit each read unbuilt.values limits given bytes)
+  where
+    built : (rule : PlainRule) → IsFit unbuilt.values limits given bytes rule → (o : Option Refusal) → unbuilt_refusal unbuilt.items (rule_expressions rule) ≡ o
+        → ((rule : PlainRule) × IsRun unbuilt limits given bytes rule) ⊎ ((r : Refusal) × IsNotRun unbuilt limits given bytes r)
+    built rule fit None is = inl (rule, record { fit = fit; built = is })
+    built rule fit (Some r) is = inr (r, not_built rule fit is)
+
+    by : ((rule : PlainRule) × IsFit unbuilt.values limits given bytes rule) ⊎ ((r : Refusal) × IsUnfit unbuilt.values limits given bytes r)
+        → ((rule : PlainRule) × IsRun unbuilt limits given bytes rule) ⊎ ((r : Refusal) × IsNotRun unbuilt limits given bytes r)
+    by (inl (rule, fit)) = built rule fit (unbuilt_refusal unbuilt.items (rule_expressions rule)) refl
+    by (inr (r, is)) = inr (r, no_fit is)
 
 -- ---- one
 
@@ -106,58 +128,78 @@ not_none o r none some = apart (sym none ∙ some)
     apart same = cc
 
 module _ (one : OneLone) (limits : Limits) where
-  moved : (documents : List Answer) (a b : Tree) → single_tree documents ≡ Ok a → single_tree documents ≡ Ok b → (rule : PlainRule) → IsLoneRule limits b rule → IsLoneRule limits a rule
-  moved documents a b first second rule lone = subst (λ (t : Tree). IsLoneRule limits t rule) (ok_is (single_tree documents) b a second first) lone
+  moved : (values : List Place) (documents : List Answer) (a b : Tree) → single_tree documents ≡ Ok a → single_tree documents ≡ Ok b → (rule : PlainRule)
+      → IsLoneRule values limits b rule → IsLoneRule values limits a rule
+  moved values documents a b first second rule lone = subst (λ (t : Tree). IsLoneRule values limits t rule) (ok_is (single_tree documents) b a second first) lone
 
-  one_only : (documents : List Answer) (a b : PlainRule) → IsOnly limits documents a → IsOnly limits documents b → a ≡ b
-  one_only documents a b first second = one limits first.top a b first.lone (moved documents first.top second.top first.single second.single b second.lone)
+  one_only : (u v : List Place) (documents : List Answer) (a b : PlainRule) → IsOnly u limits documents a → IsOnly v limits documents b → a ≡ b
+  one_only u v documents a b first second = one u v limits first.top a b first.lone (moved v documents first.top second.top first.single second.single b second.lone)
 
-  only_never : (documents : List Answer) (rule : PlainRule) (r : Refusal) → IsOnly limits documents rule → IsNoneOnly limits documents r → ⊥
-  only_never documents rule r only (no_tree is) = not_both (single_tree documents) only.top r only.single is
-  only_never documents rule r only (no_rule top single is) =
-      not_none (lone_refusal limits top) r (ap (lone_refusal limits) (ok_is (single_tree documents) top only.top single only.single) ∙ only.lone.taken) is
+  module _ (values : List Place) where
+    only_never : (documents : List Answer) (rule : PlainRule) (r : Refusal) → IsOnly values limits documents rule → IsNoneOnly values limits documents r → ⊥
+    only_never documents rule r only (no_tree is) = not_both (single_tree documents) only.top r only.single is
+    only_never documents rule r only (no_rule top single is) =
+        not_none (lone_refusal values limits top) r (ap (lone_refusal values limits) (ok_is (single_tree documents) top only.top single only.single) ∙ only.lone.taken) is
 
-  none_one : (documents : List Answer) (a b : Refusal) → IsNoneOnly limits documents a → IsNoneOnly limits documents b → a ≡ b
-  none_one documents a b (no_tree is) (no_tree too) = err_is (single_tree documents) a b is too
-  none_one documents a b (no_tree is) (no_rule top single too) = absurd (not_both (single_tree documents) top a single is)
-  none_one documents a b (no_rule top single is) (no_tree too) = absurd (not_both (single_tree documents) top b single too)
-  none_one documents a b (no_rule top single is) (no_rule other other_single too) =
-      some_is (lone_refusal limits top) a b is (ap (lone_refusal limits) (ok_is (single_tree documents) top other single other_single) ∙ too)
+    none_one : (documents : List Answer) (a b : Refusal) → IsNoneOnly values limits documents a → IsNoneOnly values limits documents b → a ≡ b
+    none_one documents a b (no_tree is) (no_tree too) = err_is (single_tree documents) a b is too
+    none_one documents a b (no_tree is) (no_rule top single too) = absurd (not_both (single_tree documents) top a single is)
+    none_one documents a b (no_rule top single is) (no_tree too) = absurd (not_both (single_tree documents) top b single too)
+    none_one documents a b (no_rule top single is) (no_rule other other_single too) =
+        some_is (lone_refusal values limits top) a b is (ap (lone_refusal values limits) (ok_is (single_tree documents) top other single other_single) ∙ too)
 
   module _ (never : yaml.NeverBoth) (list : yaml.OneList) (cause : yaml.OneRefusal) (bytes : List ℕ) where
     same_documents : (a b : List Answer) → AreDocuments limits bytes a → AreDocuments limits bytes b → a ≡ b
     same_documents a b first second = list limits.file_bytes limits.documents limits.yaml_depth bytes a b first second
 
-    pub one_single : (a b : PlainRule) → IsSingleRule limits bytes a → IsSingleRule limits bytes b → a ≡ b
-    one_single a b first second =
-        one_only first.documents a b first.only
-        (subst (λ (ds : List Answer). IsOnly limits ds b) (same_documents second.documents first.documents second.taken first.taken) second.only)
+    pub one_single : (u v : List Place) (a b : PlainRule) → IsSingleRule u limits bytes a → IsSingleRule v limits bytes b → a ≡ b
+    one_single u v a b first second =
+        one_only u v first.documents a b first.only
+        (subst (λ (ds : List Answer). IsOnly v limits ds b) (same_documents second.documents first.documents second.taken first.taken) second.only)
 
-    single_never : (rule : PlainRule) (r : Refusal) → IsSingleRule limits bytes rule → IsNoSingleRule limits bytes r → ⊥
-    single_never rule r single (as_one p is same) = never limits.file_bytes limits.documents limits.yaml_depth bytes single.documents p single.taken is
-    single_never rule r single (by_document documents taken none) =
-        only_never single.documents rule r single.only
-        (subst (λ (ds : List Answer). IsNoneOnly limits ds r) (same_documents documents single.documents taken single.taken) none)
+    module _ (values : List Place) where
+      single_never : (rule : PlainRule) (r : Refusal) → IsSingleRule values limits bytes rule → IsNoSingleRule values limits bytes r → ⊥
+      single_never rule r single (as_one p is same) = never limits.file_bytes limits.documents limits.yaml_depth bytes single.documents p single.taken is
+      single_never rule r single (by_document documents taken none) =
+          only_never values single.documents rule r single.only
+          (subst (λ (ds : List Answer). IsNoneOnly values limits ds r) (same_documents documents single.documents taken single.taken) none)
 
-    single_cause : (a b : Refusal) → IsNoSingleRule limits bytes a → IsNoSingleRule limits bytes b → a ≡ b
-    single_cause a b (as_one p is same) (as_one q too same_too) = same ∙ (ap yaml_refusal (cause limits.file_bytes limits.documents bytes p q is too) ∙ sym same_too)
-    single_cause a b (as_one p is same) (by_document documents taken none) = absurd (never limits.file_bytes limits.documents limits.yaml_depth bytes documents p taken is)
-    single_cause a b (by_document documents taken none) (as_one p is same) = absurd (never limits.file_bytes limits.documents limits.yaml_depth bytes documents p taken is)
-    single_cause a b (by_document documents taken none) (by_document others others_taken none_too) =
-        none_one documents a b none (subst (λ (ds : List Answer). IsNoneOnly limits ds b) (same_documents others documents others_taken taken) none_too)
+      single_cause : (a b : Refusal) → IsNoSingleRule values limits bytes a → IsNoSingleRule values limits bytes b → a ≡ b
+      single_cause a b (as_one p is same) (as_one q too same_too) = same ∙ (ap yaml_refusal (cause limits.file_bytes limits.documents bytes p q is too) ∙ sym same_too)
+      single_cause a b (as_one p is same) (by_document documents taken none) = absurd (never limits.file_bytes limits.documents limits.yaml_depth bytes documents p taken is)
+      single_cause a b (by_document documents taken none) (as_one p is same) = absurd (never limits.file_bytes limits.documents limits.yaml_depth bytes documents p taken is)
+      single_cause a b (by_document documents taken none) (by_document others others_taken none_too) =
+          none_one values documents a b none (subst (λ (ds : List Answer). IsNoneOnly values limits ds b) (same_documents others documents others_taken taken) none_too)
 
-    module _ (given : Option Schema) where
-      pub run_never : (rule : PlainRule) (r : Refusal) → IsRun limits given bytes rule → IsNotRun limits given bytes r → ⊥
-      run_never rule r run (no_single is) = single_never rule r run.single is
-      run_never rule r run (unfit other single is) =
-          not_none (unfit_refusal given other) r (ap (unfit_refusal given) (one_single other rule single run.single) ∙ run.fits) is
+      module _ (given : Option Schema) where
+        fit_never : (rule : PlainRule) (r : Refusal) → IsFit values limits given bytes rule → IsUnfit values limits given bytes r → ⊥
+        fit_never rule r fit (no_single is) = single_never rule r fit.single is
+        fit_never rule r fit (unfit other single is) =
+            not_none (unfit_refusal given other) r (ap (unfit_refusal given) (one_single values values other rule single fit.single) ∙ fit.fits) is
 
-      pub run_cause : (a b : Refusal) → IsNotRun limits given bytes a → IsNotRun limits given bytes b → a ≡ b
-      run_cause a b (no_single is) (no_single too) = single_cause a b is too
-      run_cause a b (no_single is) (unfit rule single too) = absurd (single_never rule a single is)
-      run_cause a b (unfit rule single is) (no_single too) = absurd (single_never rule b single too)
-      run_cause a b (unfit rule single is) (unfit other other_single too) =
-          some_is (unfit_refusal given rule) a b is (ap (unfit_refusal given) (one_single rule other single other_single) ∙ too)
+        unfit_cause : (a b : Refusal) → IsUnfit values limits given bytes a → IsUnfit values limits given bytes b → a ≡ b
+        unfit_cause a b (no_single is) (no_single too) = single_cause a b is too
+        unfit_cause a b (no_single is) (unfit rule single too) = absurd (single_never rule a single is)
+        unfit_cause a b (unfit rule single is) (no_single too) = absurd (single_never rule b single too)
+        unfit_cause a b (unfit rule single is) (unfit other other_single too) =
+            some_is (unfit_refusal given rule) a b is (ap (unfit_refusal given) (one_single values values rule other single other_single) ∙ too)
+
+    module _ (unbuilt : Unbuilt) (given : Option Schema) where
+      abbrev line : PlainRule → Option Refusal
+      line rule = unbuilt_refusal unbuilt.items (rule_expressions rule)
+
+      one_fit : (a b : PlainRule) → IsFit unbuilt.values limits given bytes a → IsFit unbuilt.values limits given bytes b → a ≡ b
+      one_fit a b first second = one_single unbuilt.values unbuilt.values a b first.single second.single
+
+      pub run_never : (rule : PlainRule) (r : Refusal) → IsRun unbuilt limits given bytes rule → IsNotRun unbuilt limits given bytes r → ⊥
+      run_never rule r run (no_fit is) = fit_never unbuilt.values given rule r run.fit is
+      run_never rule r run (not_built other fit is) = not_none (line other) r (ap line (one_fit other rule fit run.fit) ∙ run.built) is
+
+      pub run_cause : (a b : Refusal) → IsNotRun unbuilt limits given bytes a → IsNotRun unbuilt limits given bytes b → a ≡ b
+      run_cause a b (no_fit is) (no_fit too) = unfit_cause unbuilt.values given a b is too
+      run_cause a b (no_fit is) (not_built rule fit too) = absurd (fit_never unbuilt.values given rule a fit is)
+      run_cause a b (not_built rule fit is) (no_fit too) = absurd (fit_never unbuilt.values given rule b fit too)
+      run_cause a b (not_built rule fit is) (not_built other other_fit too) = some_is (line rule) a b is (ap line (one_fit rule other fit other_fit) ∙ too)
 
 -- ---- what the readers answer
 
@@ -165,32 +207,32 @@ no_detail : (r : Refusal) → r.detail ≡ details.None → r ≡ yaml_refusal (
 no_detail r plain = ap (λ d. record { code = r.code; place = r.place; detail = d }) plain
 
 -- a rule that is read of the one tree, or its refusal
-pub only_answers : (limits : Limits) (documents : List Answer) (t : Tree) (rest : List Member) (result : Result Rule Fault) → single_tree documents ≡ Ok t
-    → Judged (λ r. IsRule t (rule_with rest (rule_view r))) (lone_refusal limits t) result → Answers (IsBare (IsOnly limits documents)) (IsNoneOnly limits documents) result
-only_answers limits documents t rest (Ok rule) single judged = (rest, record { top = t; single = single; lone = record { taken = judged.0; is = judged.1 } })
-only_answers limits documents t rest (Err Memory) single judged = tt
-only_answers limits documents t rest (Err (Refused r)) single judged = no_rule t single judged
+pub only_answers : (values : List Place) (limits : Limits) (documents : List Answer) (t : Tree) (rest : List Member) (result : Result Rule Fault) → single_tree documents ≡ Ok t
+    → Judged (λ r. IsRule t (rule_with rest (rule_view r))) (lone_refusal values limits t) result → Answers (IsBare (IsOnly values limits documents)) (IsNoneOnly values limits documents) result
+only_answers values limits documents t rest (Ok rule) single judged = (rest, record { top = t; single = single; lone = record { taken = judged.0; is = judged.1 } })
+only_answers values limits documents t rest (Err Memory) single judged = tt
+only_answers values limits documents t rest (Err (Refused r)) single judged = no_rule t single judged
 
 -- what is said of the documents, said of the file
-pub documents_answer : (limits : Limits) (bytes : List ℕ) (documents : List Answer) (result : Result Rule Fault) → AreDocuments limits bytes documents
-    → Answers (IsBare (IsOnly limits documents)) (IsNoneOnly limits documents) result → Answers (IsBare (IsSingleRule limits bytes)) (IsNoSingleRule limits bytes) result
-documents_answer limits bytes documents (Ok rule) taken (rest, only) = (rest, record { documents = documents; taken = taken; only = only })
-documents_answer limits bytes documents (Err Memory) taken answers = tt
-documents_answer limits bytes documents (Err (Refused r)) taken none = by_document documents taken none
+pub documents_answer : (values : List Place) (limits : Limits) (bytes : List ℕ) (documents : List Answer) (result : Result Rule Fault) → AreDocuments limits bytes documents
+    → Answers (IsBare (IsOnly values limits documents)) (IsNoneOnly values limits documents) result → Answers (IsBare (IsSingleRule values limits bytes)) (IsNoSingleRule values limits bytes) result
+documents_answer values limits bytes documents (Ok rule) taken (rest, only) = (rest, record { documents = documents; taken = taken; only = only })
+documents_answer values limits bytes documents (Err Memory) taken answers = tt
+documents_answer values limits bytes documents (Err (Refused r)) taken none = by_document documents taken none
 
 -- the file is refused as a whole
-pub file_answers : (limits : Limits) (bytes : List ℕ) (fault : Fault) → IfRefused fault (IsCallRefusal limits.file_bytes limits.documents bytes)
-    → Answers {X = Rule} (IsBare (IsSingleRule limits bytes)) (IsNoSingleRule limits bytes) (Err fault)
-file_answers limits bytes Memory is = tt
-file_answers limits bytes (Refused r) (plain, is) = as_one (r.code, record { line = r.place.line; column = r.place.column }) is (no_detail r plain)
+pub file_answers : (values : List Place) (limits : Limits) (bytes : List ℕ) (fault : Fault) → IfRefused fault (IsCallRefusal limits.file_bytes limits.documents bytes)
+    → Answers {X = Rule} (IsBare (IsSingleRule values limits bytes)) (IsNoSingleRule values limits bytes) (Err fault)
+file_answers values limits bytes Memory is = tt
+file_answers values limits bytes (Refused r) (plain, is) = as_one (r.code, record { line = r.place.line; column = r.place.column }) is (no_detail r plain)
 
 -- ---- the file as a rule, and whether it fits
 
--- what is no single rule isn't run
-pub isnt_single : {X Y : Type 0} (limits : Limits) (given : Option Schema) (bytes : List ℕ) (P : X → Type 0) (Q : Y → Type 0) (fault : Fault)
-    → Answers {X = X} P (IsNoSingleRule limits bytes) (Err fault) → Answers {X = Y} Q (IsNotRun limits given bytes) (Err fault)
-isnt_single limits given bytes P Q Memory answers = tt
-isnt_single limits given bytes P Q (Refused r) answers = no_single answers
+-- what is no single rule is none that fits
+pub isnt_single : {X Y : Type 0} (values : List Place) (limits : Limits) (given : Option Schema) (bytes : List ℕ) (P : X → Type 0) (Q : Y → Type 0) (fault : Fault)
+    → Answers {X = X} P (IsNoSingleRule values limits bytes) (Err fault) → Answers {X = Y} Q (IsUnfit values limits given bytes) (Err fault)
+isnt_single values limits given bytes P Q Memory answers = tt
+isnt_single values limits given bytes P Q (Refused r) answers = no_single answers
 
 first_is : (a b : Option Refusal) (r : Refusal) → a ≡ Some r → first (a ∷ b ∷ []) ≡ Some r
 first_is a b r is = rw is refl
@@ -199,23 +241,23 @@ second_is : (a b : Option Refusal) (r : Refusal) → a ≡ None → b ≡ Some r
 second_is a b r none is = rw (none, is) refl
 
 -- no schema is made of the rule
-pub isnt_made : {X Y : Type 0} (limits : Limits) (bytes : List ℕ) (rule : Rule) (P : X → Type 0) (Q : Y → Type 0) (fault : Fault) → IsBare (IsSingleRule limits bytes) rule
-    → Judged {X = X} P (schema_refusal (rule_view rule)) (Err fault) → Answers {X = Y} Q (IsNotRun limits None bytes) (Err fault)
-isnt_made limits bytes rule P Q Memory single judged = tt
-isnt_made limits bytes rule P Q (Refused r) (rest, single) is =
+pub isnt_made : {X Y : Type 0} (values : List Place) (limits : Limits) (bytes : List ℕ) (rule : Rule) (P : X → Type 0) (Q : Y → Type 0) (fault : Fault) → IsBare (IsSingleRule values limits bytes) rule
+    → Judged {X = X} P (schema_refusal (rule_view rule)) (Err fault) → Answers {X = Y} Q (IsUnfit values limits None bytes) (Err fault)
+isnt_made values limits bytes rule P Q Memory single judged = tt
+isnt_made values limits bytes rule P Q (Refused r) (rest, single) is =
     unfit (rule_with rest (rule_view rule)) single (first_is (schema_refusal (rule_view rule)) (fit_refusal (inferred_schema (rule_view rule)) (rule_view rule)) r is)
 
 -- the rule doesn't fit the given schema
-pub isnt_fit : (limits : Limits) (schema : Schema) (bytes : List ℕ) (rule : Rule) (r : Refusal) → IsBare (IsSingleRule limits bytes) rule → fit_refusal schema (rule_view rule) ≡ Some r
-    → IsNotRun limits (Some schema) bytes r
-isnt_fit limits schema bytes rule r (rest, single) is = unfit (rule_with rest (rule_view rule)) single (second_is None (fit_refusal schema (rule_view rule)) r refl is)
+pub isnt_fit : (values : List Place) (limits : Limits) (schema : Schema) (bytes : List ℕ) (rule : Rule) (r : Refusal) → IsBare (IsSingleRule values limits bytes) rule → fit_refusal schema (rule_view rule) ≡ Some r
+    → IsUnfit values limits (Some schema) bytes r
+isnt_fit values limits schema bytes rule r (rest, single) is = unfit (rule_with rest (rule_view rule)) single (second_is None (fit_refusal schema (rule_view rule)) r refl is)
 
 -- the same of the schema that is made of it
-pub isnt_fit_alone : {Y : Type 0} (limits : Limits) (bytes : List ℕ) (rule : Rule) (schema : Schema) (Q : Y → Type 0) (fault : Fault)
-    → IsBare (IsSingleRule limits bytes) rule → (schema_refusal (rule_view rule) ≡ None) × (schema ≡ inferred_schema (rule_view rule))
-    → Judged {X = Unit {0}} (λ done. Unit {0}) (fit_refusal schema (rule_view rule)) (Err fault) → Answers {X = Y} Q (IsNotRun limits None bytes) (Err fault)
-isnt_fit_alone limits bytes rule schema Q Memory single made judged = tt
-isnt_fit_alone limits bytes rule schema Q (Refused r) (rest, single) made is =
+pub isnt_fit_alone : {Y : Type 0} (values : List Place) (limits : Limits) (bytes : List ℕ) (rule : Rule) (schema : Schema) (Q : Y → Type 0) (fault : Fault)
+    → IsBare (IsSingleRule values limits bytes) rule → (schema_refusal (rule_view rule) ≡ None) × (schema ≡ inferred_schema (rule_view rule))
+    → Judged {X = Unit {0}} (λ done. Unit {0}) (fit_refusal schema (rule_view rule)) (Err fault) → Answers {X = Y} Q (IsUnfit values limits None bytes) (Err fault)
+isnt_fit_alone values limits bytes rule schema Q Memory single made judged = tt
+isnt_fit_alone values limits bytes rule schema Q (Refused r) (rest, single) made is =
     unfit (rule_with rest (rule_view rule)) single
     (second_is (schema_refusal (rule_view rule)) (fit_refusal (inferred_schema (rule_view rule)) (rule_view rule)) r made.0
     (subst (λ (s : Schema). fit_refusal s (rule_view rule) ≡ Some r) made.1 is))
@@ -224,10 +266,10 @@ neither_is : (a b : Option Refusal) → a ≡ None → b ≡ None → first (a �
 neither_is a b none also = rw (none, also) refl
 
 -- the rule fits the schema that is made of it
-pub fits_alone : (limits : Limits) (bytes : List ℕ) (rule : Rule) (schema : Schema)
-    → IsBare (IsSingleRule limits bytes) rule → (schema_refusal (rule_view rule) ≡ None) × (schema ≡ inferred_schema (rule_view rule))
-    → fit_refusal schema (rule_view rule) ≡ None → IsBare (IsRun limits None bytes) rule
-fits_alone limits bytes rule schema (rest, single) made fits = (
+pub fits_alone : (values : List Place) (limits : Limits) (bytes : List ℕ) (rule : Rule) (schema : Schema)
+    → IsBare (IsSingleRule values limits bytes) rule → (schema_refusal (rule_view rule) ≡ None) × (schema ≡ inferred_schema (rule_view rule))
+    → fit_refusal schema (rule_view rule) ≡ None → IsBare (IsFit values limits None bytes) rule
+fits_alone values limits bytes rule schema (rest, single) made fits = (
   rest,
   record {
     single = single;
@@ -235,3 +277,145 @@ fits_alone limits bytes rule schema (rest, single) made fits = (
         (subst (λ (s : Schema). fit_refusal s (rule_view rule) ≡ None) made.1 fits);
   },
 )
+
+-- ---- for places of values
+
+-- a document's places are those of the one tree
+pub of_documents : (limits : Limits) (documents : List Answer) (t : Tree) (rest : List Member) (before after : List (List ℕ)) (result : Result Rule Fault) → single_tree documents ≡ Ok t
+    → ForUnbuilt limits t before after (is_answered result) (λ unbuilt. Judged (λ r. IsRule t (rule_with rest (rule_view r))) (lone_refusal unbuilt.values limits t) result)
+    → ForDocuments limits documents before after (is_answered result) (λ values. Answers (IsBare (IsOnly values limits documents)) (IsNoneOnly values limits documents) result)
+of_documents limits documents t rest before after result single h = record {
+  values = h.unbuilt.values;
+  gained = h.gained;
+  follows = h.follows;
+  are = λ top is. subst (λ (x : Tree). AreUnbuilt limits x h.gained (is_answered result) (record { values = h.unbuilt.values; items = [] })) (ok_is (single_tree documents) t top single is)
+      (record { values = h.are.values; items = λ rule is_rule. tt; ill = h.are.ill });
+  says = only_answers h.unbuilt.values limits documents t rest result single h.says;
+}
+
+-- there is no tree
+pub of_no_tree : (limits : Limits) (documents : List Answer) (texts : List (List ℕ)) (r : Refusal) → single_tree documents ≡ Err r
+    → ForDocuments limits documents texts texts true (λ values. Answers {X = Rule} (IsBare (IsOnly values limits documents)) (IsNoneOnly values limits documents) (Err (Refused r)))
+of_no_tree limits documents texts r none = record {
+  values = [];
+  gained = [];
+  follows = sym (append-nil texts);
+  are = λ top is. absurd (not_both (single_tree documents) top r is none);
+  says = no_tree none;
+}
+
+module _ (limits : Limits) (bytes : List ℕ) where
+  -- the documents of a file are these alone
+  pub of_file : yaml.OneList → (documents : List Answer) (before after : List (List ℕ)) (result : Result Rule Fault) → AreDocuments limits bytes documents
+      → ForDocuments limits documents before after (is_answered result) (λ values. Answers (IsBare (IsOnly values limits documents)) (IsNoneOnly values limits documents) result)
+      → ForValues limits bytes before after (is_answered result) (λ values. Answers (IsBare (IsSingleRule values limits bytes)) (IsNoSingleRule values limits bytes) result)
+  of_file list documents before after result taken h = record {
+    values = h.values;
+    gained = h.gained;
+    follows = h.follows;
+    are = λ others others_taken top is.
+        h.are top (subst (λ (ds : List Answer). single_tree ds ≡ Ok top) (list limits.file_bytes limits.documents limits.yaml_depth bytes others documents others_taken taken) is);
+    says = documents_answer h.values limits bytes documents result taken h.says;
+  }
+
+  -- a file that is refused as a whole has no documents
+  pub of_no_file : yaml.NeverBoth → (texts : List (List ℕ)) (fault : Fault) → IfRefused fault (IsCallRefusal limits.file_bytes limits.documents bytes)
+      → ForValues limits bytes texts texts (is_answered {X = Rule} (Err fault)) (λ values. Answers {X = Rule} (IsBare (IsSingleRule values limits bytes)) (IsNoSingleRule values limits bytes) (Err fault))
+  of_no_file never texts Memory is = record {
+    values = [];
+    gained = [];
+    follows = sym (append-nil texts);
+    are = λ documents taken top single. record { values = tt; items = λ rule is_rule. tt; ill = λ e. absurd (cc) };
+    says = tt;
+  }
+  of_no_file never texts (Refused r) is = record {
+    values = [];
+    gained = [];
+    follows = sym (append-nil texts);
+    are = λ documents taken top single. absurd (never limits.file_bytes limits.documents limits.yaml_depth bytes documents _ taken is.1);
+    says = file_answers [] limits bytes (Refused r) is;
+  }
+
+-- a document whose values' places are found is read
+pub node_read : (limits : Limits) (t : Tree) (rest : List Member) (values slice : List Place) (before after : List (List ℕ)) (result : Result Rule Fault)
+    → FoundUnbuilt (document_expressions limits t) before after (Ok values) → slice ≡ values
+    → Judged (λ r. IsRule t (rule_with rest (rule_view r))) (lone_refusal slice limits t) result
+    → ForUnbuilt limits t before after (is_answered result) (λ unbuilt. Judged (λ r. IsRule t (rule_with rest (rule_view r))) (lone_refusal unbuilt.values limits t) result)
+node_read limits t rest values slice before after result found same judged =
+    found_only limits t values before after (is_answered result) (λ unbuilt. Judged (λ r. IsRule t (rule_with rest (rule_view r))) (lone_refusal unbuilt.values limits t) result) found
+    (subst (λ (places : List Place). Judged (λ r. IsRule t (rule_with rest (rule_view r))) (lone_refusal places limits t) result) same judged)
+
+-- they aren't found, for want of memory
+pub node_unread : (limits : Limits) (t : Tree) (rest : List Member) (before after : List (List ℕ)) (fault : Fault)
+    → FoundUnbuilt (document_expressions limits t) before after (Err fault)
+    → ForUnbuilt limits t before after (is_answered {X = Rule} (Err fault)) (λ unbuilt. Judged {X = Rule} (λ r. IsRule t (rule_with rest (rule_view r))) (lone_refusal unbuilt.values limits t) (Err fault))
+node_unread limits t rest before after fault found =
+    found_none limits t {X = Rule} before after (λ unbuilt result. Judged (λ r. IsRule t (rule_with rest (rule_view r))) (lone_refusal unbuilt.values limits t) result) fault found (λ unbuilt. tt)
+
+module _ (limits : Limits) (bytes : List ℕ) (before after : List (List ℕ)) where
+  -- the documents as a slice
+  pub of_slice : yaml.OneList → (items slice : List Document) (result : Result Rule Fault) → slice ≡ items → AreDocuments limits bytes (answers_view items)
+      → ForDocuments limits (answers_view slice) before after (is_answered result)
+      (λ values. Answers (IsBare (IsOnly values limits (answers_view slice))) (IsNoneOnly values limits (answers_view slice)) result)
+      → ForValues limits bytes before after (is_answered result) (λ values. Answers (IsBare (IsSingleRule values limits bytes)) (IsNoSingleRule values limits bytes) result)
+  of_slice list items slice result same taken h =
+      of_file limits bytes list (answers_view items) before after result taken
+      (subst (λ (ds : List Document). ForDocuments limits (answers_view ds) before after (is_answered result)
+      (λ values. Answers (IsBare (IsOnly values limits (answers_view ds))) (IsNoneOnly values limits (answers_view ds)) result)) same h)
+
+  -- what is said for such places, of the same places
+  with_values : (ended : Bool) (P Q : List Place → Type 0) → ((values : List Place) → P values → Q values)
+      → ForValues limits bytes before after ended P → ForValues limits bytes before after ended Q
+  with_values ended P Q f h = record { values = h.values; gained = h.gained; follows = h.follows; are = h.are; says = f h.values h.says }
+
+  -- no rule was read, so there is none that fits
+  pub unfit_single : {X Y : Type 0} (given : Option Schema) (IsX : List Place → X → Type 0) (IsY : List Place → Y → Type 0) (fault : Fault)
+      → ForValues limits bytes before after (is_answered {X = X} (Err fault)) (λ values. Answers {X = X} (IsX values) (IsNoSingleRule values limits bytes) (Err fault))
+      → ForValues limits bytes before after (is_answered {X = Y} (Err fault)) (λ values. Answers {X = Y} (IsY values) (IsUnfit values limits given bytes) (Err fault))
+  unfit_single {X} {Y} given IsX IsY Memory h = with_values false (λ values. Unit {0}) (λ values. Unit {0}) (λ values a. tt) h
+  unfit_single {X} {Y} given IsX IsY (Refused r) h =
+      with_values true (λ values. IsNoSingleRule values limits bytes r) (λ values. IsUnfit values limits given bytes r) (λ values a. no_single a) h
+
+  module _ (rule : Rule) (read : ForValues limits bytes before after true (λ values. IsBare (IsSingleRule values limits bytes) rule)) where
+    -- the rule doesn't fit the given schema, or it does
+    pub unfit_given : (schema : Schema) (r : Refusal) → fit_refusal schema (rule_view rule) ≡ Some r → ForValues limits bytes before after true (λ values. IsUnfit values limits (Some schema) bytes r)
+    unfit_given schema r is =
+        with_values true (λ values. IsBare (IsSingleRule values limits bytes) rule) (λ values. IsUnfit values limits (Some schema) bytes r) (λ values a. isnt_fit values limits schema bytes rule r a is) read
+
+    pub fits_given : (schema : Schema) → fit_refusal schema (rule_view rule) ≡ None → ForValues limits bytes before after true (λ values. IsBare (IsFit values limits (Some schema) bytes) rule)
+    fits_given schema is =
+        with_values true (λ values. IsBare (IsSingleRule values limits bytes) rule) (λ values. IsBare (IsFit values limits (Some schema) bytes) rule)
+        (λ values a. (a.0, record { single = a.1; fits = neither_is None (fit_refusal schema (rule_view rule)) refl is })) read
+
+    -- want of memory says nothing
+    unended : (P : List Place → Type 0) → ((values : List Place) → P values) → ForValues limits bytes before after false P
+    unended P all = record {
+      values = read.values;
+      gained = read.gained;
+      follows = read.follows;
+      are = λ documents taken top single. let are = read.are documents taken top single in record { values = are.values; items = are.items; ill = λ e. absurd (cc) };
+      says = all read.values;
+    }
+
+    -- no schema is made of it
+    pub unmade : {X Y : Type 0} (P : X → Type 0) (Q : List Place → Y → Type 0) (fault : Fault) → Judged {X = X} P (schema_refusal (rule_view rule)) (Err fault)
+        → ForValues limits bytes before after (is_answered {X = Y} (Err fault)) (λ values. Answers {X = Y} (Q values) (IsUnfit values limits None bytes) (Err fault))
+    unmade {X} {Y} P Q Memory judged = unended (λ values. Unit {0}) (λ values. tt)
+    unmade {X} {Y} P Q (Refused r) judged =
+        with_values true (λ values. IsBare (IsSingleRule values limits bytes) rule) (λ values. IsUnfit values limits None bytes r)
+        (λ values a. isnt_made values limits bytes rule P (Q values) (Refused r) a judged) read
+
+    -- it doesn't fit the schema that is made of it, or it does
+    pub unfit_made : {Y : Type 0} (schema : Schema) (Q : List Place → Y → Type 0) (fault : Fault) → (schema_refusal (rule_view rule) ≡ None) × (schema ≡ inferred_schema (rule_view rule))
+        → Judged {X = Unit {0}} (λ done. Unit {0}) (fit_refusal schema (rule_view rule)) (Err fault)
+        → ForValues limits bytes before after (is_answered {X = Y} (Err fault)) (λ values. Answers {X = Y} (Q values) (IsUnfit values limits None bytes) (Err fault))
+    unfit_made {Y} schema Q Memory made judged = unended (λ values. Unit {0}) (λ values. tt)
+    unfit_made {Y} schema Q (Refused r) made judged =
+        with_values true (λ values. IsBare (IsSingleRule values limits bytes) rule) (λ values. IsUnfit values limits None bytes r)
+        (λ values a. isnt_fit_alone values limits bytes rule schema (Q values) (Refused r) a made judged) read
+
+    pub fits_made : (schema : Schema) → (schema_refusal (rule_view rule) ≡ None) × (schema ≡ inferred_schema (rule_view rule)) → fit_refusal schema (rule_view rule) ≡ None
+        → ForValues limits bytes before after true (λ values. IsBare (IsFit values limits None bytes) rule × (schema ≡ inferred_schema (rule_view rule)))
+    fits_made schema made fits =
+        with_values true (λ values. IsBare (IsSingleRule values limits bytes) rule) (λ values. IsBare (IsFit values limits None bytes) rule × (schema ≡ inferred_schema (rule_view rule)))
+        (λ values a. (fits_alone values limits bytes rule schema a made fits, made.1)) read

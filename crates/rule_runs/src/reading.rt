@@ -1,35 +1,73 @@
 //! Reading the one rule of a file.
 
 ghost use Rattle.std.specs.List.{All};
-ghost use Rattle.rule_runs.specs.Answers.{Answers, IsBare};
+ghost use Rattle.rule_building.specs.ForUnbuilt.{ForUnbuilt, is_answered};
+ghost use Rattle.rule_head.specs.Heads.{rest_of};
+ghost use Rattle.rule_model.specs.Plain.{rule_view, rule_with};
+ghost use Rattle.rule_model.specs.Rules.{IsRule, lone_refusal};
+ghost use Rattle.rule_runs.specs.Answers.{Answers, ForDocuments, ForValues, IsBare};
 ghost use Rattle.rule_runs.specs.Runs.{IsOnly, IsNoneOnly, IsSingleRule, IsNoSingleRule};
+ghost use Rattle.sig_base.specs.Judged.{Judged};
 ghost use Rattle.yaml_documents.specs.Given.{IsPlain, answers_view};
+ghost use Rattle.yaml_tree.specs.View.{node_view};
 
 use crate::single::single_node;
+use languages::Builder;
+use rule_building::find_unbuilt;
 use rule_model::Rule;
 use sig_base::{Fault, Limits};
 use std::alloc::Global;
 use yaml_documents::read_documents;
-use yaml_tree::Document;
+use yaml_tree::{Document, Node};
+
+/// Reads the rule that a document is, whose regular expressions are built first.
+fn read_node<B: Builder>(
+    alloc: Global,
+    limits: &Limits,
+    node: &Node,
+    builder: &mut B,
+) -> Result<Rule, Fault>
+    ensures { ForUnbuilt limits.now (node_view node.now) (B.refused builder.old) (B.refused builder.new) (is_answered result)
+        (λ unbuilt. Judged (λ r. IsRule (node_view node.now) (rule_with (rest_of (node_view node.now)) (rule_view r))) (lone_refusal unbuilt.values limits.now (node_view node.now)) result) }
+{
+    match find_unbuilt(alloc, limits, node, builder) {
+        Ok(unbuilt) => Rule::read_lone(alloc, limits, unbuilt.as_slice(), node),
+        Err(fault) => Err(fault),
+    }
+}
 
 /// Reads the rule that these documents are.
-fn read_only(alloc: Global, limits: &Limits, documents: &[Document]) -> Result<Rule, Fault>
+fn read_only<B: Builder>(
+    alloc: Global,
+    limits: &Limits,
+    documents: &[Document],
+    builder: &mut B,
+) -> Result<Rule, Fault>
     requires { All IsPlain documents.now }
-    ensures { Answers (IsBare (IsOnly limits.now (answers_view documents.now))) (IsNoneOnly limits.now (answers_view documents.now)) result }
+    ensures { ForDocuments limits.now (answers_view documents.now) (B.refused builder.old) (B.refused builder.new) (is_answered result)
+        (λ values. Answers (IsBare (IsOnly values limits.now (answers_view documents.now))) (IsNoneOnly values limits.now (answers_view documents.now)) result) }
 {
     match single_node(documents) {
-        Ok(node) => Rule::read_lone(alloc, limits, node),
+        Ok(node) => read_node(alloc, limits, node, builder),
         Err(refusal) => Err(Fault::Refused(refusal)),
     }
 }
 
 /// Reads the rule that a file is. It's refused 2, 1 or 7 as a whole, 84 where it hasn't exactly one document, or else as its document is:
 /// by YAML, 146 as a correlation, or as a rule.
-pub(crate) fn read_single_rule(alloc: Global, limits: &Limits, bytes: &[u8]) -> Result<Rule, Fault>
-    ensures { Answers (IsBare (IsSingleRule limits.now bytes.now)) (IsNoSingleRule limits.now bytes.now) result }
+pub(crate) fn read_single_rule<B: Builder>(
+    alloc: Global,
+    limits: &Limits,
+    bytes: &[u8],
+    builder: &mut B,
+) -> Result<Rule, Fault>
+    ensures { ForValues limits.now bytes.now (B.refused builder.old) (B.refused builder.new) (is_answered result)
+        (λ values. Answers (IsBare (IsSingleRule values limits.now bytes.now)) (IsNoSingleRule values limits.now bytes.now) result) }
 {
+    yaml_documents::laws::verdicts();
+    yaml_documents::laws::one_verdict();
     match read_documents(alloc, limits, bytes) {
-        Ok(documents) => read_only(alloc, limits, documents.as_slice()),
+        Ok(documents) => read_only(alloc, limits, documents.as_slice(), builder),
         Err(fault) => Err(fault),
     }
 }

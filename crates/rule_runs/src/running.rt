@@ -2,12 +2,14 @@
 
 ghost use Rattle.std.specs.Prelude.{◌≡◌, None, Some};
 ghost use Rattle.rule_model.specs.Plain.{rule_view};
-ghost use Rattle.rule_runs.specs.Answers.{Answers, IsBare};
-ghost use Rattle.rule_runs.specs.Runs.{IsRun, IsNotRun};
+ghost use Rattle.rule_building.specs.ForUnbuilt.{is_answered};
+ghost use Rattle.rule_runs.specs.Answers.{Answers, ForValues, IsBare};
+ghost use Rattle.rule_runs.specs.Runs.{IsFit, IsUnfit};
 ghost use Rattle.rule_schema.specs.Inferred.{inferred_schema};
 
 use crate::reading::read_single_rule;
 use event_schema::Schema;
+use languages::Builder;
 use rule_model::Rule;
 use rule_schema::{fit_indexed, fit_schema, infer_schema};
 use sig_base::{Fault, Limits};
@@ -21,16 +23,18 @@ pub struct SchemedRule {
 }
 
 /// The rule that a file is run as under a schema. In this order it's refused 2, 1, 7, 84, by YAML, 146, as a rule, and 81,
-/// 82 or 83.
-pub fn rule_under(
+/// 82 or 83. (48 at an item comes where the rule is made ready.)
+pub fn rule_under<B: Builder>(
     alloc: Global,
     limits: &Limits,
     schema: &Schema,
     bytes: &[u8],
+    builder: &mut B,
 ) -> Result<Rule, Fault>
-    ensures { Answers (IsBare (IsRun limits.now (Some schema.now) bytes.now)) (IsNotRun limits.now (Some schema.now) bytes.now) result }
+    ensures { ForValues limits.now bytes.now (B.refused builder.old) (B.refused builder.new) (is_answered result)
+        (λ values. Answers (IsBare (IsFit values limits.now (Some schema.now) bytes.now)) (IsUnfit values limits.now (Some schema.now) bytes.now) result) }
 {
-    let rule = match read_single_rule(alloc, limits, bytes) {
+    let rule = match read_single_rule(alloc, limits, bytes, builder) {
         Ok(rule) => rule,
         Err(fault) => return Err(fault),
     };
@@ -42,10 +46,16 @@ pub fn rule_under(
 
 /// The rule that a file is run as, with the schema that is made of it. In this order it's refused 2, 1, 7, 84, by YAML, 146, as a
 /// rule, 80, 82 and 83.
-pub fn rule_alone(alloc: Global, limits: &Limits, bytes: &[u8]) -> Result<SchemedRule, Fault>
-    ensures { Answers (λ found. IsBare (IsRun limits.now None bytes.now) found.rule × (found.schema ≡ inferred_schema (rule_view found.rule))) (IsNotRun limits.now None bytes.now) result }
+pub fn rule_alone<B: Builder>(
+    alloc: Global,
+    limits: &Limits,
+    bytes: &[u8],
+    builder: &mut B,
+) -> Result<SchemedRule, Fault>
+    ensures { ForValues limits.now bytes.now (B.refused builder.old) (B.refused builder.new) (is_answered result)
+        (λ values. Answers (λ found. IsBare (IsFit values limits.now None bytes.now) found.rule × (found.schema ≡ inferred_schema (rule_view found.rule))) (IsUnfit values limits.now None bytes.now) result) }
 {
-    let rule = match read_single_rule(alloc, limits, bytes) {
+    let rule = match read_single_rule(alloc, limits, bytes, builder) {
         Ok(rule) => rule,
         Err(fault) => return Err(fault),
     };

@@ -13,6 +13,7 @@ value_first (tests.Fits pattern cased ∷ value) values = value_first value valu
 value_first (tests.Equals n ∷ value) values = value_first value values
 value_first (tests.Inside n ∷ value) values = value_first value values
 value_first (tests.Compare op n ∷ value) values = value_first value values
+value_first (tests.Finds text flags ∷ value) values = value_first value values
 value_first (tests.SameAs name ∷ value) values = ap (λ (names : List (List ℕ)). name ∷ names) (value_first value values)
 
 pub names_compared : (values : List (List Test)) → references_in values ≡ values_names values

@@ -13,9 +13,9 @@ use Rattle.event_schema.specs.Rows.{field_number}
 use Rattle.event_schema.specs.declared.schema.Field.{Field}
 use Rattle.event_schema.specs.declared.schema.FieldKind.{FieldKind}
 use Rattle.event_schema.specs.declared.schema.FieldKind.TheVariants as kinds
-use Rattle.sig_modifiers.specs.References.{reference_of, references_in}
+use Rattle.sig_modifiers.specs.References.{reference_of, references_in, listed}
 use Rattle.sig_modifiers.specs.declared.test.Test.{Test}
-use Rattle.rule_schema.specs.Compared.{named_if_any, test_names, values_names}
+use Rattle.rule_schema.specs.Compared.{test_names, values_names}
 use Rattle.rule_schema.specs.Inferred.{is_field}
 use Rattle.rule_schema.specs.Kinds.{asks_of, is_whole, is_address, is_field_of, are_alike, are_of_kinds}
 use Rattle.rule_schema.specs.Looked.{kind_in, seen_of, seen_kind, nothing_seen, both, suits}
@@ -134,10 +134,10 @@ one_seen fields name s = ap (both s) (seen_one fields name)
 
 pub some_named : (fields : List Field) (test : Test) (name : List ℕ) (s : Seen) → reference_of test ≡ Some name
     → both s (seen_of fields (name ∷ [])) ≡ both s (seen_of fields (test_names test))
-some_named fields test name s e = ap (λ (o : Option (List ℕ)). both s (seen_of fields (named_if_any o))) (sym e)
+some_named fields test name s e = ap (λ (o : Option (List ℕ)). both s (seen_of fields (listed o))) (sym e)
 
 pub none_named : (fields : List Field) (test : Test) (s : Seen) → reference_of test ≡ None → s ≡ both s (seen_of fields (test_names test))
-none_named fields test s e = sym (both_nothing s) ∙ ap (λ (o : Option (List ℕ)). both s (seen_of fields (named_if_any o))) (sym e)
+none_named fields test s e = sym (both_nothing s) ∙ ap (λ (o : Option (List ℕ)). both s (seen_of fields (listed o))) (sym e)
 
 pub next_seen : {X : Type 0} (f : X → List (List ℕ)) (fields : List Field) (xs : List X) (i : ℕ) (x : X) (s new whole : Seen) → x ≡ get_or xs i x → i < length xs
     → new ≡ both s (seen_of fields (f x)) → both s (seen_of fields (flat_map f (drop i xs))) ≡ whole → both new (seen_of fields (flat_map f (drop (i + 1) xs))) ≡ whole

@@ -63,6 +63,7 @@ reference_legal (tests.Equals n) p = tt
 reference_legal (tests.Inside n) p = tt
 reference_legal (tests.Compare op n) p = tt
 reference_legal (tests.SameAs name) p = (p, tt)
+reference_legal (tests.Finds text flags) p = tt
 
 value_legal : (value : List Test) → ArePlainTests value → EachOf IsName (value_names value)
 value_legal [] each = tt

@@ -20,6 +20,7 @@ asks_whole (tests.Equals n) = false
 asks_whole (tests.Inside n) = false
 asks_whole (tests.Compare op n) = true
 asks_whole (tests.SameAs name) = false
+asks_whole (tests.Finds text flags) = false
 
 -- a test that stands on fields of addresses alone
 abbrev pub asks_address : Test → Bool
@@ -30,6 +31,7 @@ asks_address (tests.Equals n) = false
 asks_address (tests.Inside n) = true
 asks_address (tests.Compare op n) = false
 asks_address (tests.SameAs name) = false
+asks_address (tests.Finds text flags) = false
 
 -- what is asked of a field: that it's one of whole numbers, that it's one of addresses
 pub record Asks : Type 0 where

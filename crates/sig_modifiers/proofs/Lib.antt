@@ -1,3 +1,4 @@
+mod FormLemmas
 mod Inside
 pub mod PatternLemmas
 mod Same

@@ -1,4 +1,4 @@
--- Tests of keywords are patterns; patterns of texts of scalar values are plain.
+-- Tests of keywords are patterns and regular expressions; patterns of texts of scalar values are plain.
 use Rattle.std.proofs.Common.{ℕ, zero, suc, ◌≡◌, ◌/◌, ◌%◌, ◌<◌, ℤ, pos, negsuc, Bool, true, false, ◌==◌, nat_lt, if◌then◌else◌, List, [], ◌∷◌, map as list_map, refl, sym, ap, ◌∙◌, subst, arith}
 use Rattle.std.specs.Prelude.{Option, None, not, nat_le, length, Result, Ok, Err, IfOk, IfErr}
 use Rattle.std.specs.List.{list_any}
@@ -7,11 +7,12 @@ use Rattle.std.specs.Str.{all_scalars}
 use Rattle.std.proofs.lemmas.Bool.{and_from}
 use Rattle.std.proofs.lemmas.Bool.Decides.{nat_tests}
 use Rattle.event_schema.specs.Lists.{EachOf}
-use Rattle.modifier_chains.specs.Chains.{form_of}
+use Rattle.modifier_chains.specs.Chains.{form_of, keyword_form, is_expression_chain, flags_of}
 use Rattle.modifier_chains.specs.Kinds.{is_cased}
 use Rattle.modifier_chains.specs.Written.{Written}
 use Rattle.modifier_chains.specs.declared.form.ChainForm.{ChainForm}
-use Rattle.modifier_chains.specs.declared.form.ChainForm.TheVariants.{Bare, Presence, Networks, Orders, Reference, Texts}
+use Rattle.modifier_chains.specs.declared.form.ChainForm.TheVariants.{Bare, Presence, Networks, Orders, Reference, Expressions, Texts}
+use Rattle.modifier_chains.specs.declared.form.Flags.{Flags}
 use Rattle.sig_base.specs.Texts.{is_ascii}
 use Rattle.sig_base.specs.declared.refusal.Place.{Place}
 use Rattle.sig_base.specs.declared.refusal.Refusal.{Refusal}
@@ -23,9 +24,10 @@ use Rattle.sig_encode.specs.Networks.{Net, IsNetwork}
 use Rattle.sig_strings.specs.declared.part.Part.{Part}
 use Rattle.value_patterns.specs.Parts.{has_nul}
 use Rattle.value_patterns.specs.PlainPatterns.{IsDashedPattern}
-use Rattle.value_patterns.specs.Uses.{Use, unused, absent, existing, pattern, network, number, ordered, reference, use_refusal, ArePatterns}
+use Rattle.value_patterns.specs.Uses.{Use, unused, absent, existing, pattern, network, number, ordered, reference, expression, use_refusal, ArePatterns}
 use Rattle.value_patterns.proofs.JudgedLemmas.{ordered_taken, reference_taken}
 use Rattle.value_patterns.proofs.Numbers.{whole_holds}
+use Rattle.value_patterns.proofs.Plain.{expression_taken}
 use Rattle.yaml_tree.specs.Nodes.{place_of}
 use Rattle.yaml_tree.specs.Texts.{IsScalarText, HasScalarTexts}
 use Rattle.yaml_tree.specs.Tree.{Scalar, null, truth, whole, text, Tree, scalar, list, map}
@@ -48,12 +50,26 @@ text_patterns chain (scalar at (text t)) ts h = subst (EachOf IsPatternTest) (sy
 text_patterns chain (list at parts) ts h = absurd h
 text_patterns chain (map at parts) ts h = absurd h
 
-keyword_form : (chain : Written) → chain.keyword ≡ true → form_of chain ≡ Texts false
-keyword_form chain h = rw h refl
+expression_patterns : (chain : Written) (flags : Flags) (value : Tree) (ts : List Test) → UseTests chain (form_use (Expressions flags) value) ts → EachOf IsPatternTest ts
+expression_patterns chain flags (scalar at null) ts h = absurd h
+expression_patterns chain flags (scalar at (truth b)) ts h = absurd h
+expression_patterns chain flags (scalar at (whole n)) ts h = absurd h
+expression_patterns chain flags (scalar at (text t)) ts h = subst (EachOf IsPatternTest) (sym h) (tt, tt)
+expression_patterns chain flags (list at parts) ts h = absurd h
+expression_patterns chain flags (map at parts) ts h = absurd h
+
+either_patterns : (b : Bool) (chain : Written) (flags : Flags) (value : Tree) (ts : List Test)
+    → UseTests chain (form_use (if b then Expressions flags else Texts false) value) ts → EachOf IsPatternTest ts
+either_patterns true chain flags value ts h = expression_patterns chain flags value ts h
+either_patterns false chain flags value ts h = text_patterns chain value ts h
+
+at_keyword : (chain : Written) → chain.keyword ≡ true → form_of chain ≡ keyword_form chain.modifiers
+at_keyword chain h = rw h refl
 
 pub keyword_patterns : (chain : Written) (value : Tree) (ts : List Test) → chain.keyword ≡ true → TestsOf chain value ts → EachOf IsPatternTest ts
 keyword_patterns chain value ts h t =
-    text_patterns chain value ts (subst (λ (f : ChainForm). UseTests chain (form_use f value) ts) (keyword_form chain h) t)
+    either_patterns (is_expression_chain chain.modifiers) chain (flags_of chain.modifiers) value ts
+    (subst (λ (f : ChainForm). UseTests chain (form_use f value) ts) (at_keyword chain h) t)
 
 -- ---- texts of scalar values
 
@@ -85,6 +101,7 @@ IsScalarUse (network t) = Unit {0}
 IsScalarUse (number n) = Unit {0}
 IsScalarUse (ordered op n) = Unit {0}
 IsScalarUse (reference t) = all_scalars t ≡ true
+IsScalarUse (expression flags t) = all_scalars t ≡ true
 
 truth_scalars : (b : Bool) → all_scalars (truth_text b) ≡ true
 truth_scalars true = refl
@@ -115,6 +132,10 @@ scalar_uses Reference null h = tt
 scalar_uses Reference (truth b) h = tt
 scalar_uses Reference (whole n) h = tt
 scalar_uses Reference (text t) h = h
+scalar_uses (Expressions flags) null h = tt
+scalar_uses (Expressions flags) (truth b) h = tt
+scalar_uses (Expressions flags) (whole n) h = tt
+scalar_uses (Expressions flags) (text t) h = h
 scalar_uses (Texts nulls) null h = null_scalars nulls
 scalar_uses (Texts nulls) (truth b) h = truth_scalars b
 scalar_uses (Texts nulls) (whole n) h = ascii_scalars (signed_decimal n) (decimal_ascii n)
@@ -138,31 +159,34 @@ first_three true false place more h = refl
 first_three false nul place more h = absurd cc
 
 -- a text that isn't refused has no U+0000
-pub no_nul : (most dashes : ℕ) (chain : Written) (place : Place) (t : List ℕ) → use_refusal most dashes chain place (pattern t) ≡ None → has_nul t ≡ false
-no_nul most dashes chain place t h = first_three (nat_le (length t) most) (has_nul t) place _ h
+pub no_nul : (unbuilt : List Place) (most dashes : ℕ) (chain : Written) (place : Place) (t : List ℕ) → use_refusal unbuilt most dashes chain place (pattern t) ≡ None
+    → has_nul t ≡ false
+no_nul unbuilt most dashes chain place t h = first_three (nat_le (length t) most) (has_nul t) place _ h
 
 module _ (dashed : (chain : Written) (t : List ℕ) (patterns : List (List Part))
     → all_scalars t ≡ true → has_nul t ≡ false → ArePatterns chain t patterns → EachOf IsDashedPattern patterns)
     (plain_network : (t : List ℕ) (n : Net) → IsNetwork t n → IsPlainNetwork n) where
-  use_plain : (most dashes : ℕ) (place : Place) (chain : Written) (u : Use) (ts : List Test) → use_refusal most dashes chain place u ≡ None
+  use_plain : (unbuilt : List Place) (most dashes : ℕ) (place : Place) (chain : Written) (u : Use) (ts : List Test) → use_refusal unbuilt most dashes chain place u ≡ None
       → IsScalarUse u → UseTests chain u ts → ArePlainTests ts
-  use_plain most dashes place chain unused ts none scalars h = absurd h
-  use_plain most dashes place chain absent ts none scalars h = subst ArePlainTests (sym h) (tt, tt)
-  use_plain most dashes place chain (existing b) ts none scalars h = subst ArePlainTests (sym h) (tt, tt)
-  use_plain most dashes place chain (pattern t) ts none scalars h =
+  use_plain unbuilt most dashes place chain unused ts none scalars h = absurd h
+  use_plain unbuilt most dashes place chain absent ts none scalars h = subst ArePlainTests (sym h) (tt, tt)
+  use_plain unbuilt most dashes place chain (existing b) ts none scalars h = subst ArePlainTests (sym h) (tt, tt)
+  use_plain unbuilt most dashes place chain (pattern t) ts none scalars h =
       subst ArePlainTests (sym h.tests_are)
-      (each_plain chain h.patterns (dashed chain t h.patterns scalars (no_nul most dashes chain place t none) h.are_patterns))
-  use_plain most dashes place chain (network t) ts none scalars h = subst ArePlainTests (sym h.2) (plain_network t h.0 h.1, tt)
-  use_plain most dashes place chain (number n) ts none scalars h = subst ArePlainTests (sym h) (tt, tt)
-  use_plain most dashes place chain (ordered op n) ts none scalars h =
-      subst ArePlainTests (sym h) (whole_holds n (ordered_taken most dashes chain place op n none), tt)
-  use_plain most dashes place chain (reference t) ts none scalars h =
-      subst ArePlainTests (sym h) (record { legal = reference_taken most dashes chain place t none; scalars = scalars }, tt)
+      (each_plain chain h.patterns (dashed chain t h.patterns scalars (no_nul unbuilt most dashes chain place t none) h.are_patterns))
+  use_plain unbuilt most dashes place chain (network t) ts none scalars h = subst ArePlainTests (sym h.2) (plain_network t h.0 h.1, tt)
+  use_plain unbuilt most dashes place chain (number n) ts none scalars h = subst ArePlainTests (sym h) (tt, tt)
+  use_plain unbuilt most dashes place chain (ordered op n) ts none scalars h =
+      subst ArePlainTests (sym h) (whole_holds n (ordered_taken unbuilt most dashes chain place op n none), tt)
+  use_plain unbuilt most dashes place chain (reference t) ts none scalars h =
+      subst ArePlainTests (sym h) (record { legal = reference_taken unbuilt most dashes chain place t none; scalars = scalars }, tt)
+  use_plain unbuilt most dashes place chain (expression flags t) ts none scalars h =
+      subst ArePlainTests (sym h) (expression_taken unbuilt most dashes chain place flags t scalars none, tt)
 
-  pub value_plain : (most dashes : ℕ) (chain : Written) (t : Tree) (ts : List Test) → value_refusal most dashes chain t ≡ None → HasScalarTexts t
-      → TestsOf chain t ts → ArePlainTests ts
-  value_plain most dashes chain t ts none scalars h =
-      use_plain most dashes (place_of t) chain (use_of chain t) ts none (node_uses (form_of chain) t scalars) h
+  pub value_plain : (unbuilt : List Place) (most dashes : ℕ) (chain : Written) (t : Tree) (ts : List Test) → value_refusal unbuilt most dashes chain t ≡ None
+      → HasScalarTexts t → TestsOf chain t ts → ArePlainTests ts
+  value_plain unbuilt most dashes chain t ts none scalars h =
+      use_plain unbuilt most dashes (place_of t) chain (use_of chain t) ts none (node_uses (form_of chain) t scalars) h
 
 -- ---- what is answered for a text
 

@@ -12,7 +12,7 @@ use Rattle.sig_strings.specs.Edits.{plain_text}
 use Rattle.sig_strings.specs.declared.part.Part.{Part}
 use Rattle.value_patterns.specs.Edited.{pattern_of}
 use Rattle.value_patterns.specs.Encoded.{encoding_of, units_of, bytes_in, as_pattern, AreTexts, AreAlternatives}
-use Rattle.value_patterns.specs.Uses.{Use, unused, absent, existing, pattern, network, number, ordered, reference, use_refusal, ArePatterns}
+use Rattle.value_patterns.specs.Uses.{Use, unused, absent, existing, pattern, network, number, ordered, reference, expression, use_refusal, ArePatterns}
 use Rattle.yaml_tree.specs.Nodes.{place_of}
 use Rattle.yaml_tree.specs.Tree.{Tree}
 use Rattle.sig_modifiers.specs.TestsOf.{UseTests, TestsOf, use_of, fits_of, value_refusal}
@@ -32,33 +32,35 @@ module _ (same : (chain : Written) (t : List ℕ) (patterns others : List (List 
   use_one chain (number n) a b p q = p ∙ sym q
   use_one chain (ordered op n) a b p q = p ∙ sym q
   use_one chain (reference t) a b p q = p ∙ sym q
+  use_one chain (expression flags t) a b p q = p ∙ sym q
 
   pub one_list : (chain : Written) (value : Tree) (a b : List Test) → TestsOf chain value a → TestsOf chain value b → a ≡ b
   one_list chain value a b p q = use_one chain (use_of chain value) a b p q
 
 -- where each text stands for some patterns, and is some network unless it's refused
 module _ (some : (chain : Written) (t : List ℕ) → (patterns : List (List Part)) × ArePatterns chain t patterns)
-    (some_network : (most dashes : ℕ) (chain : Written) (place : Place) (t : List ℕ) → use_refusal most dashes chain place (network t) ≡ None
+    (some_network : (unbuilt : List Place) (most dashes : ℕ) (chain : Written) (place : Place) (t : List ℕ) → use_refusal unbuilt most dashes chain place (network t) ≡ None
     → (n : Net) × IsNetwork t n) where
-  use_some : (most dashes : ℕ) (chain : Written) (place : Place) (u : Use) → use_refusal most dashes chain place u ≡ None
+  use_some : (unbuilt : List Place) (most dashes : ℕ) (chain : Written) (place : Place) (u : Use) → use_refusal unbuilt most dashes chain place u ≡ None
       → (ts : List Test) × UseTests chain u ts
-  use_some most dashes chain place unused h = absurd cc
-  use_some most dashes chain place absent h = (tests.Absent ∷ [], refl)
-  use_some most dashes chain place (existing e) h = (tests.Exists e ∷ [], refl)
-  use_some most dashes chain place (pattern t) h =
+  use_some unbuilt most dashes chain place unused h = absurd cc
+  use_some unbuilt most dashes chain place absent h = (tests.Absent ∷ [], refl)
+  use_some unbuilt most dashes chain place (existing e) h = (tests.Exists e ∷ [], refl)
+  use_some unbuilt most dashes chain place (pattern t) h =
       let p : (patterns : List (List Part)) × ArePatterns chain t patterns = some chain t in
       (list_map (fits_of chain) p.0, record { patterns = p.0; are_patterns = p.1; tests_are = refl })
-  use_some most dashes chain place (network t) h =
-      let p : (n : Net) × IsNetwork t n = some_network most dashes chain place t h in
+  use_some unbuilt most dashes chain place (network t) h =
+      let p : (n : Net) × IsNetwork t n = some_network unbuilt most dashes chain place t h in
       (tests.Inside p.0 ∷ [], (p.0, p.1, refl))
-  use_some most dashes chain place (number n) h = (tests.Equals n ∷ [], refl)
-  use_some most dashes chain place (ordered op n) h = (tests.Compare op n ∷ [], refl)
-  use_some most dashes chain place (reference t) h = (tests.SameAs t ∷ [], refl)
+  use_some unbuilt most dashes chain place (number n) h = (tests.Equals n ∷ [], refl)
+  use_some unbuilt most dashes chain place (ordered op n) h = (tests.Compare op n ∷ [], refl)
+  use_some unbuilt most dashes chain place (reference t) h = (tests.SameAs t ∷ [], refl)
+  use_some unbuilt most dashes chain place (expression flags t) h = (tests.Finds t flags ∷ [], refl)
 
-  pub some_list : (most dashes : ℕ) (chain : Written) (value : Tree) → value_refusal most dashes chain value ≡ None
+  pub some_list : (unbuilt : List Place) (most dashes : ℕ) (chain : Written) (value : Tree) → value_refusal unbuilt most dashes chain value ≡ None
       → (ts : List Test) × TestsOf chain value ts
-  some_list most dashes chain value h =
-      use_some most dashes chain (place_of value) (use_of chain value) h
+  some_list unbuilt most dashes chain value h =
+      use_some unbuilt most dashes chain (place_of value) (use_of chain value) h
 
 -- ---- there's a test
 
@@ -97,6 +99,7 @@ use_has chain (network t) ts h = subst (λ (us : List Test). HasElement us) (sym
 use_has chain (number n) ts h = subst (λ (us : List Test). HasElement us) (sym h) tt
 use_has chain (ordered op n) ts h = subst (λ (us : List Test). HasElement us) (sym h) tt
 use_has chain (reference t) ts h = subst (λ (us : List Test). HasElement us) (sym h) tt
+use_has chain (expression flags t) ts h = subst (λ (us : List Test). HasElement us) (sym h) tt
 
 pub has_test : (chain : Written) (value : Tree) (ts : List Test) → TestsOf chain value ts → HasElement ts
 has_test chain value ts h = use_has chain (use_of chain value) ts h

@@ -5,11 +5,13 @@ use Rattle.event_schema.specs.Lists.{SomeOf, HasElement, HasNoElement}
 use Rattle.event_schema.specs.Rows.{value_text}
 use Rattle.event_schema.specs.declared.value.Value.{Value}
 use Rattle.event_schema.specs.declared.value.Value.TheVariants as values
+use Rattle.languages.specs.Patterns.{finds}
 use Rattle.modifier_chains.specs.declared.modifier.Op.{Op}
 use Rattle.modifier_chains.specs.declared.modifier.Op.TheVariants as ops
 use Rattle.sig_base.specs.Folding.{folded}
 use Rattle.sig_encode.specs.Networks.{InNetwork}
 use Rattle.sig_strings.specs.Fits.{Fits}
+use Rattle.value_patterns.specs.Expressions.{expression_text}
 use Rattle.sig_modifiers.specs.declared.test.Test.{Test}
 use Rattle.sig_modifiers.specs.declared.test.Test.TheVariants as tests
 
@@ -30,7 +32,8 @@ abbrev pub AreSame : Value → Value → Type 0
 AreSame value other = folded (value_text value) ≡ folded (value_text other)
 
 -- Of an event that has for the field of each name a list of values: two tests ask whether there is a value; each other one
--- holds where some value satisfies it, a number by its decimal, or as a number where it's compared with one.
+-- holds where some value satisfies it, a number by its decimal, or as a number where it's compared with one. A regular
+-- expression is satisfied where it has a match anywhere in the value.
 module _ (named : List ℕ → List Value) where
   abbrev pub Holds : Test → List Value → Type 0
   Holds tests.Absent values = HasNoElement values
@@ -41,3 +44,4 @@ module _ (named : List ℕ → List Value) where
   Holds (tests.Inside n) values = SomeOf (λ value. InNetwork n (value_text value)) values
   Holds (tests.Compare op n) values = SomeOf (ValueStands op n) values
   Holds (tests.SameAs name) values = SomeOf (λ value. SomeOf (AreSame value) (named name)) values
+  Holds (tests.Finds text flags) values = SomeOf (λ value. finds (expression_text flags text) (value_text value) ≡ true) values

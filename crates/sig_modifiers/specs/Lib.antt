@@ -1,3 +1,4 @@
+pub mod Expressions
 pub mod Holds
 pub mod PlainTests
 pub mod References

@@ -1,13 +1,14 @@
 -- Tests whose patterns have no placeholder and no U+0000, whose networks are of 32 bits, which compare with numbers that
--- fields have, and which name fields by legal names.
+-- fields have, which name fields by legal names, and whose regular expressions are some and have no U+0000.
 use Rattle.std.specs.Prelude.{◌<◌, ◌≤◌, ◌^◌, List, ⊤}
 use Rattle.event_schema.specs.Events.{IsWholeNumber}
 use Rattle.event_schema.specs.Lists.{EachOf}
 use Rattle.event_schema.specs.Names.{IsName}
 use Rattle.sig_encode.specs.Networks.{Net}
+use Rattle.value_patterns.specs.Expressions.{IsPlainExpression}
 use Rattle.value_patterns.specs.PlainPatterns.{IsDashedPattern}
 use Rattle.sig_modifiers.specs.declared.test.Test.{Test}
-use Rattle.sig_modifiers.specs.declared.test.Test.TheVariants.{Absent, Exists, Fits, Equals, Inside, Compare, SameAs}
+use Rattle.sig_modifiers.specs.declared.test.Test.TheVariants.{Absent, Exists, Fits, Equals, Inside, Compare, SameAs, Finds}
 
 -- an address's number, and a prefix of its bits
 abbrev pub IsPlainNetwork : Net → Type 0
@@ -21,11 +22,12 @@ IsPlainTest (Equals n) = ⊤
 IsPlainTest (Inside n) = IsPlainNetwork n
 IsPlainTest (Compare op n) = IsWholeNumber n
 IsPlainTest (SameAs name) = IsName name
+IsPlainTest (Finds text flags) = IsPlainExpression flags text
 
 abbrev pub ArePlainTests : List Test → Type 0
 ArePlainTests tests = EachOf IsPlainTest tests
 
--- asks that a value fits a pattern
+-- asks that a value fits a pattern, or that a regular expression is found in it
 abbrev pub IsPatternTest : Test → Type 0
 IsPatternTest Absent = ⊥
 IsPatternTest (Exists there) = ⊥
@@ -34,3 +36,4 @@ IsPatternTest (Equals n) = ⊥
 IsPatternTest (Inside n) = ⊥
 IsPatternTest (Compare op n) = ⊥
 IsPatternTest (SameAs name) = ⊥
+IsPatternTest (Finds text flags) = ⊤

@@ -14,8 +14,9 @@ reference_of (tests.Equals n) = None
 reference_of (tests.Inside n) = None
 reference_of (tests.Compare op n) = None
 reference_of (tests.SameAs name) = Some name
+reference_of (tests.Finds text flags) = None
 
-abbrev listed : Option (List ℕ) → List (List ℕ)
+abbrev pub listed : Option (List ℕ) → List (List ℕ)
 listed None = []
 listed (Some name) = name ∷ []
 

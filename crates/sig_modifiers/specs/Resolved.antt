@@ -11,8 +11,8 @@ use Rattle.value_patterns.specs.Uses.{Use, use_refusal}
 use Rattle.sig_modifiers.specs.TestsOf.{UseTests, scalar_use}
 use Rattle.sig_modifiers.specs.declared.test.Test.{Test}
 
-abbrev pub UseJudged : Written → Limits → Place → Use → Result (List Test) Fault → Type 0
-UseJudged chain limits place u result = Judged (UseTests chain u) (use_refusal limits.value_chars limits.dashes chain place u) result
+abbrev pub UseJudged : List Place → Written → Limits → Place → Use → Result (List Test) Fault → Type 0
+UseJudged unbuilt chain limits place u result = Judged (UseTests chain u) (use_refusal unbuilt limits.value_chars limits.dashes chain place u) result
 
-abbrev pub ScalarJudged : Written → Limits → Place → Scalar → Result (List Test) Fault → Type 0
-ScalarJudged chain limits place s result = UseJudged chain limits place (scalar_use (form_of chain) s) result
+abbrev pub ScalarJudged : List Place → Written → Limits → Place → Scalar → Result (List Test) Fault → Type 0
+ScalarJudged unbuilt chain limits place s result = UseJudged unbuilt chain limits place (scalar_use (form_of chain) s) result

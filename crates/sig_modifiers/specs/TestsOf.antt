@@ -6,11 +6,12 @@ use Rattle.modifier_chains.specs.Chains.{form_of}
 use Rattle.modifier_chains.specs.Kinds.{is_cased}
 use Rattle.modifier_chains.specs.Written.{Written}
 use Rattle.modifier_chains.specs.declared.form.ChainForm.{ChainForm}
-use Rattle.modifier_chains.specs.declared.form.ChainForm.TheVariants.{Bare, Presence, Networks, Orders, Reference, Texts}
+use Rattle.modifier_chains.specs.declared.form.ChainForm.TheVariants.{Bare, Presence, Networks, Orders, Reference, Expressions, Texts}
+use Rattle.sig_base.specs.declared.refusal.Place.{Place}
 use Rattle.sig_base.specs.declared.refusal.Refusal.{Refusal}
 use Rattle.sig_encode.specs.Networks.{Net, IsNetwork}
 use Rattle.sig_strings.specs.declared.part.Part.{Part}
-use Rattle.value_patterns.specs.Uses.{Use, unused, absent, existing, pattern, network, number, ordered, reference, use_refusal, ArePatterns}
+use Rattle.value_patterns.specs.Uses.{Use, unused, absent, existing, pattern, network, number, ordered, reference, expression, use_refusal, ArePatterns}
 use Rattle.yaml_tree.specs.Nodes.{place_of}
 use Rattle.yaml_tree.specs.Tree.{Scalar, null, truth, whole, text, Tree, scalar, list, map}
 use Rattle.sig_modifiers.specs.declared.test.Test.{Test}
@@ -43,6 +44,10 @@ scalar_use Reference null = unused
 scalar_use Reference (truth b) = unused
 scalar_use Reference (whole n) = unused
 scalar_use Reference (text t) = reference t
+scalar_use (Expressions flags) null = unused
+scalar_use (Expressions flags) (truth b) = unused
+scalar_use (Expressions flags) (whole n) = unused
+scalar_use (Expressions flags) (text t) = expression flags t
 scalar_use (Texts nulls) null = if nulls then absent else unused
 scalar_use (Texts nulls) (truth b) = pattern (truth_text b)
 scalar_use (Texts nulls) (whole n) = pattern (signed_decimal n)
@@ -57,9 +62,9 @@ form_use form (map at parts) = unused
 abbrev pub use_of : Written → Tree → Use
 use_of chain value = form_use (form_of chain) value
 
--- why a value gives no tests
-abbrev pub value_refusal : ℕ → ℕ → Written → Tree → Option Refusal
-value_refusal most dashes chain value = use_refusal most dashes chain (place_of value) (use_of chain value)
+-- why a value gives no tests, where a regular expression isn't built at each of these places
+abbrev pub value_refusal : List Place → ℕ → ℕ → Written → Tree → Option Refusal
+value_refusal unbuilt most dashes chain value = use_refusal unbuilt most dashes chain (place_of value) (use_of chain value)
 
 -- the test that a text fits this pattern
 abbrev pub fits_of : Written → List Part → Test
@@ -84,6 +89,7 @@ UseTests chain (network t) ts = AreInside t ts
 UseTests chain (number n) ts = ts ≡ tests.Equals n ∷ []
 UseTests chain (ordered op n) ts = ts ≡ tests.Compare op n ∷ []
 UseTests chain (reference t) ts = ts ≡ tests.SameAs t ∷ []
+UseTests chain (expression flags t) ts = ts ≡ tests.Finds t flags ∷ []
 
 -- these are the tests that the chain makes of the value
 abbrev pub TestsOf : Written → Tree → List Test → Type 0

@@ -1,7 +1,7 @@
 //! The tests that chains make of values, reckoned by hand.
 
 use crate::{Test, Tests};
-use modifier_chains::{Chain, Op};
+use modifier_chains::{Chain, Flags, Op};
 use sig_base::{Fault, Limits, Place, Refusal, Text, TryCopy};
 use sig_strings::{Part, SharedPattern};
 use std::alloc::Global;
@@ -75,6 +75,13 @@ fn sign(op: Op) -> &'static str {
     }
 }
 
+fn shown_expression(alloc: Global, test: &Test) -> Result<String, Fail> {
+    let Some(expression) = test.expression(alloc)? else {
+        return Ok(String::new(alloc));
+    };
+    Ok(format!(in alloc; "finds {}", expression.as_str())?)
+}
+
 fn shown(alloc: Global, test: &Test) -> Result<String, Fail> {
     match test {
         Test::Absent => Ok(format!(in alloc; "absent")?),
@@ -86,6 +93,7 @@ fn shown(alloc: Global, test: &Test) -> Result<String, Fail> {
         )?),
         Test::Compare { op, number } => Ok(format!(in alloc; "{} {number}", sign(*op))?),
         Test::SameAs(name) => Ok(format!(in alloc; "same as {}", name.as_str())?),
+        Test::Finds { .. } => shown_expression(alloc, test),
         Test::Fits { pattern, cased } => {
             let text = shown_pattern(alloc, pattern)?;
             let end = if *cased { " cased" } else { "" };
@@ -106,8 +114,14 @@ fn all_shown(alloc: Global, tests: &Tests) -> Result<String, Fail> {
 }
 
 /// The tests that a chain makes of a value, or what refuses it.
-fn resolved(alloc: Global, limits: &Limits, chain: &Chain, value: &Node) -> Result<String, Fail> {
-    match crate::resolve(alloc, limits, chain, value) {
+fn resolved(
+    alloc: Global,
+    limits: &Limits,
+    unbuilt: &[Place],
+    chain: &Chain,
+    value: &Node,
+) -> Result<String, Fail> {
+    match crate::resolve(alloc, limits, unbuilt, chain, value) {
         Ok(tests) => all_shown(alloc, &tests.try_copy(alloc)?),
         Err(Fault::Refused(refusal)) => refused(alloc, &refusal),
         Err(Fault::Memory) => Ok(String::new(alloc)),
@@ -115,25 +129,40 @@ fn resolved(alloc: Global, limits: &Limits, chain: &Chain, value: &Node) -> Resu
 }
 
 /// What is made of `chain~value`.
-fn told_value(alloc: Global, limits: &Limits, given: &str) -> Result<String, Fail> {
+fn told_value(
+    alloc: Global,
+    limits: &Limits,
+    unbuilt: &[Place],
+    given: &str,
+) -> Result<String, Fail> {
     let Some((words, written)) = given.split_once('~') else {
         return Ok(String::from_str(alloc, "no value")?);
     };
     let chain = chain(alloc, words)??;
-    resolved(alloc, limits, &chain, &value(alloc, written)?)
+    resolved(alloc, limits, unbuilt, &chain, &value(alloc, written)?)
 }
 
-/// The first row, `tests~chain~value`, that is told otherwise.
-fn wrong_value(alloc: Global, limits: &Limits, table: &str) -> Result<String, Fail> {
+/// The first row, `tests~chain~value`, that is told otherwise where no regular expression is built at these places.
+fn wrong_at(
+    alloc: Global,
+    limits: &Limits,
+    unbuilt: &[Place],
+    table: &str,
+) -> Result<String, Fail> {
     for row in table.lines() {
         let Some((want, given)) = row.split_once('~') else {
             return Ok(String::from_str(alloc, row)?);
         };
-        if told_value(alloc, limits, given)?.as_str() != want {
+        if told_value(alloc, limits, unbuilt, given)?.as_str() != want {
             return Ok(String::from_str(alloc, row)?);
         }
     }
     Ok(String::new(alloc))
+}
+
+/// The first row that is told otherwise where each regular expression is built.
+fn wrong_value(alloc: Global, limits: &Limits, table: &str) -> Result<String, Fail> {
+    wrong_at(alloc, limits, &[], table)
 }
 
 #[test]
@@ -289,6 +318,75 @@ same as *~field|fieldref~*
 }
 
 #[test]
+fn regular_expressions_are_found(rt: HostRuntime) -> Result<(), Fail> {
+    let alloc = rt.alloc();
+    let table = r"finds a.c~field|re~a.c
+finds ~field|re~
+finds ^\\a*~field|re~^\\a*
+finds (?i)a~field|re|i~a
+finds (?ims)^a.$~field|re|s|m|i|all~^a.$
+finds (?i)(?s)a~field|re|all|i~(?s)a
+finds a~keyword|re~a
+finds (?ms).~keyword|re|s|all|m~.
+42~field|re~null
+42~field|re~true
+42~field|re|all~1234
+42~field|re|i~least
+42~field|re~list
+42~field|re~map
+42~keyword|re~null
+42~keyword|re|m~true
+42~keyword|re~-7
+42~keyword|re|all~list
+47~field|re~(
+47~field|re|i~a{2,1}
+47~keyword|re|all~[";
+    assert_eq!(rt;
+        wrong_value(alloc, &Limits::standard(), table)?.as_str(),
+        ""
+    );
+    Ok(())
+}
+
+#[test]
+fn regular_expressions_are_not_built(rt: HostRuntime) -> Result<(), Fail> {
+    let alloc = rt.alloc();
+    let mut limits = Limits::standard();
+    limits.value_chars = 3;
+    let here = "48~field|re~a.c
+48~keyword|re|i~a
+47~field|re~(
+50~field|re~(\0
+49~field|re~a(\0b
+42~field|re~true
+a~field~a
+same as Abc~field|fieldref~Abc
+*a*~keyword~a";
+    assert_eq!(rt; wrong_at(alloc, &limits, &[KEY, VALUE], here)?.as_str(), "");
+    let there = "finds a.c~field|re~a.c
+47~field|re~(";
+    assert_eq!(rt; wrong_at(alloc, &limits, &[KEY], there)?.as_str(), "");
+    Ok(())
+}
+
+#[test]
+fn other_tests_are_no_expressions(rt: HostRuntime) -> Result<(), Fail> {
+    let alloc = rt.alloc();
+    assert!(rt; !Test::Absent.is_expression());
+    assert!(rt; Test::Equals(7).expression(alloc)?.is_none());
+    let found = Test::Finds {
+        text: Text::copy(alloc, "a")?,
+        flags: Flags {
+            i: false,
+            m: true,
+            s: false,
+        },
+    };
+    assert!(rt; found.is_expression());
+    Ok(())
+}
+
+#[test]
 fn the_first_cause_is_told(rt: HostRuntime) -> Result<(), Fail> {
     let alloc = rt.alloc();
     let mut limits = Limits::standard();
@@ -314,6 +412,9 @@ exists false~field|exists~false
 same as abc~field|fieldref~abc
 > 1234~field|gt~1234
 50~field|base64~*\0
+49~field|re~((((
+50~field|re~(\0
+47~field|re~(((
 YWJj~field|base64~abc
 ~field~";
     assert_eq!(rt; wrong_value(alloc, &limits, table)?.as_str(), "");

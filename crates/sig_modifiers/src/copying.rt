@@ -22,6 +22,10 @@ impl Test {
                 number: *number,
             }),
             Test::SameAs(name) => Ok(Test::SameAs(Text::copy(alloc, name.as_str())?)),
+            Test::Finds { text, flags } => Ok(Test::Finds {
+                text: Text::copy(alloc, text.as_str())?,
+                flags: *flags,
+            }),
             Test::Fits { pattern, cased } => {
                 let pattern = pattern.copy()?;
                 Ok(Test::Fits {

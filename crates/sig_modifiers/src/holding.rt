@@ -1,12 +1,13 @@
 //! Whether tests hold of the values of events.
 
-ghost use Rattle.std.specs.Prelude.{◌≡◌, ◌↔◌, IsTrue, List, ℕ};
+ghost use Rattle.std.specs.Prelude.{◌≡◌, ◌↔◌, IsTrue, List, None, ℕ};
 ghost use Rattle.std.specs.Fmt.{signed_decimal};
 ghost use Rattle.std.specs.Str.{bytes_eq, chars};
 ghost use Rattle.event_schema.specs.Lists.{SomeOf, HasNoElement};
 ghost use Rattle.event_schema.specs.Rows.{value_text, values_at};
 ghost use Rattle.sig_encode.specs.Networks.{InNetwork};
 ghost use Rattle.sig_base.specs.Folding.{folded};
+ghost use Rattle.sig_modifiers.specs.Expressions.{expression_of};
 ghost use Rattle.sig_modifiers.specs.References.{IsReference};
 ghost use Rattle.sig_modifiers.specs.Holds.{AreSame, Holds, Stands, ValueStands};
 ghost use Rattle.sig_strings.specs.Fits.{Fits};
@@ -219,8 +220,10 @@ impl Test {
     }
 
     /// Whether the test holds of a field's values, where the field that it compares with has these others; without memory of
-    /// its own. A test that compares with no field doesn't look at them.
+    /// its own. A test that compares with no field doesn't look at them. Asks that the test isn't a regular expression, which is
+    /// searched for by what is built of it.
     pub fn holds_of(&self, values: &[Value], others: &[Value]) -> bool
+        requires { expression_of self.now ≡ None }
         ensures { IsTrue result ↔ Holds (λ (name : List ℕ). others.now) self.now values.now }
     {
         match self {
@@ -231,12 +234,15 @@ impl Test {
             Test::Inside(network) => some_is_inside(values, network),
             Test::Compare { op, number } => some_stands(values, *op, number),
             Test::SameAs(_) => some_is_same(values, others),
+            Test::Finds { .. } => false,
         }
     }
 
     /// Whether the test holds of the values of the field of this name, without memory of its own. The schema is the
-    /// event's; a field that it hasn't has no value.
+    /// event's; a field that it hasn't has no value. Asks that the test isn't a regular expression, which is searched for by what
+    /// is built of it.
     pub fn holds(&self, schema: &Schema, name: &str, event: &Event) -> bool
+        requires { expression_of self.now ≡ None }
         ensures { IsTrue result ↔ Holds (values_at schema.now event.now) self.now (values_at schema.now event.now (chars name.now)) }
     {
         let values = event.values_at(schema, name);

@@ -4,6 +4,7 @@
 ghost use Rattle.std.specs.Prelude.{◌≡◌, ℕ, List, None, true};
 ghost use Rattle.event_schema.specs.Lists.{EachOf, HasElement};
 ghost use Rattle.modifier_chains.specs.Written.{Written};
+ghost use Rattle.sig_base.specs.declared.refusal.Place.{Place};
 ghost use Rattle.yaml_tree.specs.Texts.{HasScalarTexts};
 ghost use Rattle.yaml_tree.specs.Tree.{Tree};
 ghost use Rattle.sig_modifiers.specs.PlainTests.{ArePlainTests, IsPatternTest};
@@ -24,8 +25,8 @@ pub fn one_tests()
 
 /// A chain makes tests of each value that isn't refused.
 pub fn tests_or_refusal()
-    ensures { (most dashes : ℕ) (chain : Written) (value : Tree)
-        → value_refusal most dashes chain value ≡ None → (tests : List Test) × TestsOf chain value tests }
+    ensures { (unbuilt : List Place) (most dashes : ℕ) (chain : Written) (value : Tree)
+        → value_refusal unbuilt most dashes chain value ≡ None → (tests : List Test) × TestsOf chain value tests }
 {
     one_list_of_patterns();
     one_network();
@@ -36,17 +37,17 @@ pub fn some_test()
     ensures { (chain : Written) (value : Tree) (tests : List Test) → TestsOf chain value tests → HasElement tests }
 {}
 
-/// Keywords have no tests but patterns.
+/// Keywords have no tests but patterns and regular expressions.
 pub fn keyword_tests()
     ensures { (chain : Written) (value : Tree) (tests : List Test)
         → chain.keyword ≡ true → TestsOf chain value tests → EachOf IsPatternTest tests }
 {}
 
 /// Patterns of values of Unicode scalar values that aren't refused are of characters other than U+0000, of single
-/// characters, runs and dash places; networks are of 32 bits.
+/// characters, runs and dash places; networks are of 32 bits; regular expressions are some, of texts without U+0000.
 pub fn plain_tests()
-    ensures { (most dashes : ℕ) (chain : Written) (value : Tree) (tests : List Test)
-        → value_refusal most dashes chain value ≡ None → HasScalarTexts value → TestsOf chain value tests → ArePlainTests tests }
+    ensures { (unbuilt : List Place) (most dashes : ℕ) (chain : Written) (value : Tree) (tests : List Test)
+        → value_refusal unbuilt most dashes chain value ≡ None → HasScalarTexts value → TestsOf chain value tests → ArePlainTests tests }
 {
     patterns_are_dashed();
     networks_are_bounded();

@@ -8,6 +8,7 @@ pub use test::{Test, Tests};
 #[cfg(test)]
 mod checks;
 mod copying;
+mod expressions;
 mod holding;
 #[cfg(test)]
 mod holding_checks;

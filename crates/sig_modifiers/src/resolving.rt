@@ -1,9 +1,10 @@
 //! The tests that a chain makes of a value.
 
-ghost use Rattle.std.specs.Prelude.{◌≡◌, ◌∷◌, [], map, IfOk, IfErr};
+ghost use Rattle.std.specs.Prelude.{◌≡◌, ◌∷◌, [], List, map, IfOk, IfErr};
 ghost use Rattle.std.specs.Str.{chars};
 ghost use Rattle.sig_base.specs.Judged.{Judged};
-ghost use Rattle.value_patterns.specs.Uses.{network, ordered, pattern, reference};
+ghost use Rattle.sig_base.specs.declared.refusal.Place as places;
+ghost use Rattle.value_patterns.specs.Uses.{expression, network, ordered, pattern, reference};
 ghost use Rattle.sig_modifiers.specs.PlainTests.{ArePlainTests};
 ghost use Rattle.sig_modifiers.specs.Resolved.{UseJudged, ScalarJudged};
 ghost use Rattle.sig_modifiers.specs.TestsOf as uses;
@@ -14,12 +15,13 @@ ghost use Rattle.yaml_tree.specs.View.{node_view};
 use crate::test::{Test, Tests};
 use event_schema::decimal_in;
 use itoa::Buffer;
-use modifier_chains::{Chain, ChainForm, Op};
+use modifier_chains::{Chain, ChainForm, Flags, Op};
 use sig_base::{Code, Fault, Limits, Place, Text, refused};
 use sig_strings::SharedPattern;
 use std::alloc::Global;
 use value_patterns::{
-    check_ordered, networks_are_bounded, read_network, read_patterns, read_reference,
+    check_ordered, networks_are_bounded, read_expression, read_network, read_patterns,
+    read_reference,
 };
 use yaml_tree::{Kind, Node};
 
@@ -63,7 +65,7 @@ fn resolve_text(
     text: &str,
     place: Place,
 ) -> Result<Tests, Fault>
-    ensures judged { UseJudged chain.now limits.now place (pattern (chars text.now)) result }
+    ensures judged { (unbuilt : List places.Place) → UseJudged unbuilt chain.now limits.now place (pattern (chars text.now)) result }
     ensures plain { IfOk result ArePlainTests }
 {
     let patterns = read_patterns(alloc, limits, chain, text, place)?;
@@ -78,7 +80,7 @@ fn resolve_network(
     text: &str,
     place: Place,
 ) -> Result<Tests, Fault>
-    ensures judged { UseJudged chain.now limits.now place (network (chars text.now)) result }
+    ensures judged { (unbuilt : List places.Place) → UseJudged unbuilt chain.now limits.now place (network (chars text.now)) result }
     ensures plain { IfOk result ArePlainTests }
 {
     networks_are_bounded();
@@ -95,7 +97,7 @@ fn resolve_ordered(
     number: i64,
     place: Place,
 ) -> Result<Tests, Fault>
-    ensures judged { UseJudged chain.now limits.now place (ordered op number) result }
+    ensures judged { (unbuilt : List places.Place) → UseJudged unbuilt chain.now limits.now place (ordered op number) result }
     ensures plain { IfOk result ArePlainTests }
 {
     check_ordered(number, place)?;
@@ -110,15 +112,38 @@ fn resolve_reference(
     text: &Text,
     place: Place,
 ) -> Result<Tests, Fault>
-    ensures judged { UseJudged chain.now limits.now place (reference text.now) result }
+    ensures judged { (unbuilt : List places.Place) → UseJudged unbuilt chain.now limits.now place (reference text.now) result }
     ensures plain { IfOk result ArePlainTests }
 {
     let name = read_reference(alloc, limits, text, place)?;
     one_test(alloc, Test::SameAs(name))
 }
 
+/// The test that the regular expression which this text is read as is found in a value.
+fn resolve_expression(
+    alloc: Global,
+    limits: &Limits,
+    unbuilt: &[Place],
+    chain: &Chain,
+    flags: Flags,
+    text: &Text,
+    place: Place,
+) -> Result<Tests, Fault>
+    ensures judged { UseJudged unbuilt.now chain.now limits.now place (expression flags text.now) result }
+    ensures plain { IfOk result ArePlainTests }
+{
+    let written = read_expression(alloc, limits, unbuilt, flags, text, place)?;
+    one_test(
+        alloc,
+        Test::Finds {
+            text: written,
+            flags,
+        },
+    )
+}
+
 fn resolve_null(alloc: Global, limits: &Limits, chain: &Chain, place: Place) -> Result<Tests, Fault>
-    ensures judged { ScalarJudged chain.now limits.now place null result }
+    ensures judged { (unbuilt : List places.Place) → ScalarJudged unbuilt chain.now limits.now place null result }
     ensures plain { IfOk result ArePlainTests }
 {
     match chain.form() {
@@ -127,6 +152,7 @@ fn resolve_null(alloc: Global, limits: &Limits, chain: &Chain, place: Place) -> 
         | ChainForm::Networks
         | ChainForm::Orders(_)
         | ChainForm::Reference
+        | ChainForm::Expressions(_)
         | ChainForm::Texts { nulls: false } => Err(refused(Code::VALUE_NOT_ALLOWED, place)),
     }
 }
@@ -138,14 +164,15 @@ fn resolve_truth(
     value: bool,
     place: Place,
 ) -> Result<Tests, Fault>
-    ensures judged { ScalarJudged chain.now limits.now place (truth value) result }
+    ensures judged { (unbuilt : List places.Place) → ScalarJudged unbuilt chain.now limits.now place (truth value) result }
     ensures plain { IfOk result ArePlainTests }
 {
     match chain.form() {
         ChainForm::Presence => one_test(alloc, Test::Exists(value)),
-        ChainForm::Networks | ChainForm::Orders(_) | ChainForm::Reference => {
-            Err(refused(Code::VALUE_NOT_ALLOWED, place))
-        }
+        ChainForm::Networks
+        | ChainForm::Orders(_)
+        | ChainForm::Reference
+        | ChainForm::Expressions(_) => Err(refused(Code::VALUE_NOT_ALLOWED, place)),
         ChainForm::Bare | ChainForm::Texts { .. } => {
             resolve_text(alloc, limits, chain, truth_text(value), place)
         }
@@ -159,14 +186,15 @@ fn resolve_whole(
     value: &i64,
     place: Place,
 ) -> Result<Tests, Fault>
-    ensures judged { ScalarJudged chain.now limits.now place (whole value.now) result }
+    ensures judged { (unbuilt : List places.Place) → ScalarJudged unbuilt chain.now limits.now place (whole value.now) result }
     ensures plain { IfOk result ArePlainTests }
 {
     match chain.form() {
         ChainForm::Bare => one_test(alloc, Test::Equals(*value)),
-        ChainForm::Presence | ChainForm::Networks | ChainForm::Reference => {
-            Err(refused(Code::VALUE_NOT_ALLOWED, place))
-        }
+        ChainForm::Presence
+        | ChainForm::Networks
+        | ChainForm::Reference
+        | ChainForm::Expressions(_) => Err(refused(Code::VALUE_NOT_ALLOWED, place)),
         ChainForm::Orders(op) => resolve_ordered(alloc, limits, chain, op, *value, place),
         ChainForm::Texts { .. } => {
             let mut buffer = Buffer::new();
@@ -179,11 +207,12 @@ fn resolve_whole(
 fn resolve_string(
     alloc: Global,
     limits: &Limits,
+    unbuilt: &[Place],
     chain: &Chain,
     value: &Text,
     place: Place,
 ) -> Result<Tests, Fault>
-    ensures judged { ScalarJudged chain.now limits.now place (text value.now) result }
+    ensures judged { ScalarJudged unbuilt.now chain.now limits.now place (text value.now) result }
     ensures plain { IfOk result ArePlainTests }
 {
     match chain.form() {
@@ -191,6 +220,9 @@ fn resolve_string(
             Err(refused(Code::VALUE_NOT_ALLOWED, place))
         }
         ChainForm::Reference => resolve_reference(alloc, limits, chain, value, place),
+        ChainForm::Expressions(flags) => {
+            resolve_expression(alloc, limits, unbuilt, chain, flags, value, place)
+        }
         ChainForm::Networks => resolve_network(alloc, limits, chain, value.as_str(), place),
         ChainForm::Bare | ChainForm::Texts { .. } => {
             resolve_text(alloc, limits, chain, value.as_str(), place)
@@ -198,20 +230,28 @@ fn resolve_string(
     }
 }
 
-/// The tests that a chain makes of a value, which are its alternatives. At the value's place, a value that the chain
-/// doesn't take is refused 42, a text of more characters than `value_chars` 49, one with U+0000 50, a wildcard in what is
-/// encoded 43, one byte under `base64offset` or no legal name under `fieldref` 42, one that is no network under `cidr` 44,
-/// -2^63 under `lt`, `lte`, `gt` and `gte` 45, and more dash places than `dashes` 46, the first of these in this order.
-pub fn resolve(alloc: Global, limits: &Limits, chain: &Chain, value: &Node) -> Result<Tests, Fault>
+/// The tests that a chain makes of a value, which are its alternatives; `unbuilt` are the places at which a regular expression
+/// isn't built. At the value's place, a value that the chain doesn't take is refused 42, a text of more characters than
+/// `value_chars` 49, one with U+0000 50, a wildcard in what is encoded 43, one byte under `base64offset` or no legal name under
+/// `fieldref` 42, one that is no network under `cidr` 44, -2^63 under `lt`, `lte`, `gt` and `gte` 45, more dash places than
+/// `dashes` 46, and under `re` one whose regular expression the grammar doesn't read 47, and one at such a place 48, the first
+/// of these in this order.
+pub fn resolve(
+    alloc: Global,
+    limits: &Limits,
+    unbuilt: &[Place],
+    chain: &Chain,
+    value: &Node,
+) -> Result<Tests, Fault>
     ensures judged { Judged (λ tests. uses.TestsOf chain.now (node_view value.now) tests)
-        (uses.value_refusal limits.now.value_chars limits.now.dashes chain.now (node_view value.now)) result }
+        (uses.value_refusal unbuilt.now limits.now.value_chars limits.now.dashes chain.now (node_view value.now)) result }
     ensures plain { IfOk result ArePlainTests }
 {
     match &value.kind {
         Kind::Null => resolve_null(alloc, limits, chain, value.place),
         Kind::Truth(truth) => resolve_truth(alloc, limits, chain, *truth, value.place),
         Kind::Whole(number) => resolve_whole(alloc, limits, chain, number, value.place),
-        Kind::Text(text) => resolve_string(alloc, limits, chain, text, value.place),
+        Kind::Text(text) => resolve_string(alloc, limits, unbuilt, chain, text, value.place),
         Kind::List(_) | Kind::Map(_) => Err(refused(Code::VALUE_NOT_ALLOWED, value.place)),
     }
 }

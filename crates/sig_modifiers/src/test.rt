@@ -1,6 +1,6 @@
 //! Tests of a field's values.
 
-use modifier_chains::Op;
+use modifier_chains::{Flags, Op};
 use sig_base::{Sequence, Text};
 use sig_encode::Network;
 use sig_strings::SharedPattern;
@@ -24,6 +24,9 @@ pub enum Test {
     /// some value's text is that of some value of the field of this name, without regard to the case of A to Z; a number's
     /// text is its decimal
     SameAs(Text),
+    /// the regular expression of this text, read with these flags, has a match somewhere in some value's text, or in a number's
+    /// decimal
+    Finds { text: Text, flags: Flags },
 }
 
 /// Tests in order, which contracts see as a list.

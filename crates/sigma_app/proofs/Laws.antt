@@ -1,5 +1,5 @@
 -- The laws of the answers.
-use Rattle.std.proofs.Common.{◌≡◌, ℕ, false, List, [], ◌∷◌, refl, ap, sym, ◌∙◌, subst, append-nil, Option, None, Some, Result, Ok, Err}
+use Rattle.std.proofs.Common.{◌≡◌, ℕ, false, List, [], ◌∷◌, ap, sym, ◌∙◌, subst, append-nil, Option, None, Some, Result, Ok, Err}
 use Rattle.std.specs.Prelude.{IfSome}
 use Rattle.std.specs.List.{AllByRecursion}
 use Rattle.answer_parts.proofs.Rows.{each_parts, parts_one}
@@ -9,28 +9,31 @@ use Rattle.answer_parts.specs.Parts.{Share, Part, no_share}
 use Rattle.event_reading.specs.SchemaOf.{schema_of}
 use Rattle.event_schema.specs.Schemas.{IsSchema}
 use Rattle.event_schema.specs.declared.schema.Schema.{Schema}
+use Rattle.rule_building.specs.Unbuilt.{Unbuilt, none_unbuilt}
 use Rattle.rule_model.specs.Plain.{PlainRule}
 use Rattle.rule_queries.specs.NamedQueries.{query_of, Converts, IsConverted}
 use Rattle.rule_queries.specs.declared.backend_name.BackendName.{BackendName}
 use Rattle.rule_runs.specs.Files.{file_start}
 use Rattle.sig_base.specs.Judged.{refusal as refused_at}
 use Rattle.sig_base.specs.declared.limits.Limits.{Limits}
-use Rattle.sigma_app.proofs.Documented.{each_document, each_file, one_document, one_file}
+use Rattle.sigma_app.proofs.Documented.{each_document_at, each_file_at, one_document_at, one_file_at}
 use Rattle.sigma_app.proofs.Filed.{each_part, one_part}
+use Rattle.sigma_app.proofs.Grown.{grown_nothing, parts_as}
 use Rattle.sigma_app.proofs.Judged.{each_checks, each_converts, one_checks, one_converts}
+use Rattle.sigma_app.proofs.Lifted.{nowhere, convert_places, run_places, query_places}
+use Rattle.sigma_app.proofs.Placed.{none_of_files}
+use Rattle.sigma_app.proofs.Ran.{each_ran_cut}
 use Rattle.sigma_app.proofs.Schemed.{each_schema}
 use Rattle.sigma_app.specs.Check.{CheckGives}
 use Rattle.sigma_app.specs.Convert.{ConvertGives, has_query, no_query, ConvertMeans, means_rule, means_none}
-use Rattle.sigma_app.specs.Converted.{Converted, RulesBy}
-use Rattle.sigma_app.specs.Laws.{EachDocument, EachFile, EachAnswer, EachConverted, EachQueried, EachRan, OneDocument, OneFile, OneQueried, OneUnder, OneAnswer, OfBoth, EachRule, OneRule, EachLone, OneLone, QueriesMean, AnswersMean}
-use Rattle.sigma_app.specs.Reports.{refusal_share}
-use Rattle.sigma_app.proofs.Lifted.{query_places}
+use Rattle.sigma_app.specs.Converted.{RulesAt, RulesBySome}
 use Rattle.sigma_app.specs.Languages.{AskedBy, AskedAt}
-use Rattle.sigma_app.specs.Ran.{RanUnder, Ran}
-use Rattle.sigma_app.specs.RuleFiles.{DocumentGives, as_one, by_document, RuleFile, contents}
+use Rattle.sigma_app.specs.Laws.{EachDocument, EachFile, EachUnder, EachAnswer, EachConverted, EachQueried, EachRan, OneDocument, OneFile, OneQueried, OneUnder, OneAnswer, OfBoth, EachRule, OneRule, EachLone, OneLone, QueriesMean, AnswersMean}
+use Rattle.sigma_app.specs.Ran.{RanUnder, RanBySome}
+use Rattle.sigma_app.specs.Reports.{refusal_share}
+use Rattle.sigma_app.specs.RuleFiles.{Grown, DocumentGives, as_one_at, by_document_at, RuleFileAt, contents, paired}
 use Rattle.sigma_app.specs.UnderSchema.{BySchema, UnderSchema, without, under, refused, file_part}
 use Rattle.sigma_app.specs.declared.request.Request.TheVariants.{Check, Convert, Run, Query}
-use Rattle.text_places.specs.Places.{CodeAt}
 use Rattle.yaml_bounds.specs.Laws.{TextsAreScalars}
 use Rattle.yaml_documents.specs.Verdicts as yaml
 use Rattle.yaml_tree.specs.Texts.{HasScalarTexts, AnswerHas}
@@ -38,62 +41,57 @@ use Rattle.yaml_tree.specs.Tree.{Tree, Answer, tree, refusal}
 
 pub both_documents : EachRule → EachLone → OfBoth EachDocument
 both_documents rule lone limits = (
-  each_document (CheckGives limits) (each_checks rule limits),
-  λ backend given. each_document (ConvertGives backend limits given) (each_converts lone backend limits given),
+  each_document_at (CheckGives limits) (each_checks rule limits),
+  λ backend given. each_document_at (ConvertGives backend limits given) (each_converts lone backend limits given),
 )
 
 pub both_files : EachRule → EachLone → yaml.EachVerdict → OfBoth EachFile
 both_files rule lone file limits = (
-  each_file (CheckGives limits) (each_checks rule limits) file,
-  λ backend given. each_file (ConvertGives backend limits given) (each_converts lone backend limits given) file,
+  each_file_at (CheckGives limits) (each_checks rule limits) file,
+  λ backend given. each_file_at (ConvertGives backend limits given) (each_converts lone backend limits given) file,
 )
 
--- rule files under a schema, or under those that are made of their rules
-abbrev FilesUnder : BackendName → Limits → Option Schema → List (List ℕ) → World → List Part → Type 0
-FilesUnder backend limits given rules world parts = EachPart (RuleFile (ConvertGives backend limits given) limits) rules world parts
-
-each_under : OfBoth EachFile → (backend : BackendName) (limits : Limits) (given : Option Schema) (rules : List (List ℕ)) (world : World) → (parts : List Part) × FilesUnder backend limits given rules world parts
-each_under file backend limits given rules world =
-    each_parts (RuleFile (ConvertGives backend limits given) limits) (each_part (ConvertGives backend limits given) limits ((file limits).1 backend given)) rules world
-
 pub each_converted : OfBoth EachFile → EachConverted
-each_converted file backend limits rules given world = each_under file backend limits given rules world
+each_converted file backend limits unbuilt rules given world =
+    each_parts (RuleFileAt (ConvertGives backend limits given) limits) (each_part (ConvertGives backend limits given) limits ((file limits).1 backend given)) (paired [] unbuilt rules) world
 
--- an answer without a query has no refused places
-abbrev Unplaced : (List Part → Type 0) → List Part → Type 0
-Unplaced P parts = (places : List CodeAt) × (places ≡ []) × P parts
-
-unplaced : (P : List Part → Type 0) → (parts : List Part) × P parts → (parts : List Part) × Unplaced P parts
-unplaced P (parts, is) = (parts, ([], refl, is))
+-- whatever the builder refused, there is an answer that is cut off
+pub each_converted_cut : EachConverted → (backend : BackendName) (limits : Limits) (rules before after : List (List ℕ)) → Grown before after
+    → EachUnder (RulesBySome (ConvertGives backend limits) limits rules before after false)
+each_converted_cut each backend limits rules before after (gained, follows) given world =
+    let all = each backend limits [] rules given world in
+    (all.0, record { unbuilt = []; gained = gained; follows = follows; are = none_of_files limits gained world rules; each = all.1 })
 
 pub each_answer : EachRule → EachLone → yaml.EachVerdict → EachRan → EachQueried → EachAnswer
 each_answer rule lone file ran queried limits built (Check rules) world =
-    unplaced (EachPart (RuleFile (CheckGives limits) limits) rules world)
-    (each_parts (RuleFile (CheckGives limits) limits) (each_part (CheckGives limits) limits (both_files rule lone file limits).0) rules world)
+    let all = each_parts (RuleFileAt (CheckGives limits) limits) (each_part (CheckGives limits) limits (both_files rule lone file limits).0) (paired [] [] rules) world in
+    (all.0, (nowhere, ([], sym (append-nil built), none_of_files limits [] world rules), all.1))
 each_answer rule lone file ran queried limits built (Convert backend schema rules) world =
-    unplaced (Converted (ConvertGives backend limits) limits schema rules world)
-    (each_schema (RulesBy (ConvertGives backend limits) limits rules) limits (each_converted (both_files rule lone file) backend limits rules) schema world)
-each_answer rule lone file ran queried limits built (Run schema file_run) world = unplaced (Ran limits schema file_run world) (each_schema (RanUnder limits file_run) limits (ran limits file_run) schema world)
+    let a = each_schema (RulesBySome (ConvertGives backend limits) limits rules built built false) limits
+    (each_converted_cut (each_converted (both_files rule lone file)) backend limits rules built built (grown_nothing built)) schema world in
+    (a.0, convert_places limits built built false schema backend rules world a.0 a.1)
+each_answer rule lone file ran queried limits built (Run schema rule_file) world =
+    let a = each_schema (RanBySome limits rule_file built built false) limits (each_ran_cut ran limits rule_file built built (grown_nothing built)) schema world in
+    (a.0, run_places limits built built false schema rule_file world a.0 a.1)
 each_answer rule lone file ran queried limits built (Query backend schema query) world =
     let a = each_schema (AskedBy backend limits query built built false) limits (queried backend limits query built built [] (sym (append-nil built))) (Some schema) world in
     (a.0, query_places backend limits schema query built built false world a.0 a.1)
 
 pub one_documents : OneRule → OneLone → OfBoth OneDocument
 one_documents rule lone limits = (
-  one_document (CheckGives limits) (one_checks rule limits),
-  λ backend given. one_document (ConvertGives backend limits given) (one_converts lone backend limits given),
+  one_document_at (CheckGives limits) (one_checks rule limits),
+  λ backend given. one_document_at (ConvertGives backend limits given) (one_converts lone backend limits given),
 )
 
 pub one_files : OneRule → OneLone → yaml.NeverBoth → yaml.OneList → yaml.OneRefusal → OfBoth OneFile
 one_files rule lone never list cause limits = (
-  one_file (CheckGives limits) (one_checks rule limits) never list cause,
-  λ backend given. one_file (ConvertGives backend limits given) (one_converts lone backend limits given) never list cause,
+  one_file_at (CheckGives limits) (one_checks rule limits) never list cause,
+  λ backend given. one_file_at (ConvertGives backend limits given) (one_converts lone backend limits given) never list cause,
 )
 
-one_under : OfBoth OneFile → (backend : BackendName) (limits : Limits) (given : Option Schema) (rules : List (List ℕ)) (world : World) (a b : List Part)
-    → FilesUnder backend limits given rules world a → FilesUnder backend limits given rules world b → a ≡ b
-one_under file backend limits given rules world a b first second =
-    parts_one (RuleFile (ConvertGives backend limits given) limits) (one_part (ConvertGives backend limits given) limits ((file limits).1 backend given)) rules world a b first second
+one_under : OfBoth OneFile → (backend : BackendName) (limits : Limits) (unbuilt : List (List Unbuilt)) (rules : List (List ℕ)) → OneUnder (RulesAt (ConvertGives backend limits) limits unbuilt rules)
+one_under file backend limits unbuilt rules given world a b first second =
+    parts_one (RuleFileAt (ConvertGives backend limits given) limits) (one_part (ConvertGives backend limits given) limits ((file limits).1 backend given)) (paired [] unbuilt rules) world a b first second
 
 -- ---- one answer under a schema
 
@@ -161,59 +159,66 @@ module _ (by : BySchema) (one_by : OneUnder by) (limits : Limits) (schema : Opti
 
 -- one answer to a file that is run
 abbrev pub OneRan : Type 0
-OneRan = (limits : Limits) (file : List ℕ) → OneUnder (RanUnder limits file)
+OneRan = (limits : Limits) (unbuilt : Unbuilt) (file : List ℕ) → OneUnder (RanUnder limits unbuilt file)
 
 pub one_answer : OfBoth OneFile → OneRan → OneQueried → OneAnswer
-one_answer file ran queried limits places (Check rules) world a b first second = parts_one (RuleFile (CheckGives limits) limits) (one_part (CheckGives limits) limits (file limits).0) rules world a b first second
+one_answer file ran queried limits places (Check rules) world a b first second =
+    parts_one (RuleFileAt (CheckGives limits) limits) (one_part (CheckGives limits) limits (file limits).0) (paired [] places.documents rules) world a b first second
 one_answer file ran queried limits places (Convert backend schema rules) world a b first second =
-    one_schema (RulesBy (ConvertGives backend limits) limits rules) (λ given w x y. one_under file backend limits given rules w x y) limits schema world a b first second
-one_answer file ran queried limits places (Run schema rule) world a b first second = one_schema (RanUnder limits rule) (ran limits rule) limits schema world a b first second
+    one_schema (RulesAt (ConvertGives backend limits) limits places.documents rules) (one_under file backend limits places.documents rules) limits schema world a b first second
+one_answer file ran queried limits places (Run schema rule) world a b first second = one_schema (RanUnder limits places.rule rule) (ran limits places.rule rule) limits schema world a b first second
 one_answer file ran queried limits places (Query backend schema query) world a b first second =
-    one_schema (AskedAt backend limits query places) (queried backend limits query places) limits (Some schema) world a b first second
+    one_schema (AskedAt backend limits query places.query) (queried backend limits query places.query) limits (Some schema) world a b first second
 
 -- ---- what queries mean
 
 abbrev pub RuleMeans : Type 0
 RuleMeans =
-    (backend : BackendName) (limits : Limits) (given : Option Schema) (t : Tree) (rule : PlainRule) → IfSome given IsSchema → HasScalarTexts t
-    → IsConverted backend limits given t rule → Converts backend limits given rule (query_of backend given rule)
+    (backend : BackendName) (unbuilt : Unbuilt) (limits : Limits) (given : Option Schema) (t : Tree) (rule : PlainRule) → IfSome given IsSchema → HasScalarTexts t
+    → IsConverted backend unbuilt limits given t rule → Converts backend limits given rule (query_of backend given rule)
 
 module _ (means : RuleMeans) (backend : BackendName) (limits : Limits) (given : Option Schema) (kept : IfSome given IsSchema) (name : List ℕ) where
-  tree_means : (t : Tree) (share : Share) → HasScalarTexts t → ConvertGives backend limits given name t share → ConvertMeans backend limits given name t share
-  tree_means t share texts (has_query rule is share_is) = means_rule rule is (means backend limits given t rule kept texts is) share_is
-  tree_means t share texts (no_query r is share_is) = means_none r is share_is
+  tree_means : (unbuilt : Unbuilt) (t : Tree) (share : Share) → HasScalarTexts t → ConvertGives backend limits given unbuilt name t share → ConvertMeans backend limits given unbuilt name t share
+  tree_means unbuilt t share texts (has_query rule is share_is) = means_rule rule is (means backend unbuilt limits given t rule kept texts is) share_is
+  tree_means unbuilt t share texts (no_query r is share_is) = means_none r is share_is
 
-  document_means : (d : Answer) (share : Share) → AnswerHas d → DocumentGives (ConvertGives backend limits given) name d share → DocumentGives (ConvertMeans backend limits given) name d share
-  document_means (tree t) share texts gives = tree_means t share texts gives
-  document_means (refusal p) share texts gives = gives
+  abbrev Gives : Unbuilt × Answer → Share → Type 0
+  Gives d share = DocumentGives (ConvertGives backend limits given d.0) name d.1 share
 
-  documents_mean : (ds : List Answer) (shares : List Share) → AllByRecursion AnswerHas ds → EachShare (DocumentGives (ConvertGives backend limits given) name) ds shares
-      → EachShare (DocumentGives (ConvertMeans backend limits given) name) ds shares
-  documents_mean [] [] texts each = tt
-  documents_mean [] (s ∷ shares) texts each = absurd each
-  documents_mean (d ∷ ds) [] texts each = absurd each
-  documents_mean (d ∷ ds) (s ∷ shares) texts each = (document_means d s texts.0 each.0, documents_mean ds shares texts.1 each.1)
+  abbrev Means : Unbuilt × Answer → Share → Type 0
+  Means d share = DocumentGives (ConvertMeans backend limits given d.0) name d.1 share
+
+  document_means : (unbuilt : Unbuilt) (d : Answer) (share : Share) → AnswerHas d → Gives (unbuilt, d) share → Means (unbuilt, d) share
+  document_means unbuilt (tree t) share texts gives = tree_means unbuilt t share texts gives
+  document_means unbuilt (refusal p) share texts gives = gives
+
+  documents_mean : (unbuilt : List Unbuilt) (ds : List Answer) (shares : List Share) → AllByRecursion AnswerHas ds → EachShare Gives (paired none_unbuilt unbuilt ds) shares
+      → EachShare Means (paired none_unbuilt unbuilt ds) shares
+  documents_mean unbuilt [] [] texts each = tt
+  documents_mean unbuilt [] (s ∷ shares) texts each = absurd each
+  documents_mean [] (d ∷ ds) [] texts each = absurd each
+  documents_mean (u ∷ unbuilt) (d ∷ ds) [] texts each = absurd each
+  documents_mean [] (d ∷ ds) (s ∷ shares) texts each = (document_means none_unbuilt d s texts.0 each.0, documents_mean [] ds shares texts.1 each.1)
+  documents_mean (u ∷ unbuilt) (d ∷ ds) (s ∷ shares) texts each = (document_means u d s texts.0 each.0, documents_mean unbuilt ds shares texts.1 each.1)
 
 pub queries_mean : RuleMeans → TextsAreScalars → QueriesMean
-queries_mean means texts backend limits given kept name bytes share (as_one p refused_so is) = as_one p refused_so is
-queries_mean means texts backend limits given kept name bytes share (by_document ds taken (shares, each, is)) =
-    by_document ds taken (shares, documents_mean means backend limits given kept name ds shares (texts limits.file_bytes limits.documents limits.yaml_depth bytes ds taken) each, is)
+queries_mean means texts backend limits given kept unbuilt name bytes share (as_one_at p refused_so is) = as_one_at p refused_so is
+queries_mean means texts backend limits given kept unbuilt name bytes share (by_document_at ds taken (shares, each, is)) =
+    by_document_at ds taken (shares, documents_mean means backend limits given kept name unbuilt ds shares (texts limits.file_bytes limits.documents limits.yaml_depth bytes ds taken) each, is)
 
 -- the parts of rule files, said of what the queries mean
-parts_mean : QueriesMean → (backend : BackendName) (limits : Limits) (given : Option Schema) → IfSome given IsSchema → (rules : List (List ℕ)) (world : World) (parts : List Part)
-    → FilesUnder backend limits given rules world parts → EachPart (RuleFile (ConvertMeans backend limits given) limits) rules world parts
-parts_mean means backend limits given kept [] world [] each = tt
-parts_mean means backend limits given kept [] world (p ∷ parts) each = absurd each
-parts_mean means backend limits given kept (r ∷ rules) world [] each = absurd each
-parts_mean means backend limits given kept (r ∷ rules) world (p ∷ parts) each =
-    (record { input = each.0.input; share = means backend limits given kept r _ p.share each.0.share }, parts_mean means backend limits given kept rules world parts each.1)
+parts_mean : QueriesMean → (backend : BackendName) (limits : Limits) (given : Option Schema) → IfSome given IsSchema → (files : List (List Unbuilt × List ℕ)) (world : World) (parts : List Part)
+    → EachPart (RuleFileAt (ConvertGives backend limits given) limits) files world parts → EachPart (RuleFileAt (ConvertMeans backend limits given) limits) files world parts
+parts_mean means backend limits given kept files world parts each =
+    parts_as (RuleFileAt (ConvertGives backend limits given) limits) (RuleFileAt (ConvertMeans backend limits given) limits)
+    (λ file w part is. record { input = is.input; share = means backend limits given kept file.0 file.1 (contents w.files file.1) part.share is.share }) files world parts each
 
 -- bytes that are a schema keep what every schema keeps
 abbrev pub SchemasKept : Type 0
 SchemasKept = (limits : Limits) (bytes : List ℕ) (schema : Schema) → schema_of limits bytes ≡ Ok schema → IsSchema schema
 
 pub answers_mean : QueriesMean → SchemasKept → AnswersMean
-answers_mean means kept backend limits schema rules world parts (without is each) = without is (parts_mean means backend limits None tt rules world parts each)
-answers_mean means kept backend limits schema rules world parts (under name is given so others each same) =
-    under name is given so others (parts_mean means backend limits (Some given) (kept limits (contents world.files name) given so) rules world others each) same
-answers_mean means kept backend limits schema rules world parts (refused name is code so same) = refused name is code so same
+answers_mean means kept backend limits unbuilt schema rules world parts (without is each) = without is (parts_mean means backend limits None tt (paired [] unbuilt rules) world parts each)
+answers_mean means kept backend limits unbuilt schema rules world parts (under name is given so others each same) =
+    under name is given so others (parts_mean means backend limits (Some given) (kept limits (contents world.files name) given so) (paired [] unbuilt rules) world others each) same
+answers_mean means kept backend limits unbuilt schema rules world parts (refused name is code so same) = refused name is code so same

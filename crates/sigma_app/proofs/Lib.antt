@@ -1,10 +1,12 @@
 pub mod Documented
 pub mod Filed
 pub mod Fronts
+pub mod Grown
 pub mod Judged
 pub mod Laws
 pub mod Lifted
 pub mod Named
+pub mod Placed
 pub mod Queried
 pub mod Ran
 pub mod ReportLines

@@ -11,9 +11,9 @@ use Rattle.answer_parts.specs.declared.stop.Stop.{Stop}
 use Rattle.answer_parts.specs.declared.stop.Stop.TheVariants as stop
 use Rattle.rule_queries.specs.declared.backend_name.BackendName.{BackendName}
 use Rattle.sig_base.specs.declared.limits.Limits.{Limits}
-use Rattle.sigma_app.proofs.Lifted.{places_cut}
+use Rattle.sigma_app.proofs.Lifted.{nowhere, places_cut}
 use Rattle.sigma_app.proofs.Wording.{one_request, decided}
-use Rattle.sigma_app.specs.Answers.{AnswersAt, ArePlaces, Answers, needs_of}
+use Rattle.sigma_app.specs.Answers.{Places, AnswersAt, ArePlaces, Answers, needs_of}
 use Rattle.sigma_app.specs.Convert.{ConvertMeans}
 use Rattle.sigma_app.specs.Converted.{Converted}
 use Rattle.sigma_app.specs.Laws.{EachAnswer, OneAnswer, AnswersMean}
@@ -24,7 +24,6 @@ use Rattle.sigma_app.specs.declared.request.Request.{Request}
 use Rattle.sigma_app.specs.declared.request.Request.TheVariants.{Convert}
 use Rattle.sigma_app.specs.declared.status.Status.{Status}
 use Rattle.sigma_app.specs.declared.status.Status.TheVariants.{Usage, ReadFault, WriteFault, Memory}
-use Rattle.text_places.specs.Places.{CodeAt}
 
 -- ---- how a run of a request ends
 
@@ -50,14 +49,14 @@ module _ (limits : Limits) (unbuilt : Unbuilt) (words : List (List ℕ)) (reques
   By ended = Answers limits unbuilt.before unbuilt.after ended request
 
   -- the places of the request are those of the words
-  of_words : (ended : Bool) (world : World) (places : List CodeAt) → ArePlaces limits unbuilt.before unbuilt.after ended request world places → PlacesOf limits unbuilt ended words world places
+  of_words : (ended : Bool) (world : World) (places : Places) → ArePlaces limits unbuilt.before unbuilt.after ended request world places → PlacesOf limits unbuilt ended words world places
   of_words ended world places are other too = subst (λ (r : Request). ArePlaces limits unbuilt.before unbuilt.after ended r world places) (one_request words request other is_accepted too) are
 
-  cut_of_words : (ended : Bool) (world : World) (places : List CodeAt) → ArePlaces limits unbuilt.before unbuilt.after ended request world places → PlacesOf limits unbuilt false words world places
+  cut_of_words : (ended : Bool) (world : World) (places : Places) → ArePlaces limits unbuilt.before unbuilt.after ended request world places → PlacesOf limits unbuilt false words world places
   cut_of_words ended world places are = of_words false world places (places_cut limits unbuilt.before unbuilt.after ended request world places are)
 
   -- where the one answer asks for no events, none were read
-  stay : OneAnswer → (world : World) (own : List Part) (places : List CodeAt) → AnswersAt limits places request world own → (NoneOfEvents own → EventsStay old.inputs new.inputs)
+  stay : OneAnswer → (world : World) (own : List Part) (places : Places) → AnswersAt limits places request world own → (NoneOfEvents own → EventsStay old.inputs new.inputs)
       → (status : Status) (parts : List Part) → Answer limits places words world status parts → NoneOfEvents parts → EventsStay old.inputs new.inputs
   stay one world own places own_answer quiet status parts (accepted another too answers is) none =
       let same : parts ≡ own = one limits places request world parts own
@@ -71,16 +70,17 @@ module _ (limits : Limits) (unbuilt : Unbuilt) (words : List (List ℕ)) (reques
       let s = e.stands world (tells request is_accepted) in
       (s.1.0, cut_of_words ended world s.1.0 s.1.1, λ status parts answer none. stay one world s.0 s.1.0 s.1.2 s.3 status parts answer none)
 
-  converted : AnswersMean → (world : World) (places : List CodeAt) (parts : List Part) (backend : BackendName) (schema : Option (List ℕ)) (rules : List (List ℕ)) → AnswersAt limits places request world parts
-      → IsAccepted words (Convert backend schema rules) → Converted (ConvertMeans backend limits) limits schema rules world parts
+  converted : AnswersMean → (world : World) (places : Places) (parts : List Part) (backend : BackendName) (schema : Option (List ℕ)) (rules : List (List ℕ)) → AnswersAt limits places request world parts
+      → IsAccepted words (Convert backend schema rules) → Converted (ConvertMeans backend limits) limits places.documents schema rules world parts
   converted means world places parts backend schema rules answers too =
-      means backend limits schema rules world parts (subst (λ (r : Request). AnswersAt limits places r world parts) (one_request words request (Convert backend schema rules) is_accepted too) answers)
+      means backend limits places.documents schema rules world parts (subst (λ (r : Request). AnswersAt limits places r world parts) (one_request words request (Convert backend schema rules) is_accepted too) answers)
 
   pub serves_whole : OneAnswer → AnswersMean → (found : Bool) → Ends (needs_of request) (By true) (Ok found) old new → Serves limits unbuilt words (status_of found) old.inputs new.inputs old.streams new.streams
   serves_whole one means found e = record {
     answer = λ _ world tells. let s = e.stands world (tells request is_accepted) in
         (s.1.0, of_words true world s.1.0 s.1.1, s.0, accepted request is_accepted s.1.2 (ap status_of s.2.0), s.2.1, s.3);
-    headline = λ _ world tells backend schema rules too. let s = e.stands world (tells request is_accepted) in (s.0, converted means world s.1.0 s.0 backend schema rules s.1.2 too, s.2.1);
+    headline = λ _ world tells backend schema rules too. let s = e.stands world (tells request is_accepted) in
+        (s.1.0, of_words true world s.1.0 s.1.1, s.0, converted means world s.1.0 s.0 backend schema rules s.1.2 too, s.2.1);
     usage = λ _ other. absurd (other request is_accepted);
     unaccepted = λ is. absurd (not_usage found is);
     still = λ _. (e.cause.1, e.cause.2);
@@ -211,7 +211,7 @@ serves_nothing each limits refused words s =
     some world (inl (request, is_accepted)) =
         let a = each limits refused request world in
         (a.1.0, of_words limits (record { before = refused; after = refused }) words request is_accepted s s false world a.1.0 a.1.1, status_of (share_of a.0).refused, a.0, accepted request is_accepted a.1.2 refl, cut_nothing (share_of a.0) s.streams)
-    some world (inr other) = ([], (λ request too. absurd (other request too)), Usage, usage_part ∷ [], unaccepted other refl refl, cut_nothing (share_of (usage_part ∷ [])) s.streams)
+    some world (inr other) = (nowhere, (λ request too. absurd (other request too)), Usage, usage_part ∷ [], unaccepted other refl refl, cut_nothing (share_of (usage_part ∷ [])) s.streams)
 
 -- ---- words that aren't accepted
 
@@ -219,7 +219,7 @@ abbrev IsUsage : Share → Type 0
 IsUsage share = share ≡ usage_share
 
 module _ (limits : Limits) (unbuilt : Unbuilt) (words : List (List ℕ)) (other : IsUnaccepted words) (old new : State) where
-  no_places : (ended : Bool) (world : World) → PlacesOf limits unbuilt ended words world []
+  no_places : (ended : Bool) (world : World) → PlacesOf limits unbuilt ended words world nowhere
   no_places ended world request too = absurd (other request too)
 
   same_gains : (share : Share) → IsUsage share → Gains share old.streams new.streams → Gains (share_of (usage_part ∷ [])) old.streams new.streams
@@ -230,7 +230,7 @@ module _ (limits : Limits) (unbuilt : Unbuilt) (words : List (List ℕ)) (other 
 
   pub serves_usage : (found : Bool) → Writes IsUsage (Ok found) old new → Serves limits unbuilt words Usage old.inputs new.inputs old.streams new.streams
   serves_usage found w = record {
-    answer = λ _ world _. ([], no_places true world, usage_part ∷ [], unaccepted other refl refl, same_gains w.share w.is w.outcome.1, λ none. (ap (λ (i : Inputs). i.left) w.inputs, ap (λ (i : Inputs). i.faults) w.inputs));
+    answer = λ _ world _. (nowhere, no_places true world, usage_part ∷ [], unaccepted other refl refl, same_gains w.share w.is w.outcome.1, λ none. (ap (λ (i : Inputs). i.left) w.inputs, ap (λ (i : Inputs). i.faults) w.inputs));
     headline = λ _ world _ backend schema rules too. absurd (other (Convert backend schema rules) too);
     usage = λ _ _. refl;
     unaccepted = λ _. other;
@@ -239,7 +239,7 @@ module _ (limits : Limits) (unbuilt : Unbuilt) (words : List (List ℕ)) (other 
     write_fault = λ is. absurd (apart_too is);
     after_fault = λ is. absurd is;
     apart = λ _. (ap (λ (i : Inputs). i.left) w.inputs, ap (λ (i : Inputs). i.faults) w.inputs);
-    unasked = λ world tells. ([], no_places false world, λ status parts answer none. (ap (λ (i : Inputs). i.left) w.inputs, ap (λ (i : Inputs). i.faults) w.inputs));
+    unasked = λ world tells. (nowhere, no_places false world, λ status parts answer none. (ap (λ (i : Inputs). i.left) w.inputs, ap (λ (i : Inputs). i.faults) w.inputs));
   }
     where
       apart : Usage ≡ ReadFault → ⊥
@@ -257,9 +257,9 @@ module _ (limits : Limits) (unbuilt : Unbuilt) (words : List (List ℕ)) (other 
     still = λ is. absurd is;
     read_fault = λ is. absurd (apart is);
     write_fault = λ _. w.outcome.1;
-    after_fault = λ _. (None, (λ _. refl), (λ _. (ap (λ (i : Inputs). i.failed) w.inputs, ap (λ (i : Inputs). i.faults) w.inputs)), λ world _. ([], no_places false world, Usage, usage_part ∷ [], unaccepted other refl refl, same_cut w.share w.is w.outcome.0));
+    after_fault = λ _. (None, (λ _. refl), (λ _. (ap (λ (i : Inputs). i.failed) w.inputs, ap (λ (i : Inputs). i.faults) w.inputs)), λ world _. (nowhere, no_places false world, Usage, usage_part ∷ [], unaccepted other refl refl, same_cut w.share w.is w.outcome.0));
     apart = λ _. (ap (λ (i : Inputs). i.left) w.inputs, ap (λ (i : Inputs). i.faults) w.inputs);
-    unasked = λ world tells. ([], no_places false world, λ status parts answer none. (ap (λ (i : Inputs). i.left) w.inputs, ap (λ (i : Inputs). i.faults) w.inputs));
+    unasked = λ world tells. (nowhere, no_places false world, λ status parts answer none. (ap (λ (i : Inputs). i.left) w.inputs, ap (λ (i : Inputs). i.faults) w.inputs));
   }
     where
       apart : WriteFault ≡ ReadFault → ⊥
@@ -268,8 +268,8 @@ module _ (limits : Limits) (unbuilt : Unbuilt) (words : List (List ℕ)) (other 
   pub usage_memory : (s : Stop) → Writes IsUsage (Err s) old new → Serves limits unbuilt words Memory old.inputs new.inputs old.streams new.streams
   usage_memory s w =
       serves_cut limits unbuilt words old new (λ _. (ap (λ (i : Inputs). i.left) w.inputs, ap (λ (i : Inputs). i.faults) w.inputs))
-      (λ world tells. ([], no_places false world, λ status parts answer none. (ap (λ (i : Inputs). i.left) w.inputs, ap (λ (i : Inputs). i.faults) w.inputs)))
-      (λ world _. ([], no_places false world, Usage, usage_part ∷ [], unaccepted other refl refl, same_cut w.share w.is (cut s w.outcome)))
+      (λ world tells. (nowhere, no_places false world, λ status parts answer none. (ap (λ (i : Inputs). i.left) w.inputs, ap (λ (i : Inputs). i.faults) w.inputs)))
+      (λ world _. (nowhere, no_places false world, Usage, usage_part ∷ [], unaccepted other refl refl, same_cut w.share w.is (cut s w.outcome)))
     where
       cut : (by : Stop) → Outcome w.share (Err by) old.streams new.streams → Cut w.share old.streams new.streams
       cut stop.Unread outcome = absurd outcome

@@ -14,43 +14,48 @@ use Rattle.event_lines.specs.Lines.{lines_of}
 use Rattle.event_reading.specs.EventOf.{event_of}
 use Rattle.event_reading.specs.SchemaOf.{schema_of}
 use Rattle.event_schema.specs.Events.{IsEvent}
-use Rattle.event_schema.specs.Lists.{EachOf}
+use Rattle.event_schema.specs.Lists.{EachOf, SomeOf, HasElement}
 use Rattle.event_schema.specs.Occurrence.{Occurrence}
 use Rattle.event_schema.specs.declared.schema.Schema.{Schema}
 use Rattle.event_schema.specs.declared.value.Value.{Value}
-use Rattle.languages.specs.RefusedPlaces.{PatternAt}
+use Rattle.languages.specs.RefusedPlaces.{PatternAt, IsAmong}
 use Rattle.query_files.specs.Ended.{with_line_feed, SameWithLineFeed, RefusedForPatterns}
 use Rattle.query_files.proofs.Text.{one_more}
 use Rattle.query_runs.specs.Asked.{too_large, unread, most_bytes}
+use Rattle.rule_building.specs.Unbuilt.{Unbuilt, none_unbuilt, unbuilt_refusal, ArePlacesOf}
+use Rattle.rule_items.specs.declared.expression.Expression.{Expression}
 use Rattle.rule_matching.specs.Matching.{Matches}
+use Rattle.rule_model.specs.AsBuilt.{IsRefusedAsBuilt}
+use Rattle.rule_model.specs.Expressions.{document_expressions, rule_expressions}
 use Rattle.rule_model.specs.Plain.{PlainRule}
-use Rattle.rule_model.specs.Rules.{IsLoneRule}
+use Rattle.rule_model.specs.Rules.{lone_refusal, IsLoneRule}
 use Rattle.rule_queries.specs.NamedQueries.{Query as QueryOf, is_query, is_within, picks, text, missing, too_deep, query_of, Converts, IsConverted}
 use Rattle.rule_queries.specs.Queries.{query_under, checks_under}
 use Rattle.rule_queries.specs.declared.backend_name.BackendName.{BackendName}
 use Rattle.rule_queries.specs.declared.backend_name.BackendName.TheVariants as backends
 use Rattle.rule_runs.specs.Files.{single_tree}
 use Rattle.rule_runs.specs.Laws as running
-use Rattle.rule_runs.specs.Runs.{IsSingleRule, IsRun}
+use Rattle.rule_runs.specs.Runs.{AreDocuments, no_tree, no_rule, IsSingleRule, IsNoSingleRule, as_one, by_document, no_single, unfit, IsRun, IsNotRun, no_fit, not_built, AreOfSingle}
 use Rattle.rule_schema.specs.Inferred.{unfit_refusal}
 use Rattle.selected_lines.proofs.Selected.{one_selected}
 use Rattle.selected_lines.specs.Selected.{Picking, EventGives, Selects}
-use Rattle.sig_base.specs.Judged.{first}
+use Rattle.sig_base.specs.Judged.{first, refusal as refusal_at}
 use Rattle.sig_base.specs.declared.faults.LineStep.{LineStep}
 use Rattle.sig_base.specs.declared.limits.Limits.{Limits}
 use Rattle.sig_base.specs.declared.refusal.Detail.TheVariants.{Numbers}
+use Rattle.sig_base.specs.declared.refusal.Place.{Place}
 use Rattle.sig_base.specs.declared.refusal.Refusal.{Refusal}
 use Rattle.sigma_app.proofs.Wording.{one_request}
-use Rattle.sigma_app.specs.Answers.{AnswersAt}
+use Rattle.sigma_app.specs.Answers.{Places, AnswersAt}
 use Rattle.sigma_app.specs.Convert.{ConvertMeans, means_rule, means_none}
-use Rattle.sigma_app.specs.Converted.{RulesBy}
+use Rattle.sigma_app.specs.Converted.{RulesAt}
 use Rattle.sigma_app.specs.Languages.{patterns, refuses, AskedAt, AreUnbuilt}
 use Rattle.sigma_app.specs.Laws.{OneLone, AnswersMean}
 use Rattle.sigma_app.specs.Queried.{asks, doesnt_ask, IsOfBuilder}
 use Rattle.sigma_app.specs.Ran.{RunGives, RanUnder, runs, isnt_run}
 use Rattle.sigma_app.specs.Reports.{line_share, refusal_share}
-use Rattle.sigma_app.specs.RuleFiles.{ByTree, DocumentGives, FileGives, as_one, by_document, RuleFile, contents}
-use Rattle.sigma_app.specs.SameLines.{Call, AreOfRule, AnswersAlike, RefusesPattern, SameLines, SameWithoutRefusals, SameByLucene}
+use Rattle.sigma_app.specs.RuleFiles.{ByUnbuilt, DocumentGives, FileGivesAt, as_one_at, by_document_at, RuleFileAt, contents, paired}
+use Rattle.sigma_app.specs.SameLines.{Call, AreOfRule, AnswersAlike, RefusesPattern, RefusesExpression, SameLines, SameWithoutRefusals, SameByLucene}
 use Rattle.sigma_app.specs.Served.{Answer, accepted, unaccepted, status_of}
 use Rattle.sigma_app.specs.UnderSchema.{BySchema, UnderSchema, without, under, refused, file_part}
 use Rattle.sigma_app.specs.Words.{IsAccepted}
@@ -91,7 +96,7 @@ module _ (kept : EventsKept) (schema : Schema) (Picks Others : Picking) (same : 
 
 -- ---- calls
 
-answered_as : (limits : Limits) (places : List CodeAt) (words : List (List ℕ)) (world : World) (status : Status) (parts : List Part) (request : Request) → IsAccepted words request
+answered_as : (limits : Limits) (places : Places) (words : List (List ℕ)) (world : World) (status : Status) (parts : List Part) (request : Request) → IsAccepted words request
     → Answer limits places words world status parts → AnswersAt limits places request world parts × (status ≡ status_of (share_of parts).refused)
 answered_as limits places words world status parts request is (accepted other is_too at ends) =
     (subst (λ (q : Request). AnswersAt limits places q world parts) (one_request words other request is_too is) at, ends)
@@ -151,9 +156,9 @@ within_most n most r is = by (nat_le n most) refl is
     by false large none = absurd (none_some r none)
 
 -- a rule with a query fits its schema, and the query has no more bytes than one may have
-module _ (backend : BackendName) (limits : Limits) (given : Schema) (top : Tree) (rule : PlainRule) (is : IsConverted backend limits (Some given) top rule) where
-  no_refusal : EachOf (λ check. check ≡ None) (checks_under (missing backend) (text backend) (too_deep backend) limits given rule)
-  no_refusal = all_none (checks_under (missing backend) (text backend) (too_deep backend) limits given rule) is.written
+module _ (backend : BackendName) (unbuilt : Unbuilt) (limits : Limits) (given : Schema) (top : Tree) (rule : PlainRule) (is : IsConverted backend unbuilt limits (Some given) top rule) where
+  no_refusal : EachOf (λ check. check ≡ None) (checks_under (missing backend) (text backend) (too_deep backend) unbuilt.items limits given rule)
+  no_refusal = all_none (checks_under (missing backend) (text backend) (too_deep backend) unbuilt.items limits given rule) is.written
 
   fits_none : unfit_refusal (Some given) rule ≡ None
   fits_none = let fits = no_refusal.0 in rw fits refl
@@ -162,7 +167,7 @@ module _ (backend : BackendName) (limits : Limits) (given : Schema) (top : Tree)
   unfolding query_under
   query_short =
       let size : ℕ = length (query_of backend (Some given) rule) in
-      within_most size limits.query_bytes (record { code = 114; place = rule.head.place; detail = Numbers (pos size) (pos limits.query_bytes) }) no_refusal.1.1.1.1.0
+      within_most size limits.query_bytes (record { code = 114; place = rule.head.place; detail = Numbers (pos size) (pos limits.query_bytes) }) no_refusal.1.1.1.1.1.0
 
 -- ---- the one document of the rule's file
 
@@ -172,18 +177,18 @@ tree_ok t = Ok t
 abbrev tree_err : Refusal → Result Tree Refusal
 tree_err r = Err r
 
-no_tree : (r : Refusal) (t : Tree) → tree_err r ≡ tree_ok t → ⊥
-no_tree r t same = cc
+no_top : (r : Refusal) (t : Tree) → tree_err r ≡ tree_ok t → ⊥
+no_top r t same = cc
 
 same_tree : (u t : Tree) → tree_ok u ≡ tree_ok t → u ≡ t
 same_tree u t same = cc
 
 only_tree : (ds : List Document) (t : Tree) → single_tree ds ≡ Ok t → ds ≡ tree t ∷ []
-only_tree [] t is = absurd (no_tree _ t is)
+only_tree [] t is = absurd (no_top _ t is)
 only_tree (tree u ∷ []) t is = ap (λ (x : Tree). tree x ∷ []) (same_tree u t is)
-only_tree (refusal p ∷ []) t is = absurd (no_tree _ t is)
-only_tree (tree u ∷ d ∷ ds) t is = absurd (no_tree _ t is)
-only_tree (refusal p ∷ d ∷ ds) t is = absurd (no_tree _ t is)
+only_tree (refusal p ∷ []) t is = absurd (no_top _ t is)
+only_tree (tree u ∷ d ∷ ds) t is = absurd (no_top _ t is)
+only_tree (refusal p ∷ d ∷ ds) t is = absurd (no_top _ t is)
 
 one_share : {X : Type 0} (gives : X → Share → Type 0) (x : X) (shares : List Share) → EachShare gives (x ∷ []) shares → (s : Share) × gives x s × (shares ≡ s ∷ [])
 one_share gives x [] each = absurd each
@@ -195,15 +200,26 @@ one_part gives x world [] each = absurd each
 one_part gives x world (p ∷ []) each = (p, each.0, refl)
 one_part gives x world (p ∷ q ∷ more) each = absurd each.1
 
+-- the places that stand beside one element
+one_pair : {A B : Type 0} (none : A) (firsts : List A) (second : B) → (first : A) × (paired none firsts (second ∷ []) ≡ (first, second) ∷ [])
+one_pair none [] second = (none, refl)
+one_pair none (first ∷ firsts) second = (first, refl)
+
 module _ (never : yaml.NeverBoth) (list : yaml.OneList) where
-  file_share : (by : ByTree) (limits : Limits) (name bytes : List ℕ) (r : PlainRule) (single : IsSingleRule limits bytes r) (share : Share) → FileGives by limits name bytes share
-      → by name single.only.top share
-  file_share by limits name bytes r single share (as_one p cause is) = absurd (never limits.file_bytes limits.documents limits.yaml_depth bytes single.documents p single.taken cause)
-  file_share by limits name bytes r single share (by_document ds taken (shares, each, is)) =
+  same_documents : (limits : Limits) (bytes : List ℕ) (ds es : List Document) → AreDocuments limits bytes ds → AreDocuments limits bytes es → ds ≡ es
+  same_documents limits bytes ds es first second = list limits.file_bytes limits.documents limits.yaml_depth bytes ds es first second
+
+  file_share : (by : ByUnbuilt) (limits : Limits) (places : List Unbuilt) (name bytes : List ℕ) (r : PlainRule) (single : IsSingleRule [] limits bytes r) (share : Share)
+      → FileGivesAt by limits places name bytes share → (unbuilt : Unbuilt) × by unbuilt name single.only.top share
+  file_share by limits places name bytes r single share (as_one_at p cause is) = absurd (never limits.file_bytes limits.documents limits.yaml_depth bytes single.documents p single.taken cause)
+  file_share by limits places name bytes r single share (by_document_at ds taken (shares, each, is)) =
       let top : Tree = single.only.top in
-      let same : ds ≡ tree top ∷ [] = list limits.file_bytes limits.documents limits.yaml_depth bytes ds single.documents taken single.taken ∙ only_tree single.documents top single.only.single in
-      let one = one_share (DocumentGives by name) (tree top) shares (subst (λ (l : List Document). EachShare (DocumentGives by name) l shares) same each) in
-      subst (by name top) (sym (is ∙ (ap joined one.2 ∙ join_nothing one.0))) one.1
+      let same : ds ≡ tree top ∷ [] = same_documents limits bytes ds single.documents taken single.taken ∙ only_tree single.documents top single.only.single in
+      let pair = one_pair none_unbuilt places (tree top) in
+      let one = one_share (λ (d : Unbuilt × Document). DocumentGives (by d.0) name d.1) (pair.0, tree top) shares
+      (subst (λ (l : List (Unbuilt × Document)). EachShare (λ (d : Unbuilt × Document). DocumentGives (by d.0) name d.1) l shares) pair.1
+      (subst (λ (l : List Document). EachShare (λ (d : Unbuilt × Document). DocumentGives (by d.0) name d.1) (paired none_unbuilt places l) shares) same each)) in
+      (pair.0, subst (by pair.0 name top) (sym (is ∙ (ap joined one.2 ∙ join_nothing one.0))) one.1)
 
 -- ---- what `convert` wrote
 
@@ -212,15 +228,17 @@ Text backend given rule = query_of backend (Some given) rule
 
 -- the tree is this rule, with this query, which means the rule, and this share has the query and a line feed
 record HasQuery (backend : BackendName) (limits : Limits) (given : Schema) (top : Tree) (rule : PlainRule) (share : Share) : Type 0 where
-  converted : IsConverted backend limits (Some given) top rule
+  unbuilt : Unbuilt
+  converted : IsConverted backend unbuilt limits (Some given) top rule
   means : Converts backend limits (Some given) rule (Text backend given rule)
   is : share ≡ line_share (Text backend given rule)
 
-tree_wrote : OneLone → (backend : BackendName) (limits : Limits) (given : Schema) (name : List ℕ) (top : Tree) (rule : PlainRule) → IsLoneRule limits top rule → (share : Share)
-    → share.refused ≡ false → ConvertMeans backend limits (Some given) name top share → HasQuery backend limits given top rule share
-tree_wrote lone backend limits given name top rule is share unrefused (means_rule other converted means so) =
-    subst (λ (r : PlainRule). HasQuery backend limits given top r share) (lone limits top other rule converted.lone is) (record { converted = converted; means = means; is = so })
-tree_wrote lone backend limits given name top rule is share unrefused (means_none r why so) = absurd (true_false (sym (ap (λ (s : Share). s.refused) so) ∙ unrefused))
+tree_wrote : OneLone → (backend : BackendName) (limits : Limits) (given : Schema) (unbuilt : Unbuilt) (name : List ℕ) (top : Tree) (rule : PlainRule) → IsLoneRule [] limits top rule → (share : Share)
+    → share.refused ≡ false → ConvertMeans backend limits (Some given) unbuilt name top share → HasQuery backend limits given top rule share
+tree_wrote lone backend limits given unbuilt name top rule is share unrefused (means_rule other converted means so) =
+    subst (λ (r : PlainRule). HasQuery backend limits given top r share) (lone unbuilt.values [] limits top other rule converted.lone is)
+    (record { unbuilt = unbuilt; converted = converted; means = means; is = so })
+tree_wrote lone backend limits given unbuilt name top rule is share unrefused (means_none r why so) = absurd (true_false (sym (ap (λ (s : Share). s.refused) so) ∙ unrefused))
 
 -- what a sink gained that tells it
 gained_text : (old new : Option (List ℕ)) (start bytes output : List ℕ) → old ≡ Some start → new ≡ Some (start ++ bytes) → Appends old new output → bytes ≡ output
@@ -230,7 +248,8 @@ gained_text old new start bytes output stood wrote gains =
 record HasWritten (limits : Limits) (backend : BackendName) (schema_bytes : List ℕ) (top : Tree) (rule : PlainRule) (bytes : List ℕ) : Type 0 where
   given : Schema
   schema : schema_of limits schema_bytes ≡ Ok given
-  converted : IsConverted backend limits (Some given) top rule
+  unbuilt : Unbuilt
+  converted : IsConverted backend unbuilt limits (Some given) top rule
   means : Converts backend limits (Some given) rule (Text backend given rule)
   is : bytes ≡ with_line_feed (Text backend given rule)
 
@@ -240,28 +259,101 @@ module _ (lone : OneLone) (mean : AnswersMean) (never : yaml.NeverBoth) (list : 
   convert_wrote limits backend convert run query calls =
       let w = convert.serves.answer convert.answered convert.world convert.told in
       let a = answered_as limits w.0 convert.words convert.world convert.status w.2 (Convert backend (Some calls.schema) (calls.rule ∷ [])) calls.converts w.3 in
-      of w.2 (mean backend limits (Some calls.schema) (calls.rule ∷ []) convert.world w.2 a.0) (status_none (share_of w.2).refused (sym calls.done ∙ a.1)) w.4.0
+      of w.0.documents w.2 (mean backend limits w.0.documents (Some calls.schema) (calls.rule ∷ []) convert.world w.2 a.0) (status_none (share_of w.2).refused (sym calls.done ∙ a.1)) w.4.0
     where
-      of : (parts : List Part) → UnderSchema (RulesBy (ConvertMeans backend limits) limits (calls.rule ∷ [])) limits (Some calls.schema) convert.world parts → (share_of parts).refused ≡ false
+      of : (places : List (List Unbuilt)) (parts : List Part) → UnderSchema (RulesAt (ConvertMeans backend limits) limits places (calls.rule ∷ [])) limits (Some calls.schema) convert.world parts → (share_of parts).refused ≡ false
           → Appends convert.old.out convert.new.out (share_of parts).output
           → HasWritten limits backend (contents convert.world.files calls.schema) calls.single.1.only.top calls.single.0 (contents query.world.files calls.file)
-      of parts (without is each) unrefused gains = absurd (none_some calls.schema is)
-      of parts (refused file is code so same) unrefused gains = absurd (true_false (sym (ap (λ (ps : List Part). (share_of ps).refused) same) ∙ unrefused))
-      of parts (under file is given so others each same) unrefused gains =
+      of places parts (without is each) unrefused gains = absurd (none_some calls.schema is)
+      of places parts (refused file is code so same) unrefused gains = absurd (true_false (sym (ap (λ (ps : List Part). (share_of ps).refused) same) ∙ unrefused))
+      of places parts (under file is given so others each same) unrefused gains =
           let here : file ≡ calls.schema = some_is file calls.schema (sym is) in
-          let one = one_part (RuleFile (ConvertMeans backend limits (Some given)) limits) calls.rule convert.world others each in
-          let answer = file_share never list (ConvertMeans backend limits (Some given)) limits calls.rule (contents convert.world.files calls.rule) calls.single.0 calls.single.1 one.0.share one.1.share in
+          let pair = one_pair [] places calls.rule in
+          let one = one_part (RuleFileAt (ConvertMeans backend limits (Some given)) limits) (pair.0, calls.rule) convert.world others
+          (subst (λ (files : List (List Unbuilt × List ℕ)). EachPart (RuleFileAt (ConvertMeans backend limits (Some given)) limits) files convert.world others) pair.1 each) in
+          let answer = file_share never list (ConvertMeans backend limits (Some given)) limits pair.0 calls.rule (contents convert.world.files calls.rule) calls.single.0 calls.single.1 one.0.share one.1.share in
           let whole : share_of parts ≡ one.0.share = ap share_of (same ∙ ap (λ (ps : List Part). file_part file no_share ∷ ps) one.2) ∙ join_nothing one.0.share in
-          let has = tree_wrote lone backend limits given calls.rule calls.single.1.only.top calls.single.0 calls.single.1.only.lone one.0.share
-          (sym (ap (λ (s : Share). s.refused) whole) ∙ unrefused) answer in
+          let has = tree_wrote lone backend limits given answer.0 calls.rule calls.single.1.only.top calls.single.0 calls.single.1.only.lone one.0.share
+          (sym (ap (λ (s : Share). s.refused) whole) ∙ unrefused) answer.1 in
           record {
             given = given;
             schema = subst (λ (n : List ℕ). schema_of limits (contents convert.world.files n) ≡ Ok given) here so;
+            unbuilt = has.unbuilt;
             converted = has.converted;
             means = has.means;
             is = gained_text convert.old.out convert.new.out calls.start (contents query.world.files calls.file) (share_of parts).output calls.stood calls.wrote gains
                 ∙ ap (λ (s : Share). s.output) (whole ∙ has.is);
           }
+
+-- ---- why a rule isn't run that is a single one, where all of its regular expressions are built
+
+abbrev pub AsBuilt : Type 0
+AsBuilt = (unbuilt : List Place) (limits : Limits) (t : Tree) → IsRefusedAsBuilt unbuilt (lone_refusal unbuilt limits t) (lone_refusal [] limits t)
+
+-- what refuses a regular expression that isn't built: nothing where there are no such places, else 48, and its place is among them
+abbrev pub AllBuilt : Type 0
+AllBuilt = (es : List Expression) → unbuilt_refusal [] es ≡ None
+
+abbrev pub IsUnbuilt : Type 0
+IsUnbuilt = (unbuilt : List Place) (es : List Expression) (r : Refusal) → unbuilt_refusal unbuilt es ≡ Some r → r ≡ refusal_at 48 r.place
+
+abbrev pub IsAmongUnbuilt : Type 0
+IsAmongUnbuilt = (unbuilt : List Place) (es : List Expression) (r : Refusal) → unbuilt_refusal unbuilt es ≡ Some r → SomeOf (λ place. place ≡ r.place) unbuilt
+
+some_among : (text : List ℕ) (gained : List (List ℕ)) → IsAmong text gained → HasElement gained
+some_among text [] is = is
+some_among text (g ∷ gained) is = tt
+
+some_of : (place : Place) (es : List Expression) (gained : List (List ℕ)) → SomeOf (λ (e : Expression). (e.place ≡ place) × IsAmong e.text gained) es → HasElement gained
+some_of place [] gained is = absurd is
+some_of place (e ∷ es) gained (inl is) = some_among e.text gained is.1
+some_of place (e ∷ es) gained (inr is) = some_of place es gained is
+
+-- where there is such a place, the builder refused something
+some_gained : (es : List Expression) (gained : List (List ℕ)) (places : List Place) → ArePlacesOf es gained places → HasElement places → HasElement gained
+some_gained es gained [] are some = absurd some
+some_gained es gained (p ∷ places) are some = some_of p es gained are.0
+
+some_place : (P : Place → Type 0) (places : List Place) → SomeOf P places → HasElement places
+some_place P [] is = is
+some_place P (p ∷ places) is = tt
+
+module _ (never : yaml.NeverBoth) (list : yaml.OneList) (lone : OneLone) (as_built : AsBuilt) (is_unbuilt : IsUnbuilt) (among : IsAmongUnbuilt) (limits : Limits) (given : Schema) (bytes : List ℕ) (rule : PlainRule)
+    (single : IsSingleRule [] limits bytes rule) (fits : unfit_refusal (Some given) rule ≡ None) (gained : List (List ℕ)) (unbuilt : Unbuilt) (are : AreOfSingle limits bytes gained true unbuilt) where
+  abbrev IsOfExpression : Refusal → Type 0
+  IsOfExpression r = (r.code ≡ 48) × HasElement gained
+
+  coded : (r : Refusal) → r ≡ refusal_at 48 r.place → r.code ≡ 48
+  coded r is = ap (λ (x : Refusal). x.code) is
+
+  -- the document of these
+  same_top : (ds : List Document) → AreDocuments limits bytes ds → (top : Tree) → single_tree ds ≡ Ok top → top ≡ single.only.top
+  same_top ds taken top is =
+      same_tree top single.only.top (sym is ∙ (ap single_tree (same_documents never list limits bytes ds single.documents taken single.taken) ∙ single.only.single))
+
+  same_rule : (values : List Place) (other : PlainRule) → IsSingleRule values limits bytes other → other ≡ rule
+  same_rule values other too =
+      let top = same_top too.documents too.taken too.only.top too.only.single in
+      lone values [] limits single.only.top other rule (subst (λ (t : Tree). IsLoneRule values limits t other) top too.only.lone) single.only.lone
+
+  no_single_of : (r : Refusal) → IsNoSingleRule unbuilt.values limits bytes r → IsOfExpression r
+  no_single_of r (as_one p cause is) = absurd (never limits.file_bytes limits.documents limits.yaml_depth bytes single.documents p single.taken cause)
+  no_single_of r (by_document ds taken (no_tree is)) =
+      absurd (no_top r single.only.top (sym is ∙ (ap single_tree (same_documents never list limits bytes ds single.documents taken single.taken) ∙ single.only.single)))
+  no_single_of r (by_document ds taken (no_rule top is refused_so)) = elim ((as_built unbuilt.values limits top).refused r refused_so) as (λ _. IsOfExpression r) [
+    | inl anyway ↦ absurd (none_some r (sym anyway ∙ subst (λ (t : Tree). lone_refusal [] limits t ≡ None) (sym (same_top ds taken top is)) single.only.lone.taken))
+    | inr of ↦ (coded r of.0, some_gained (document_expressions limits top) gained unbuilt.values (are ds taken top is).values (some_place (λ place. place ≡ r.place) unbuilt.values of.1))
+  ]
+
+  not_run_of : (r : Refusal) → IsNotRun unbuilt limits (Some given) bytes r → IsOfExpression r
+  not_run_of r (no_fit (no_single is)) = no_single_of r is
+  not_run_of r (no_fit (unfit other too is)) =
+      absurd (none_some r (sym is ∙ (ap (unfit_refusal (Some given)) (same_rule unbuilt.values other too) ∙ fits)))
+  not_run_of r (not_built other fit is) =
+      let places = are fit.single.documents fit.single.taken fit.single.only.top fit.single.only.single in (
+        coded r (is_unbuilt unbuilt.items (rule_expressions other) r is),
+        some_gained (rule_expressions other) gained unbuilt.items (places.items other fit.single.only.lone.is) (some_place (λ place. place ≡ r.place) unbuilt.items (among unbuilt.items (rule_expressions other) r is)),
+      )
 
 -- ---- what `run` answered
 
@@ -273,26 +365,43 @@ record Selected (limits : Limits) (given : Schema) (Picks : Picking) (call : Cal
   status : call.status ≡ status_of (share_of lines).refused
 
 module _ (limits : Limits) (call : Call limits) (schema file : List ℕ) (given : Schema) (so : schema_of limits (contents call.world.files schema) ≡ Ok given) where
-  run_answered : running.NeverBoth → running.OneRun → IsAccepted call.words (Run (Some schema) file) → (rule : PlainRule) → IsRun limits (Some given) (contents call.world.files file) rule
-      → Selected limits given (λ row. Matches given.fields row rule) call
-  run_answered never one words rule is_run =
+  run_answered : yaml.NeverBoth → yaml.OneList → OneLone → AsBuilt → AllBuilt → IsUnbuilt → IsAmongUnbuilt → running.OneRun → IsAccepted call.words (Run (Some schema) file) → (rule : PlainRule)
+      → IsSingleRule [] limits (contents call.world.files file) rule → unfit_refusal (Some given) rule ≡ None
+      → Selected limits given (λ row. Matches given.fields row rule) call ⊎ RefusesExpression file call
+  run_answered never list lone as_built built is_unbuilt among one words rule single fits =
       let w = call.serves.answer call.answered call.world call.told in
       let a = answered_as limits w.0 call.words call.world call.status w.2 (Run (Some schema) file) words w.3 in
-      let u = under_given (RanUnder limits file) limits schema call.world w.2 given so a.0 in
-      of w.2 u.0 u.1 u.2 w.4 a.1
+      let u = under_given (RanUnder limits w.0.rule file) limits schema call.world w.2 given so a.0 in
+      let places = w.1 (Run (Some schema) file) words (given, so) in
+      of w.0.rule places.0 places.1 places.2 w.2 u.0 u.1 u.2 w.4 a.1
     where
-      of : (parts others : List Part) → RanUnder limits file (Some given) call.world others → parts ≡ file_part schema no_share ∷ others → Gains (share_of parts) call.old call.new
-          → call.status ≡ status_of (share_of parts).refused → Selected limits given (λ row. Matches given.fields row rule) call
-      of parts others (runs other is lines each same) whole gains ends =
-          let here : other ≡ rule = one limits (Some given) (contents call.world.files file) other rule is is_run in
+      is_run : IsRun none_unbuilt limits (Some given) (contents call.world.files file) rule
+      is_run = record { fit = record { single = single; fits = fits }; built = built (rule_expressions rule) }
+
+      of : (unbuilt : Unbuilt) (gained : List (List ℕ)) → call.unbuilt.after ≡ call.unbuilt.before ++ gained → AreOfSingle limits (contents call.world.files file) gained true unbuilt → (parts others : List Part)
+          → RanUnder limits unbuilt file (Some given) call.world others → parts ≡ file_part schema no_share ∷ others → Gains (share_of parts) call.old call.new
+          → call.status ≡ status_of (share_of parts).refused → Selected limits given (λ row. Matches given.fields row rule) call ⊎ RefusesExpression file call
+      of unbuilt gained follows are parts others (runs other is lines each same) whole gains ends =
+          let here : other ≡ rule = one unbuilt none_unbuilt limits (Some given) (contents call.world.files file) other rule is is_run in
           let all : parts ≡ file_part schema no_share ∷ file_part file no_share ∷ lines = whole ∙ ap (λ (ps : List Part). file_part schema no_share ∷ ps) same in
-          record {
+          inl (record {
             lines = lines;
             each = subst (λ (r : PlainRule). EventLines (RunGives given r) limits call.world lines) here each;
             gains = subst (λ (ps : List Part). Gains (share_of ps) call.old call.new) all gains;
             status = ends ∙ ap (λ (ps : List Part). status_of (share_of ps).refused) all;
-          }
-      of parts others (isnt_run r is same) whole gains ends = absurd (never limits (Some given) (contents call.world.files file) rule r is_run is)
+          })
+      of unbuilt gained follows are parts others (isnt_run r is same) whole gains ends =
+          let all : parts ≡ file_part schema no_share ∷ file_part file (refusal_share file r) ∷ [] = whole ∙ ap (λ (ps : List Part). file_part schema no_share ∷ ps) same in
+          let why = not_run_of never list lone as_built is_unbuilt among limits given (contents call.world.files file) rule single fits gained unbuilt are r is in
+          inr (record {
+            refusal = r;
+            code = why.0;
+            gained = gained;
+            follows = follows;
+            some = why.1;
+            wrote = subst (λ (ps : List Part). Gains (share_of ps) call.old call.new) all gains;
+            status = ends ∙ ap (λ (ps : List Part). status_of (share_of ps).refused) all;
+          })
 
   -- ---- what `query` answered
 
@@ -304,8 +413,8 @@ module _ (limits : Limits) (call : Call limits) (schema file : List ℕ) (given 
     query_answered only one =
         let w = call.serves.answer call.answered call.world call.told in
         let a = answered_as limits w.0 call.words call.world call.status w.2 (Query backend schema file) words w.3 in
-        let u = under_given (AskedAt backend limits file w.0) limits schema call.world w.2 given so a.0 in
-        of w.0 (w.1 (Query backend schema file) words given so) w.2 u.0 u.1 u.2 w.4 a.1
+        let u = under_given (AskedAt backend limits file w.0.query) limits schema call.world w.2 given so a.0 in
+        of w.0.query (w.1 (Query backend schema file) words given so) w.2 u.0 u.1 u.2 w.4 a.1
       where
         of : (places : List CodeAt) → AreUnbuilt backend limits file call.unbuilt.before call.unbuilt.after true given call.world places → (parts others : List Part)
             → AskedAt backend limits file places (Some given) call.world others → parts ≡ file_part schema no_share ∷ others → Gains (share_of parts) call.old call.new
@@ -342,28 +451,22 @@ Feeds backend = SameWithLineFeed (is_query backend) (is_within backend)
 abbrev pub OnlyPatterns : BackendName → Type 0
 OnlyPatterns backend = RefusedForPatterns (is_within backend) (refuses backend)
 
-module _ (kept : EventsKept) (lone : OneLone) (mean : AnswersMean) (never : yaml.NeverBoth) (list : yaml.OneList) (never_run : running.NeverBoth) (one_run : running.OneRun)
+module _ (kept : EventsKept) (lone : OneLone) (as_built : AsBuilt) (built : AllBuilt) (is_unbuilt : IsUnbuilt) (among : IsAmongUnbuilt) (mean : AnswersMean) (never : yaml.NeverBoth) (list : yaml.OneList) (one_run : running.OneRun)
     (feeds : (backend : BackendName) → Feeds backend) (only : (backend : BackendName) → OnlyPatterns backend) (one : (backend : BackendName) → OneQuery backend) where
   pub same_lines : SameLines
   same_lines limits backend convert run query calls =
       let has = convert_wrote lone mean never list limits backend convert run query calls in
       let text : List ℕ = Text backend has.given calls.single.0 in
       let whole : contents query.world.files calls.file ≡ with_line_feed text = has.is in
-      let short : length text ≤ limits.query_bytes = query_short backend limits has.given calls.single.1.only.top calls.single.0 has.converted in
+      let short : length text ≤ limits.query_bytes = query_short backend has.unbuilt limits has.given calls.single.1.only.top calls.single.0 has.converted in
       let behind = feeds backend limits has.given text has.means.query has.means.reads has.means.within short in
-      let ran = run_answered limits run calls.schema calls.rule has.given (subst (λ (b : List ℕ). schema_of limits b ≡ Ok has.given) (sym calls.run_schema) has.schema) never_run one_run calls.runs
-      calls.single.0 (record {
-        single = subst (λ (b : List ℕ). IsSingleRule limits b calls.single.0) (sym calls.run_rule) calls.single.1;
-        fits = fits_none backend limits has.given calls.single.1.only.top calls.single.0 has.converted;
-      }) in
+      let ran = run_answered limits run calls.schema calls.rule has.given (subst (λ (b : List ℕ). schema_of limits b ≡ Ok has.given) (sym calls.run_schema) has.schema) never list lone as_built built is_unbuilt among one_run calls.runs
+      calls.single.0 (subst (λ (b : List ℕ). IsSingleRule [] limits b calls.single.0) (sym calls.run_rule) calls.single.1)
+      (fits_none backend has.unbuilt limits has.given calls.single.1.only.top calls.single.0 has.converted) in
       let asked = query_answered limits query calls.schema calls.file has.given (subst (λ (b : List ℕ). schema_of limits b ≡ Ok has.given) (sym calls.query_schema) has.schema) backend calls.asks has.means.query
       (subst (λ (b : List ℕ). is_query backend has.given b has.means.query) (sym whole) behind.0) (subst (λ (b : List ℕ). is_within backend limits has.given b has.means.query) (sym whole) behind.1)
       (subst (λ (b : List ℕ). length b ≤ most_bytes limits) (sym whole) (one_more text limits.query_bytes short)) (only backend) (one backend) in
-      elim asked [
-        | inl found ↦ inl (alike has.given (λ row. Matches has.given.fields row calls.single.0) (picks backend has.means.query)
-            (λ row is. ((has.means.selects row is).1, (has.means.selects row is).0)) ran found)
-        | inr pattern ↦ inr pattern
-      ]
+      both has.given (λ row. Matches has.given.fields row calls.single.0) (picks backend has.means.query) (λ row is. ((has.means.selects row is).1, (has.means.selects row is).0)) ran asked
     where
       alike : (given : Schema) (Picks Others : Picking) → ((row : List (List Value)) → IsEvent given.fields row → (Picks row ↔ Others row)) → Selected limits given Picks run → Selected limits given Others query
           → AnswersAlike run query
@@ -376,6 +479,13 @@ module _ (kept : EventsKept) (lone : OneLone) (mean : AnswersMean) (never : yaml
             status = found.status ∙ (ap (λ (ps : List Part). status_of (share_of ps).refused) (sym lines) ∙ sym ran.status);
           }
 
+      both : (given : Schema) (Picks Others : Picking) → ((row : List (List Value)) → IsEvent given.fields row → (Picks row ↔ Others row))
+          → Selected limits given Picks run ⊎ RefusesExpression calls.rule run → Selected limits given Others query ⊎ RefusesPattern backend calls.file query
+          → AnswersAlike run query ⊎ (RefusesPattern backend calls.file query ⊎ RefusesExpression calls.rule run)
+      both given Picks Others same (inl ran) (inl found) = inl (alike given Picks Others same ran found)
+      both given Picks Others same (inl ran) (inr pattern) = inr (inl pattern)
+      both given Picks Others same (inr expression) found = inr (inr expression)
+
 -- ---- without refusals
 
 nothing_gained : {A : Type 0} (xs ys : List A) → xs ++ ys ≡ xs → ys ≡ []
@@ -386,16 +496,22 @@ none_of_builder [] r is = is
 none_of_builder (p ∷ all) r (inl is) = is.1
 none_of_builder (p ∷ all) r (inr is) = none_of_builder all r is
 
+-- where the builder refused nothing, `run` refuses no regular expression
+no_expression : {limits : Limits} (rule : List ℕ) (run : Call limits) → run.unbuilt.after ≡ run.unbuilt.before → RefusesExpression rule run → ⊥
+no_expression rule run none e = subst (λ (g : List (List ℕ)). HasElement g) (nothing_gained run.unbuilt.before e.gained (sym e.follows ∙ none)) e.some
+
 pub same_without_refusals : SameLines → SameWithoutRefusals
-same_without_refusals same limits backend convert run query calls none = elim (same limits backend convert run query calls) [
+same_without_refusals same limits backend convert run query calls none none_too = elim (same limits backend convert run query calls) [
   | inl alike ↦ alike
-  | inr p ↦ absurd (none_of_builder (patterns backend (contents query.world.files calls.file)) p.refusal
+  | inr (inl p) ↦ absurd (none_of_builder (patterns backend (contents query.world.files calls.file)) p.refusal
       (subst (λ (g : List (List ℕ)). IsOfBuilder (patterns backend (contents query.world.files calls.file)) g p.refusal)
-      (nothing_gained query.unbuilt.before p.gained (sym p.follows ∙ none)) p.of))
+      (nothing_gained query.unbuilt.before p.gained (sym p.follows ∙ none_too)) p.of))
+  | inr (inr e) ↦ absurd (no_expression calls.rule run none e)
 ]
 
 pub same_by_lucene : SameLines → SameByLucene
-same_by_lucene same limits convert run query calls = elim (same limits backends.Lucene convert run query calls) [
+same_by_lucene same limits convert run query calls none = elim (same limits backends.Lucene convert run query calls) [
   | inl alike ↦ alike
-  | inr p ↦ absurd p.of
+  | inr (inl p) ↦ absurd p.of
+  | inr (inr e) ↦ absurd (no_expression calls.rule run none e)
 ]

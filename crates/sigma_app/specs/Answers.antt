@@ -1,17 +1,19 @@
 -- What each command answers, part by part, and what it reads.
-use Rattle.std.specs.Prelude.{◌≡◌, ℕ, Bool, true, false, List, [], ◌∷◌, Option, None, Some, Ok}
+use Rattle.std.specs.Prelude.{◌≡◌, ℕ, Bool, true, false, List, [], ◌∷◌, ◌++◌, ⊤, Option, None, Some, Ok}
 use Rattle.answer_parts.specs.Each.{EachPart}
 use Rattle.answer_parts.specs.Input.{World, Needs}
 use Rattle.answer_parts.specs.Parts.{Part}
 use Rattle.event_reading.specs.SchemaOf.{schema_of}
 use Rattle.event_schema.specs.declared.schema.Schema.{Schema}
+use Rattle.rule_building.specs.Unbuilt.{Unbuilt}
+use Rattle.rule_runs.specs.Runs.{AreOfSingle}
 use Rattle.sig_base.specs.declared.limits.Limits.{Limits}
 use Rattle.sigma_app.specs.Check.{CheckGives}
 use Rattle.sigma_app.specs.Convert.{ConvertGives}
 use Rattle.sigma_app.specs.Converted.{Converted}
 use Rattle.sigma_app.specs.Languages.{AskedAt, AreUnbuilt}
 use Rattle.sigma_app.specs.Ran.{Ran}
-use Rattle.sigma_app.specs.RuleFiles.{RuleFile, contents}
+use Rattle.sigma_app.specs.RuleFiles.{RuleFileAt, AreOfFiles, contents, paired}
 use Rattle.sigma_app.specs.UnderSchema.{UnderSchema}
 use Rattle.sigma_app.specs.declared.request.Request.{Request}
 use Rattle.sigma_app.specs.declared.request.Request.TheVariants.{Check, Convert, Run, Query}
@@ -29,23 +31,46 @@ needs_of (Convert backend schema rules) = record { names = names_with schema rul
 needs_of (Run schema rule) = record { names = names_with schema (rule ∷ []); events = true }
 needs_of (Query backend schema query) = record { names = schema ∷ query ∷ []; events = true }
 
--- the answer to a request, part by part, where these places of a query are refused for their regular expressions
-abbrev pub AnswersAt : Limits → List CodeAt → Request → World → List Part → Type 0
-AnswersAt limits places (Check rules) = EachPart (RuleFile (CheckGives limits) limits) rules
-AnswersAt limits places (Convert backend schema rules) = Converted (ConvertGives backend limits) limits schema rules
-AnswersAt limits places (Run schema rule) = Ran limits schema rule
-AnswersAt limits places (Query backend schema query) = UnderSchema (AskedAt backend limits query places) limits (Some schema)
+-- Where regular expressions of the files of a request aren't built: of each document of each file that is checked or converted, of the
+-- rule that is run, or of the query that is asked.
+pub record Places : Type 0 where
+  pub documents : List (List Unbuilt)
+  pub rule : Unbuilt
+  pub query : List CodeAt
 
--- These places are refused for their regular expressions where the builder had refused the texts `before` when the run began, and the texts
--- `after` when it ended or was cut off: places of the query, where its schema isn't refused. A request without a query has none.
-abbrev pub ArePlaces : Limits → List (List ℕ) → List (List ℕ) → Bool → Request → World → List CodeAt → Type 0
-ArePlaces limits before after ended (Check rules) world places = places ≡ []
-ArePlaces limits before after ended (Convert backend schema rules) world places = places ≡ []
-ArePlaces limits before after ended (Run schema rule) world places = places ≡ []
+-- the answer to a request, part by part, where regular expressions aren't built at these places
+abbrev pub AnswersAt : Limits → Places → Request → World → List Part → Type 0
+AnswersAt limits places (Check rules) = EachPart (RuleFileAt (CheckGives limits) limits) (paired [] places.documents rules)
+AnswersAt limits places (Convert backend schema rules) = Converted (ConvertGives backend limits) limits places.documents schema rules
+AnswersAt limits places (Run schema rule) = Ran limits places.rule schema rule
+AnswersAt limits places (Query backend schema query) = UnderSchema (AskedAt backend limits query places.query) limits (Some schema)
+
+-- no schema's file is named, or it isn't refused
+abbrev pub IsSchemed : Limits → Option (List ℕ) → World → Type 0
+IsSchemed limits None world = ⊤
+IsSchemed limits (Some schema) world = (given : Schema) × (schema_of limits (contents world.files schema) ≡ Ok given)
+
+-- The places of rule files that are checked, converted or run, where the builder had refused the texts `before` and then has refused the texts
+-- `after`: places of what it refused meanwhile.
+abbrev pub AreChecked : Limits → List (List ℕ) → List (List ℕ) → Bool → List (List ℕ) → World → Places → Type 0
+AreChecked limits before after ended rules world places =
+    (gained : List (List ℕ)) × (after ≡ before ++ gained) × AreOfFiles limits gained ended world places.documents rules
+
+abbrev pub AreRun : Limits → List (List ℕ) → List (List ℕ) → Bool → List ℕ → World → Places → Type 0
+AreRun limits before after ended rule world places =
+    (gained : List (List ℕ)) × (after ≡ before ++ gained) × AreOfSingle limits (contents world.files rule) gained ended places.rule
+
+-- These are such places where the builder had refused the texts `before` when the run began, and the texts `after` when it ended or was
+-- cut off. Where a schema's file is named, it's said unless that is refused, since else no other file is read.
+abbrev pub ArePlaces : Limits → List (List ℕ) → List (List ℕ) → Bool → Request → World → Places → Type 0
+ArePlaces limits before after ended (Check rules) world places = AreChecked limits before after ended rules world places
+ArePlaces limits before after ended (Convert backend schema rules) world places =
+    IsSchemed limits schema world → AreChecked limits before after ended rules world places
+ArePlaces limits before after ended (Run schema rule) world places = IsSchemed limits schema world → AreRun limits before after ended rule world places
 ArePlaces limits before after ended (Query backend schema query) world places =
-    (given : Schema) → schema_of limits (contents world.files schema) ≡ Ok given → AreUnbuilt backend limits query before after ended given world places
+    (given : Schema) → schema_of limits (contents world.files schema) ≡ Ok given → AreUnbuilt backend limits query before after ended given world places.query
 
 -- the answer for some such places
 abbrev pub Answers : Limits → List (List ℕ) → List (List ℕ) → Bool → Request → World → List Part → Type 0
 Answers limits before after ended request world parts =
-    (places : List CodeAt) × ArePlaces limits before after ended request world places × AnswersAt limits places request world parts
+    (places : Places) × ArePlaces limits before after ended request world places × AnswersAt limits places request world parts

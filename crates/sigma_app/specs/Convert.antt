@@ -2,6 +2,7 @@
 use Rattle.std.specs.Prelude.{◌≡◌, ℕ, List, Option}
 use Rattle.answer_parts.specs.Parts.{Share}
 use Rattle.event_schema.specs.declared.schema.Schema.{Schema}
+use Rattle.rule_building.specs.Unbuilt.{Unbuilt}
 use Rattle.rule_model.specs.Plain.{PlainRule}
 use Rattle.rule_queries.specs.NamedQueries.{query_of, Converts, IsConverted, IsRefused}
 use Rattle.rule_queries.specs.declared.backend_name.BackendName.{BackendName}
@@ -11,14 +12,14 @@ use Rattle.sigma_app.specs.Reports.{line_share, refusal_share}
 use Rattle.yaml_tree.specs.Tree.{Tree}
 
 -- Under the given schema, or else the one that is made of the rule: the tree is a rule with this query; or it's refused by the
--- first cause for which there is none.
-pub data ConvertGives (backend : BackendName) (limits : Limits) (given : Option Schema) (name : List ℕ) (t : Tree) (share : Share) : Type 0 where
-  has_query : (rule : PlainRule) → IsConverted backend limits given t rule → share ≡ line_share (query_of backend given rule) → ConvertGives backend limits given name t share
-  no_query : (r : Refusal) → IsRefused backend limits given t r → share ≡ refusal_share name r → ConvertGives backend limits given name t share
+-- first cause for which there is none, where its regular expressions aren't built at these places.
+pub data ConvertGives (backend : BackendName) (limits : Limits) (given : Option Schema) (unbuilt : Unbuilt) (name : List ℕ) (t : Tree) (share : Share) : Type 0 where
+  has_query : (rule : PlainRule) → IsConverted backend unbuilt limits given t rule → share ≡ line_share (query_of backend given rule) → ConvertGives backend limits given unbuilt name t share
+  no_query : (r : Refusal) → IsRefused backend unbuilt limits given t r → share ≡ refusal_share name r → ConvertGives backend limits given unbuilt name t share
 
 -- The same, with what the query means: it's read as exactly one query within the reader's limits, which selects an event exactly
 -- where the rule matches it.
-pub data ConvertMeans (backend : BackendName) (limits : Limits) (given : Option Schema) (name : List ℕ) (t : Tree) (share : Share) : Type 0 where
-  means_rule : (rule : PlainRule) → IsConverted backend limits given t rule → Converts backend limits given rule (query_of backend given rule) → share ≡ line_share (query_of backend given rule)
-      → ConvertMeans backend limits given name t share
-  means_none : (r : Refusal) → IsRefused backend limits given t r → share ≡ refusal_share name r → ConvertMeans backend limits given name t share
+pub data ConvertMeans (backend : BackendName) (limits : Limits) (given : Option Schema) (unbuilt : Unbuilt) (name : List ℕ) (t : Tree) (share : Share) : Type 0 where
+  means_rule : (rule : PlainRule) → IsConverted backend unbuilt limits given t rule → Converts backend limits given rule (query_of backend given rule) → share ≡ line_share (query_of backend given rule)
+      → ConvertMeans backend limits given unbuilt name t share
+  means_none : (r : Refusal) → IsRefused backend unbuilt limits given t r → share ≡ refusal_share name r → ConvertMeans backend limits given unbuilt name t share

@@ -1,12 +1,13 @@
 -- The answer to `run`: the events that a rule matches.
-use Rattle.std.specs.Prelude.{◌≡◌, ℕ, List, [], ◌∷◌, Option}
+use Rattle.std.specs.Prelude.{◌≡◌, ℕ, Bool, List, [], ◌∷◌, ◌++◌, Option}
 use Rattle.answer_parts.specs.EventLines.{ByLine, EventLines}
 use Rattle.answer_parts.specs.Input.{World}
 use Rattle.answer_parts.specs.Parts.{Part, no_share}
 use Rattle.event_schema.specs.declared.schema.Schema.{Schema}
+use Rattle.rule_building.specs.Unbuilt.{Unbuilt}
 use Rattle.rule_matching.specs.Matching.{Matches}
 use Rattle.rule_model.specs.Plain.{PlainRule}
-use Rattle.rule_runs.specs.Runs.{IsRun, IsNotRun}
+use Rattle.rule_runs.specs.Runs.{IsRun, IsNotRun, AreOfSingle}
 use Rattle.rule_schema.specs.Inferred.{schema_for}
 use Rattle.selected_lines.specs.Selected.{Selects}
 use Rattle.sig_base.specs.declared.limits.Limits.{Limits}
@@ -21,13 +22,22 @@ RunGives schema rule = Selects schema (λ row. Matches schema.fields row rule)
 
 -- The answer in a world, under the given schema, or else the one that is made of the rule. The file is run as a rule: nothing is answered
 -- of the file, and then each line of the events is answered. Or it isn't run: the first cause is answered of it, and no event is read.
-pub data RanUnder (limits : Limits) (file : List ℕ) (given : Option Schema) (world : World) (parts : List Part) : Type 0 where
-  runs : (rule : PlainRule) → IsRun limits given (contents world.files file) rule
+-- Regular expressions of the rule aren't built at these places.
+pub data RanUnder (limits : Limits) (unbuilt : Unbuilt) (file : List ℕ) (given : Option Schema) (world : World) (parts : List Part) : Type 0 where
+  runs : (rule : PlainRule) → IsRun unbuilt limits given (contents world.files file) rule
       → (lines : List Part) → EventLines (RunGives (schema_for given rule) rule) limits world lines → parts ≡ file_part file no_share ∷ lines
-      → RanUnder limits file given world parts
-  isnt_run : (r : Refusal) → IsNotRun limits given (contents world.files file) r → parts ≡ file_part file (refusal_share file r) ∷ []
-      → RanUnder limits file given world parts
+      → RanUnder limits unbuilt file given world parts
+  isnt_run : (r : Refusal) → IsNotRun unbuilt limits given (contents world.files file) r → parts ≡ file_part file (refusal_share file r) ∷ []
+      → RanUnder limits unbuilt file given world parts
+
+-- for some such places, where the builder had refused these texts before and then has refused those after
+pub record RanBySome (limits : Limits) (file : List ℕ) (before after : List (List ℕ)) (ended : Bool) (given : Option Schema) (world : World) (parts : List Part) : Type 0 where
+  pub unbuilt : Unbuilt
+  pub gained : List (List ℕ)
+  pub follows : after ≡ before ++ gained
+  pub are : AreOfSingle limits (contents world.files file) gained ended unbuilt
+  pub ran : RanUnder limits unbuilt file given world parts
 
 -- the rule of a file is run under the schema that is named, or else under the one that is made of the rule
-abbrev pub Ran : Limits → Option (List ℕ) → List ℕ → World → List Part → Type 0
-Ran limits schema file = UnderSchema (RanUnder limits file) limits schema
+abbrev pub Ran : Limits → Unbuilt → Option (List ℕ) → List ℕ → World → List Part → Type 0
+Ran limits unbuilt schema file = UnderSchema (RanUnder limits unbuilt file) limits schema

@@ -3,6 +3,7 @@ use Rattle.std.specs.Prelude.{◌≡◌, ◌⊎◌, ℕ, List, [], ◌∷◌, �
 use Rattle.answer_parts.specs.Input.{World}
 use Rattle.answer_parts.specs.Parts.{Share, Gains}
 use Rattle.answer_parts.specs.State.{Inputs, Streams}
+use Rattle.event_schema.specs.Lists.{HasElement}
 use Rattle.rule_model.specs.Plain.{PlainRule}
 use Rattle.rule_queries.specs.declared.backend_name.BackendName.{BackendName}
 use Rattle.rule_queries.specs.declared.backend_name.BackendName.TheVariants as backends
@@ -36,7 +37,7 @@ pub record Call (limits : Limits) : Type 0 where
 
 -- The calls `convert --backend B --schema S RULE`, `run --schema S RULE` and `query --backend B --schema S QUERY`, where the file QUERY has
 -- what the first of them wrote. Each of them read the same bytes of S, the first two the same bytes of RULE, and the last two the same events.
--- RULE is a single rule, and `convert` refused nothing.
+-- RULE is a single rule, where all of its regular expressions are built, and `convert` refused nothing.
 pub record AreOfRule (limits : Limits) (backend : BackendName) (convert run query : Call limits) : Type 0 where
   pub schema : List ℕ
   pub rule : List ℕ
@@ -48,7 +49,7 @@ pub record AreOfRule (limits : Limits) (backend : BackendName) (convert run quer
   pub query_schema : contents query.world.files schema ≡ contents convert.world.files schema
   pub run_rule : contents run.world.files rule ≡ contents convert.world.files rule
   pub query_events : query.world.events ≡ run.world.events
-  pub single : (r : PlainRule) × IsSingleRule limits (contents convert.world.files rule) r
+  pub single : (r : PlainRule) × IsSingleRule [] limits (contents convert.world.files rule) r
   pub done : convert.status ≡ Done
   pub start : List ℕ
   pub stood : convert.old.out ≡ Some start
@@ -70,16 +71,28 @@ pub record RefusesPattern {limits : Limits} (backend : BackendName) (file : List
   pub wrote : Gains (refusal_share file refusal) query.old query.new
   pub status : query.status ≡ Found
 
--- `run` and `query` answer alike, or `query` refuses a regular expression of the query.
+-- all that was answered is that the rule of this file isn't run, with 48, for a regular expression at a place at which the builder refused
+-- one in this call
+pub record RefusesExpression {limits : Limits} (rule : List ℕ) (run : Call limits) : Type 0 where
+  pub refusal : Refusal
+  pub code : refusal.code ≡ 48
+  pub gained : List (List ℕ)
+  pub follows : run.unbuilt.after ≡ run.unbuilt.before ++ gained
+  pub some : HasElement gained
+  pub wrote : Gains (refusal_share rule refusal) run.old run.new
+  pub status : run.status ≡ Found
+
+-- `run` and `query` answer alike, or `query` refuses a regular expression of the query, or `run` one of the rule.
 abbrev pub SameLines : Type 0
 SameLines = (limits : Limits) (backend : BackendName) (convert run query : Call limits) (calls : AreOfRule limits backend convert run query)
-    → AnswersAlike run query ⊎ RefusesPattern backend calls.file query
+    → AnswersAlike run query ⊎ (RefusesPattern backend calls.file query ⊎ RefusesExpression calls.rule run)
 
 -- So they answer alike where the builder refuses nothing,
 abbrev pub SameWithoutRefusals : Type 0
 SameWithoutRefusals = (limits : Limits) (backend : BackendName) (convert run query : Call limits) → AreOfRule limits backend convert run query
-    → query.unbuilt.after ≡ query.unbuilt.before → AnswersAlike run query
+    → run.unbuilt.after ≡ run.unbuilt.before → query.unbuilt.after ≡ query.unbuilt.before → AnswersAlike run query
 
--- and always by the backend of Lucene, whose queries have no regular expressions.
+-- and by the backend of Lucene, whose queries have no regular expressions, where it refuses none of the rule.
 abbrev pub SameByLucene : Type 0
-SameByLucene = (limits : Limits) (convert run query : Call limits) → AreOfRule limits backends.Lucene convert run query → AnswersAlike run query
+SameByLucene = (limits : Limits) (convert run query : Call limits) → AreOfRule limits backends.Lucene convert run query
+    → run.unbuilt.after ≡ run.unbuilt.before → AnswersAlike run query

@@ -9,7 +9,7 @@ use Rattle.answer_parts.specs.declared.stop.Stop.{Stop}
 use Rattle.answer_parts.specs.declared.stop.Stop.TheVariants.{Unread, Unwritten}
 use Rattle.rule_queries.specs.declared.backend_name.BackendName.{BackendName}
 use Rattle.sig_base.specs.declared.limits.Limits.{Limits}
-use Rattle.sigma_app.specs.Answers.{AnswersAt, ArePlaces, Answers, needs_of}
+use Rattle.sigma_app.specs.Answers.{Places, AnswersAt, ArePlaces, Answers, needs_of}
 use Rattle.sigma_app.specs.Convert.{ConvertMeans}
 use Rattle.sigma_app.specs.Converted.{Converted}
 use Rattle.sigma_app.specs.Reports.{usage_share}
@@ -18,7 +18,6 @@ use Rattle.sigma_app.specs.declared.request.Request.{Request}
 use Rattle.sigma_app.specs.declared.request.Request.TheVariants.{Convert}
 use Rattle.sigma_app.specs.declared.status.Status.{Status}
 use Rattle.sigma_app.specs.declared.status.Status.TheVariants.{Done, Found, Usage, ReadFault, WriteFault, Memory}
-use Rattle.text_places.specs.Places.{CodeAt}
 
 abbrev pub status_of : Bool → Status
 status_of refused = if refused then Found else Done
@@ -27,9 +26,9 @@ status_of refused = if refused then Found else Done
 abbrev pub usage_part : Part
 usage_part = record { input = None; share = usage_share }
 
--- The answer to words in a world, where these places of a query are refused for their regular expressions: that to the request as which
--- they are accepted, or that they aren't accepted.
-pub data Answer (limits : Limits) (places : List CodeAt) (words : List (List ℕ)) (world : World) (status : Status) (parts : List Part) : Type 0 where
+-- The answer to words in a world, where regular expressions aren't built at these places: that to the request as which they are accepted,
+-- or that they aren't accepted.
+pub data Answer (limits : Limits) (places : Places) (words : List (List ℕ)) (world : World) (status : Status) (parts : List Part) : Type 0 where
   accepted : (request : Request) → IsAccepted words request → AnswersAt limits places request world parts → status ≡ status_of (share_of parts).refused
       → Answer limits places words world status parts
   unaccepted : IsUnaccepted words → status ≡ Usage → parts ≡ usage_part ∷ [] → Answer limits places words world status parts
@@ -70,31 +69,32 @@ pub record Unbuilt : Type 0 where
   pub before : List (List ℕ)
   pub after : List (List ℕ)
 
--- these places of the words' query, if they ask one, are refused for their regular expressions in this run, which came to its end or didn't
-abbrev pub PlacesOf : Limits → Unbuilt → Bool → List (List ℕ) → World → List CodeAt → Type 0
+-- regular expressions of the files of the words' request aren't built at these places in this run, which came to its end or didn't
+abbrev pub PlacesOf : Limits → Unbuilt → Bool → List (List ℕ) → World → Places → Type 0
 PlacesOf limits unbuilt ended words world places = (request : Request) → IsAccepted words request → ArePlaces limits unbuilt.before unbuilt.after ended request world places
 
 -- What a run that came to its end has written: its answer. And where that asks for no events, they stay as they are.
 abbrev pub Written : Limits → Unbuilt → List (List ℕ) → World → Status → Inputs → Inputs → Streams → Streams → Type 0
 Written limits unbuilt words world status before after old new =
-    (places : List CodeAt) × PlacesOf limits unbuilt true words world places × (parts : List Part) × Answer limits places words world status parts × Gains (share_of parts) old new
+    (places : Places) × PlacesOf limits unbuilt true words world places × (parts : List Part) × Answer limits places words world status parts × Gains (share_of parts) old new
     × (NoneOfEvents parts → EventsStay before after)
 
 -- The headline: what `convert` writes is, for each document that is a rule with a query, in order, the query and a line feed, and
 -- nothing else; the query's bytes are read as exactly one query of the backend's language, within the reader's limits, which selects an
 -- event of the given schema, or else of the one that is made of the rule, exactly where the rule matches it; and each other document
--- has its one diagnostic, with the first cause for which it has no query. Where the file that is named as the schema is none, its
--- one diagnostic is all that is written.
-abbrev pub Headline : Limits → List (List ℕ) → World → Streams → Streams → Type 0
-Headline limits words world old new =
+-- has its one diagnostic, with the first cause for which it has no query, which is 48 only at a place of a regular expression that
+-- the builder refused in this run. Where the file that is named as the schema is none, its one diagnostic is all that is written.
+abbrev pub Headline : Limits → Unbuilt → List (List ℕ) → World → Streams → Streams → Type 0
+Headline limits unbuilt words world old new =
     (backend : BackendName) (schema : Option (List ℕ)) (rules : List (List ℕ)) → IsAccepted words (Convert backend schema rules)
-    → (parts : List Part) × Converted (ConvertMeans backend limits) limits schema rules world parts × Gains (share_of parts) old new
+    → (places : Places) × PlacesOf limits unbuilt true words world places
+    × (parts : List Part) × Converted (ConvertMeans backend limits) limits places.documents schema rules world parts × Gains (share_of parts) old new
 
 -- What stands where the run was cut off: a front of the answer's output, and of its diagnostics some whole ones and the beginning of at
 -- most one more.
 abbrev pub StandsCut : Limits → Unbuilt → List (List ℕ) → World → Streams → Streams → Type 0
 StandsCut limits unbuilt words world old new =
-    (places : List CodeAt) × PlacesOf limits unbuilt false words world places × (status : Status) × (parts : List Part) × Answer limits places words world status parts × Cut (share_of parts) old new
+    (places : Places) × PlacesOf limits unbuilt false words world places × (status : Status) × (parts : List Part) × Answer limits places words world status parts × Cut (share_of parts) old new
 
 -- What stands where an input couldn't be read: the answer's parts before the input, all of their output and all of their diagnostics, and
 -- then the diagnostic that names the input, or the beginning of it where it couldn't be written. The whole answer goes on behind those
@@ -112,7 +112,7 @@ StandsAfter limits unbuilt words world (Some input) left old new = StandsUnread 
 -- Where the one answer asks for no events, these stay as they are, however the run ended.
 abbrev pub Unasked : Limits → Unbuilt → List (List ℕ) → World → Inputs → Inputs → Type 0
 Unasked limits unbuilt words world before after =
-    (places : List CodeAt) × PlacesOf limits unbuilt false words world places
+    (places : Places) × PlacesOf limits unbuilt false words world places
     × ((status : Status) (parts : List Part) → Answer limits places words world status parts → NoneOfEvents parts → EventsStay before after)
 
 -- An input of the words' request that couldn't be read in between, if there is one. Where there is none, writing failed and reading
@@ -124,7 +124,7 @@ MayBeUnread words status (Some input) before after = IsRead words input × WasUn
 -- all that is said of a run: what the inputs told before it and tell after it, and the streams
 pub record Serves (limits : Limits) (unbuilt : Unbuilt) (words : List (List ℕ)) (status : Status) (before after : Inputs) (old new : Streams) : Type 0 where
   pub answer : IsAnswered status → (world : World) → Tells words before world → Written limits unbuilt words world status before after old new
-  pub headline : IsAnswered status → (world : World) → Tells words before world → Headline limits words world old new
+  pub headline : IsAnswered status → (world : World) → Tells words before world → Headline limits unbuilt words world old new
   pub usage : IsAnswered status → IsUnaccepted words → status ≡ Usage
   pub unaccepted : status ≡ Usage → IsUnaccepted words
   pub still : IsAnswered status → NoReadFailed before after × NoWriteFailed old new

@@ -4,14 +4,18 @@ ghost use Rattle.std.specs.Prelude.{◌≡◌, ◌||◌};
 ghost use Rattle.std.specs.List.{All};
 ghost use Rattle.answer_parts.specs.Each.{AllShares};
 ghost use Rattle.answer_parts.specs.Stands.{Writes};
+ghost use Rattle.rule_building.specs.Unbuilt.{Unbuilt};
+ghost use Rattle.sig_base.specs.declared.limits.Limits.{Limits as LimitsData};
 ghost use Rattle.sigma_app.specs.Reports.{refusal_share};
-ghost use Rattle.sigma_app.specs.RuleFiles.{ByTree, DocumentGives, FileGives};
-ghost use Rattle.sigma_app.specs.Laws.{EachTree, EachFile};
+ghost use Rattle.sigma_app.specs.RuleFiles.{ByUnbuilt, Grown, BySome, DocumentGives, FileGives};
+ghost use Rattle.sigma_app.specs.Laws.{EachTree, EachCut};
+ghost use Rattle.sigma_app.specs.UnderSchema.{is_ended};
 ghost use Rattle.yaml_documents.specs.Given.{IsPlain};
 ghost use Rattle.yaml_tree.specs.View.{node_view, document_view};
 
 use crate::report::refusal_text;
 use answer_parts::{Outside, Stop, tell_diagnostic};
+use languages::Builder;
 use sig_base::{Fault, Limits, Refusal, Text};
 use std::alloc::Global;
 use yaml_documents::read_documents;
@@ -19,64 +23,79 @@ use yaml_tree::{Document, Node};
 
 /// A command that answers each document of rule files by its tree.
 pub(super) trait TreeCommand {
-    ghost gives: { Self → ByTree };
+    ghost gives: { Self → LimitsData → ByUnbuilt };
 
-    /// Answers a tree, and tells whether it is refused.
-    fn answer<W: Outside>(
+    /// Answers a tree, and tells whether it is refused; regular expressions are built by the builder.
+    fn answer<W: Outside, B: Builder>(
         &self,
         alloc: Global,
+        limits: &Limits,
         name: &Text,
         node: &Node,
         outside: &mut W,
+        builder: &mut B,
     ) -> Result<bool, Stop>
-        ensures { Writes (gives self.now name.now (node_view node.now)) result (W.state outside.old) (W.state outside.new) };
+        ensures { Writes (BySome (gives self.now limits.now) limits.now (B.refused builder.old) (B.refused builder.new) (is_ended result) name.now (node_view node.now)) result (W.state outside.old) (W.state outside.new) };
 
     /// Each tree has an answer.
     fn each_tree(&self)
-        ensures { EachTree (gives self.now) };
+        ensures { (limits : LimitsData) (unbuilt : Unbuilt) → EachTree (gives self.now limits unbuilt) };
 }
 
 /// Answers the documents of a file in their order, or refuses the file as one; tells whether something was refused.
-pub(super) fn answer_bytes<T: TreeCommand, W: Outside>(
+pub(super) fn answer_bytes<T: TreeCommand, W: Outside, B: Builder>(
     alloc: Global,
     command: &T,
     limits: &Limits,
     name: &Text,
     bytes: &[u8],
     outside: &mut W,
+    builder: &mut B,
 ) -> Result<bool, Stop>
-    ensures { Writes (FileGives (T.gives command.now) limits.now name.now bytes.now) result (W.state outside.old) (W.state outside.new) }
+    ensures writes { Writes (FileGives (BySome (T.gives command.now limits.now) limits.now (B.refused builder.old) (B.refused builder.new) (is_ended result)) limits.now name.now bytes.now) result (W.state outside.old) (W.state outside.new) }
+    ensures grown { Grown (B.refused builder.old) (B.refused builder.new) }
 {
     each_file(command);
     match read_documents(alloc, limits, bytes) {
-        Ok(documents) => answer_documents(alloc, command, name, documents.as_slice(), outside),
+        Ok(documents) => answer_documents(
+            alloc,
+            command,
+            limits,
+            name,
+            documents.as_slice(),
+            outside,
+            builder,
+        ),
         Err(Fault::Refused(refusal)) => put_refusal(alloc, name, &refusal, outside),
         Err(Fault::Memory) => Err(Stop::Memory),
     }
 }
 
-/// Each file has an answer.
+/// Each file has an answer that is cut off.
 pub(super) fn each_file<T: TreeCommand>(command: &T)
-    ensures { EachFile (T.gives command.now) }
+    ensures { (limits : LimitsData) → EachCut (T.gives command.now limits) limits }
 {
     command.each_tree();
     yaml_documents::laws::verdicts();
 }
 
-fn answer_documents<T: TreeCommand, W: Outside>(
+fn answer_documents<T: TreeCommand, W: Outside, B: Builder>(
     alloc: Global,
     command: &T,
+    limits: &Limits,
     name: &Text,
     documents: &[Document],
     outside: &mut W,
+    builder: &mut B,
 ) -> Result<bool, Stop>
     requires { All IsPlain documents.now }
-    ensures { Writes (AllShares (λ d. DocumentGives (T.gives command.now) name.now (document_view d)) documents.now) result (W.state outside.old) (W.state outside.new) }
+    ensures writes { Writes (AllShares (λ d. DocumentGives (BySome (T.gives command.now limits.now) limits.now (B.refused builder.old) (B.refused builder.new) (is_ended result)) name.now (document_view d)) documents.now) result (W.state outside.old) (W.state outside.new) }
+    ensures grown { Grown (B.refused builder.old) (B.refused builder.new) }
 {
     command.each_tree();
     let mut found = false;
     for document in documents {
-        match answer_document(alloc, command, name, document, outside) {
+        match answer_document(alloc, command, limits, name, document, outside, builder) {
             Ok(refused) => found = either(found, refused),
             Err(stop) => return Err(stop),
         }
@@ -90,18 +109,21 @@ pub(super) fn either(first: bool, second: bool) -> bool
     first || second
 }
 
-fn answer_document<T: TreeCommand, W: Outside>(
+fn answer_document<T: TreeCommand, W: Outside, B: Builder>(
     alloc: Global,
     command: &T,
+    limits: &Limits,
     name: &Text,
     document: &Document,
     outside: &mut W,
+    builder: &mut B,
 ) -> Result<bool, Stop>
     requires { IsPlain document.now }
-    ensures { Writes (DocumentGives (T.gives command.now) name.now (document_view document.now)) result (W.state outside.old) (W.state outside.new) }
+    ensures writes { Writes (DocumentGives (BySome (T.gives command.now limits.now) limits.now (B.refused builder.old) (B.refused builder.new) (is_ended result)) name.now (document_view document.now)) result (W.state outside.old) (W.state outside.new) }
+    ensures grown { Grown (B.refused builder.old) (B.refused builder.new) }
 {
     match document {
-        Document::Tree(node) => command.answer(alloc, name, node, outside),
+        Document::Tree(node) => command.answer(alloc, limits, name, node, outside, builder),
         Document::Refused(refusal) => put_refusal(alloc, name, refusal, outside),
     }
 }

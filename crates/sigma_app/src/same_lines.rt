@@ -8,7 +8,8 @@ use lucene_language::LuceneReader;
 use sql_language::SqlReader;
 
 /// Where `convert` wrote the query of a rule under a schema, `run` of the rule and `query` of what was written, under this schema and with the
-/// same events, write the same and end alike, unless `query` refuses a regular expression of the query that the builder refused.
+/// same events, write the same and end alike, unless `query` refuses a regular expression of the query that the builder refused, or `run` one of
+/// the rule.
 pub fn run_as_queried()
     ensures lines { SameLines }
     ensures without_refusals { SameWithoutRefusals }
@@ -17,6 +18,8 @@ pub fn run_as_queried()
     queries_mean_rules();
     event_laws::events_are_kept();
     rule_model::lone_rules();
+    rule_model::refused_as_built();
+    rule_building::refused_where_unbuilt();
     rule_runs::one_run();
     yaml_documents::laws::verdicts();
     yaml_documents::laws::one_verdict();

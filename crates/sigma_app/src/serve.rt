@@ -41,7 +41,8 @@ pub fn serve<F: Shelf, S: Source, O: Sink, E: Sink, B: Builder>(
         (inputs_of F.files F.failed S.left S.faults shelf.old events.old) (inputs_of F.files F.failed S.left S.faults shelf.new events.new)
         (streams_of O.taken O.faults E.taken E.faults out.old err.old) (streams_of O.taken O.faults E.taken E.faults out.new err.new) }
     ensures headline { IsAnswered result → (world : World) → Tells words.now (inputs_of F.files F.failed S.left S.faults shelf.old events.old) world
-        → Headline limits.now words.now world (streams_of O.taken O.faults E.taken E.faults out.old err.old) (streams_of O.taken O.faults E.taken E.faults out.new err.new) }
+        → Headline limits.now (record { before = B.refused builder.old; after = B.refused builder.new }) words.now world
+        (streams_of O.taken O.faults E.taken E.faults out.old err.old) (streams_of O.taken O.faults E.taken E.faults out.new err.new) }
 
     // `Usage` comes exactly where the words aren't accepted and no fault ended the run.
     ensures usage { IsAnswered result → IsUnaccepted words.now → result ≡ Status.Usage }
@@ -151,14 +152,12 @@ fn answer_request<W: Outside, B: Builder>(
 ) -> Result<bool, Stop>
     ensures { Ends (needs_of request.now) (Answers limits.now (B.refused builder.old) (B.refused builder.new) (is_ended result) request.now) result (W.state outside.old) (W.state outside.new) }
 {
+    yaml_documents::laws::verdicts();
+    yaml_documents::laws::one_verdict();
     match request {
-        Request::Check { rules } => answer_files(
-            alloc,
-            &Check { limits },
-            limits,
-            rules.as_slice(),
-            outside,
-        ),
+        Request::Check { rules } => {
+            answer_files(alloc, &Check, limits, rules.as_slice(), outside, builder)
+        }
         Request::Convert {
             backend,
             schema,

@@ -1,6 +1,7 @@
 //! The program over shelves and sinks in memory.
 
 mod cuts;
+mod expressions;
 mod faults;
 mod modifiers;
 mod query_faults;

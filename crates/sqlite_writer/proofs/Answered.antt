@@ -1,6 +1,6 @@
 -- From the writer's clauses, one by one, to what the backend answers and what its texts mean.
 use Rattle.std.proofs.Common.{ℕ, ◌≡◌, ◌≤◌, ◌<◌, List, [], ◌∷◌, Option, Some, None, sym, subst, ap, ◌∙◌, refl, inl, inr, arith}
-use Rattle.std.specs.Prelude.{length, min, ◌^◌, ◌-◌, Result, Ok, Err, IfOk, IfErr, OnOk, encode_utf8_all}
+use Rattle.std.specs.Prelude.{length, min, ◌^◌, ◌-◌, Result, Ok, Err, IfOk, IfErr, OnOk}
 use Rattle.std.proofs.Math.Nat.{le-min}
 use Rattle.event_schema.specs.declared.schema.Schema.{Schema}
 use Rattle.sig_base.specs.Judged.{first}

@@ -15,7 +15,7 @@ use Rattle.sql_lang.specs.Reading.{opens_too_far, nots_too_many}
 use Rattle.sql_layout.specs.Trees.{IsSound as IsSoundLeaf, EachLeaf, EachOfTrees}
 use Rattle.backend_core.specs.declared.tree.LeafTest.{LeafTest}
 use Rattle.backend_core.specs.declared.tree.LeafTest.TheVariants as tests
-use Rattle.sqlite_writer.specs.Guarded.{name_at, sign_of, same_test, written_test, other_of, behind_other, guarded_test}
+use Rattle.sqlite_writer.specs.Guarded.{name_at, sign_of, same_test, finds_test, written_test, other_of, behind_other, guarded_test}
 use Rattle.sqlite_writer.proofs.Nested.{IsCalm, not_below}
 
 module _ (limit : ℕ) (some : 1 ≤ limit) where
@@ -58,6 +58,10 @@ module _ (limit : ℕ) (some : 1 ≤ limit) where
   unfolding opens_too_far nots_too_many
   calm_number name op n texts = record { opens = λ opened closed rest. refl; nots = λ n rest. refl; texts = texts }
 
+  calm_finds : (name expression : List ℕ) → list_all has_text (spell_test (finds_test name expression)) ≡ true → IsCalm limit (finds_test name expression)
+  unfolding opens_too_far nots_too_many
+  calm_finds name expression texts = record { opens = λ opened closed rest. refl; nots = λ n rest. refl; texts = texts }
+
   pub calm_never : list_all has_text (spell_test (constant false)) ≡ true → IsCalm limit (constant false)
   unfolding opens_too_far nots_too_many
   calm_never texts = record { opens = λ opened closed rest. refl; nots = λ n rest. refl; texts = texts }
@@ -76,6 +80,7 @@ module _ (limit : ℕ) (some : 1 ≤ limit) where
     calm_test name (tests.Equals n) texts = calm_number name Eq n texts
     calm_test name (tests.Compare op n) texts = calm_number name (sign_of op) n texts
     calm_test name (tests.SameAs other) texts = calm_same (kind_at fields other) name (name_at fields other) texts
+    calm_test name (tests.Finds expression) texts = calm_finds name expression texts
 
     calm_behind : (o : Option ℕ) (l : Leaf) → (list_all has_text (spell_test l) ≡ true → IsCalm limit l)
         → EachOfTrees (IsSoundLeaf fields) (behind_other fields o l) → EachOfTrees (IsCalm limit) (behind_other fields o l)

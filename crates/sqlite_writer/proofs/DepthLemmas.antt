@@ -38,6 +38,7 @@ module _ (fields : List Field) where
     by kinds.Text = refl
     by kinds.Whole = refl
     by kinds.Address = refl
+  test_is name (tests.Finds expression) = refl
 
   few_texts : (wild cased : Bool) → text_depth wild cased ≤ 3
   few_texts true cased = omega arith
@@ -56,6 +57,7 @@ module _ (fields : List Field) where
   few_written (tests.Equals n) = omega arith
   few_written (tests.Compare op n) = omega arith
   few_written (tests.SameAs other) = few_same (kind_at fields other)
+  few_written (tests.Finds expression) = omega arith
 
   module _ (most : ℕ) (some : 3 ≤ most) where
     -- at most the most

@@ -1,10 +1,11 @@
 -- What a written test says of a row: unknown without a value, and else whether the pattern fits, or the number stands so, or the
--- texts of two fields are one.
+-- texts of two fields are one, or the regular expression has a match.
 use Rattle.std.proofs.Common.{ℕ, zero, suc, ◌≡◌, ◌<◌, ◌≤◌, ◌⊎◌, inl, inr, refl, sym, ◌∙◌, ap, Bool, true, false, if◌then◌else◌, List, [], ◌∷◌, length, subst, arith}
 use Rattle.std.specs.Prelude.{◌↔◌, ◌||◌, ℤ, Option, Some, None, ⊤}
 use Rattle.std.specs.Fmt.{signed_decimal}
 use Rattle.std.specs.Str.{bytes_eq}
 use Rattle.std.proofs.lemmas.Slice.Eq.{bytes_eq-Decides}
+use Rattle.languages.specs.Patterns.{finds}
 use Rattle.sig_base.specs.Folding.{folded}
 use Rattle.event_schema.specs.declared.schema.Field.{Field}
 use Rattle.event_schema.specs.declared.schema.FieldKind.{FieldKind}
@@ -184,6 +185,15 @@ texts_say k l one other (Some (values.Whole m)) (Some w) first second = absurd (
 texts_say k l one other (Some (values.Text t)) (Some (values.Whole n)) first second = absurd (no_number l n other second)
 texts_say k l one other (Some (values.Text t)) (Some (values.Text u)) first second = (bytes_eq (folded t) (folded u), refl, bytes_eq-Decides (folded t) (folded u))
 
+-- a regular expression that has a match in a value's text
+abbrev IsFoundIn : List ℕ → Value → Type 0
+IsFoundIn expression v = finds expression (value_text v) ≡ true
+
+finds_says : (expression : List ℕ) (v : Option Value) → Says (IsFoundIn expression) v (on_text (finds expression) v)
+finds_says expression None = refl
+finds_says expression (Some (values.Text t)) = (finds expression t, refl, ((λ h. h), (λ h. h)))
+finds_says expression (Some (values.Whole n)) = (finds expression (signed_decimal n), refl, ((λ h. h), (λ h. h)))
+
 -- ---- the tests that are written
 
 module _
@@ -275,6 +285,10 @@ module _
           subst (λ (w : Truth). Says (ValueStands op n) (value_at row k) w) (sym (ap (λ (e : Expr). sql_value e row) (number_is fields name (sign_of op) n k named fits)))
           (order_says op n (value_at row k) (subst (λ (x : FieldKind). IsOfKindIfAny x (value_at row k)) is of_kind))
 
+      found_says : (expression : List ℕ)
+          → Says (IsFoundIn expression) (value_at row k) (test_value (test_of fields (written_test fields name (tests.Finds expression))) row)
+      found_says expression = rw named (finds_says expression (value_at row k))
+
       -- of a further field, whose column is found by its name and has a value of its kind, or none
       module _ (m : ℕ) (there : column_of fields (name_at fields m) ≡ Some m) (that_kind : IsOfKindIfAny (kind_at fields m) (value_at row m)) where
         same_says : (kind ≡ kinds.Whole) ↔ (kind_at fields m ≡ kinds.Whole)
@@ -342,6 +356,8 @@ module _
             subst (λ (all : List Value). EvenIs (tree_value fields row (guarded_test fields false name (tests.SameAs m)))
             (SomeOf (λ v. SomeOf (AreSame v) all) (one_value (value_at row k)))) (sym other.one)
             (same_even m other.there other.that_kind sound.1)
+        test_even (tests.Finds expression) sound other =
+            says_even (IsFoundIn expression) (value_at row k) (test_value (test_of fields (written_test fields name (tests.Finds expression))) row) (found_says expression)
 
         test_odd : (test : LeafTest) → IsSoundTest fields kind test → IsColumnIfAny whole (other_of test)
             → OddIs (tree_value fields row (guarded_test fields (is_unsure test) name test)) (TestHolds whole test (one_value (value_at row k)))
@@ -358,6 +374,8 @@ module _
             subst (λ (all : List Value). OddIs (tree_value fields row (guarded_test fields true name (tests.SameAs m)))
             (SomeOf (λ v. SomeOf (AreSame v) all) (one_value (value_at row k)))) (sym other.one)
             (same_odd m other.there other.that_kind sound.1)
+        test_odd (tests.Finds expression) sound other =
+            guarded_odd (IsFoundIn expression) (test_value (test_of fields (written_test fields name (tests.Finds expression))) row) (found_says expression)
 
     module _ (fields : List Field) (row : List (List Value)) (event : IsEvent fields row)
         (found : (k : ℕ) → k < length fields → column_of fields (name_at fields k) ≡ Some k) where
@@ -376,6 +394,7 @@ module _
         other_known (tests.Equals n) s few = tt
         other_known (tests.Compare op n) s few = tt
         other_known (tests.SameAs m) s few = column_known m s.0 few
+        other_known (tests.Finds expression) s few = tt
 
       pub leaf_even : (l : Leaf) → IsSound fields (leaf l) → leaf_refusal l (sqlite_lacks fields l) ≡ None
           → EvenIs (tree_value fields (first_values row) (sql_tree fields false (leaf l))) (TestHolds row l.test (field_values row l.field))

@@ -22,10 +22,17 @@ use Rattle.backend_core.specs.declared.tree.LeafTest.{LeafTest}
 use Rattle.backend_core.specs.declared.tree.LeafTest.TheVariants as tests
 use Rattle.backend_core.specs.Trees.{Plain, Plains, no_parts, a_part, all, any, negated, leaf, never}
 use Rattle.backend_core.specs.Sound.{IsSoundPattern, kind_at, IsSoundTest, IsSound, AreSound}
-use Rattle.sqlite_writer.specs.Guarded.{name_at, sign_of, same_test, written_test, is_unsure, other_of, behind_other, guarded_test, sql_tree, sql_trees}
+use Rattle.sqlite_writer.specs.Guarded.{name_at, sign_of, same_test, finds_test, written_test, is_unsure, other_of, behind_other, guarded_test, sql_tree, sql_trees}
 use Rattle.sqlite_writer.specs.Schemas.{AreScalars}
 use Rattle.sqlite_writer.proofs.FieldKinds.{name_scalars, kind_found, not_a_number}
 use Rattle.sqlite_writer.proofs.LeafMeans.{same_characters}
+
+sound_finds : (fields : List Field) (field expression : List ℕ) → all_scalars field ≡ true → IsPlainText expression → unknown fields field ≡ false
+    → IsSoundLeaf fields (finds_test field expression)
+sound_finds fields field expression named plain known =
+    let letters = plain.0 in
+    let above = plain.1 in
+    record { writable = rw (named, letters, above) refl; faultless = λ ps. rw known refl }
 
 module _ (fields : List Field)
     (sound_value : (field : List ℕ) → all_scalars field ≡ true → unknown fields field ≡ false → IsSoundLeaf fields (has_value field))
@@ -100,6 +107,7 @@ module _ (fields : List Field)
         sound_test (tests.Equals n) sound = sound_number name Eq n scalars sound.1 (numbers name kind scalars of_kind sound.0)
         sound_test (tests.Compare op n) sound = sound_number name (sign_of op) n scalars sound.1 (numbers name kind scalars of_kind sound.0)
         sound_test (tests.SameAs other) sound = same_sound other sound.0 sound.1
+        sound_test (tests.Finds expression) sound = sound_finds fields name expression scalars sound.1 (known name kind scalars of_kind)
 
         -- behind the guard of a further field
         sound_behind : (test : LeafTest) → IsSoundTest fields kind test → EachOfTrees (IsSoundLeaf fields) (behind_other fields (other_of test) (written_test fields name test))
@@ -112,6 +120,7 @@ module _ (fields : List Field)
             let letters = name_scalars fields other names in
             let there = kind_found fields (name_at fields other) other (found other sound.0) in
             (sound_value (name_at fields other) letters (known (name_at fields other) (kind_at fields other) letters there), (sound_test (tests.SameAs other) sound, tt))
+        sound_behind (tests.Finds expression) sound = (sound_test (tests.Finds expression) sound, tt)
 
         sound_guarded : (guarded : Bool) (test : LeafTest) → IsSoundTest fields kind test → EachLeaf (IsSoundLeaf fields) (guarded_test fields guarded name test)
         sound_guarded true test sound = (sound_value name scalars (known name kind scalars of_kind), sound_behind test sound)

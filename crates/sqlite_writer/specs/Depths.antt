@@ -30,6 +30,7 @@ written_depth fields (tests.Fits pattern cased) = text_depth (has_wildcard patte
 written_depth fields (tests.Equals n) = 2
 written_depth fields (tests.Compare op n) = 2
 written_depth fields (tests.SameAs other) = same_depth (kind_at fields other)
+written_depth fields (tests.Finds expression) = 2
 
 abbrev pub or_zero : Option ℕ → ℕ
 or_zero None = 0

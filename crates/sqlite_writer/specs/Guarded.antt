@@ -7,7 +7,7 @@ use Rattle.event_schema.specs.declared.schema.FieldKind.{FieldKind}
 use Rattle.event_schema.specs.declared.schema.FieldKind.TheVariants as kinds
 use Rattle.sig_strings.specs.declared.part.Part.{Part}
 use Rattle.sig_strings.specs.Edits.{has_wildcard, plain_text}
-use Rattle.sql_lang.specs.Grammar.{Unsaid, NoCase, Leaf, constant}
+use Rattle.sql_lang.specs.Grammar.{Unsaid, NoCase, Leaf, constant, regexp}
 use Rattle.sql_lang.specs.Tokens as tokens
 use Rattle.sql_lang.specs.Tokens.{Eq}
 use Rattle.sql_layout.specs.Leaves.{has_value, has_no_value, equals_text, equals_field, compares_number, fits_like, fits_glob}
@@ -51,6 +51,10 @@ same_test kinds.Text field other = equals_field field other NoCase
 same_test kinds.Whole field other = equals_field field other Unsaid
 same_test kinds.Address field other = equals_field field other NoCase
 
+-- "field" REGEXP 'expression'
+abbrev pub finds_test : List ℕ → List ℕ → Leaf
+finds_test field expression = regexp field false expression
+
 -- a test of a field of this name, and of others of these fields
 abbrev pub written_test : List Field → List ℕ → LeafTest → Leaf
 written_test fields field tests.Has = has_value field
@@ -60,6 +64,7 @@ written_test fields field (tests.Fits pattern cased) =
 written_test fields field (tests.Equals n) = compares_number field Eq n
 written_test fields field (tests.Compare op n) = compares_number field (sign_of op) n
 written_test fields field (tests.SameAs other) = same_test (kind_at fields other) field (name_at fields other)
+written_test fields field (tests.Finds expression) = finds_test field expression
 
 -- a test that is unknown where there is no value
 abbrev pub is_unsure : LeafTest → Bool
@@ -69,6 +74,7 @@ is_unsure (tests.Fits pattern cased) = true
 is_unsure (tests.Equals n) = true
 is_unsure (tests.Compare op n) = true
 is_unsure (tests.SameAs other) = true
+is_unsure (tests.Finds expression) = true
 
 -- the further field that a test looks at
 abbrev pub other_of : LeafTest → Option ℕ
@@ -78,6 +84,7 @@ other_of (tests.Fits pattern cased) = None
 other_of (tests.Equals n) = None
 other_of (tests.Compare op n) = None
 other_of (tests.SameAs other) = Some other
+other_of (tests.Finds expression) = None
 
 -- a test behind the guard of its further field, if it looks at one
 abbrev pub behind_other : List Field → Option ℕ → Leaf → Trees

@@ -53,6 +53,7 @@ fn test_depth(fields: &[Field], test: &LeafTest) -> usize
         LeafTest::Fits { pattern, cased } => text_depth(pattern.has_wildcard(), *cased),
         LeafTest::Equals(_) | LeafTest::Compare { .. } => 2,
         LeafTest::SameAs(other) => same_depth(kind_of(fields, *other)),
+        LeafTest::Finds(_) => 2,
     }
 }
 

@@ -1,4 +1,4 @@
-//! Queries of comparisons, with a number and of two fields, known by hand.
+//! Queries of comparisons, with a number and of two fields, and of regular expressions, known by hand.
 
 ghost use Rattle.std.specs.Prelude.{◌≤◌};
 
@@ -55,6 +55,11 @@ fn compare(field: u32, op: Op, number: i64) -> Tree {
 
 fn same(field: u32, other: u32) -> Tree {
     leaf(field, LeafTest::SameAs(other))
+}
+
+fn finds(alloc: Global, field: u32, expression: &str) -> Result<Tree, Fail> {
+    let expression = Text::copy(alloc, expression)?;
+    Ok(leaf(field, LeafTest::Finds(expression)))
 }
 
 fn not(alloc: Global, tree: Tree) -> Result<Tree, Fail> {
@@ -177,6 +182,57 @@ fn guards_of_both_fields(rt: HostRuntime) -> Result<(), Fail> {
             "NOT (\"Code\" IS NOT NULL AND \"Code\" < 5 AND \"Parent\" IS NOT NULL AND \"Image\" IS NOT NULL AND \"Parent\" = \"Image\" COLLATE NOCASE)",
         )?
     );
+    Ok(())
+}
+
+#[test]
+fn regular_expressions(rt: HostRuntime) -> Result<(), Fail> {
+    let alloc = rt.alloc();
+    for (field, expression, want) in [
+        (1, "^cmd[.]exe$", "\"Image\" REGEXP '^cmd[.]exe$'"),
+        (1, "it's|%_\\.", "\"Image\" REGEXP 'it''s|%_\\.'"),
+        (1, "'", "\"Image\" REGEXP ''''"),
+        (2, "", "\"Ip\" REGEXP ''"),
+        (3, "^46", "\"Code\" REGEXP '^46'"),
+    ] {
+        let tree = finds(alloc, field, expression)?;
+        assert!(rt; is_written(alloc, &tree, want)?, "{want}");
+    }
+    Ok(())
+}
+
+#[test]
+fn guards_of_regular_expressions(rt: HostRuntime) -> Result<(), Fail> {
+    let alloc = rt.alloc();
+    let none = not(alloc, finds(alloc, 1, "a+")?)?;
+    assert!(rt;
+        is_written(
+            alloc,
+            &none,
+            "NOT (\"Image\" IS NOT NULL AND \"Image\" REGEXP 'a+')",
+        )?
+    );
+    let again = not(alloc, none)?;
+    assert!(rt; is_written(alloc, &again, "NOT NOT \"Image\" REGEXP 'a+'")?);
+    Ok(())
+}
+
+#[test]
+fn regular_expressions_within_limits(rt: HostRuntime) -> Result<(), Fail> {
+    let alloc = rt.alloc();
+    let deep = written_within(alloc, 1, &finds(alloc, 1, "a+")?)?;
+    assert_eq!(rt; deep.as_str(), "1: 112 2 1");
+    let none = not(alloc, finds(alloc, 3, "7")?)?;
+    let deep = written_within(alloc, 1, &none)?;
+    assert_eq!(rt; deep.as_str(), "1: 112 4 1");
+    let several = written_within(alloc, 100, &finds(alloc, 5, "a+")?)?;
+    assert_eq!(rt; several.as_str(), "6: 111 Many");
+    let schema = schema(alloc)?;
+    let mut limits = Limits::standard();
+    limits.query_bytes = 49;
+    let answer = Sqlite.text(alloc, &limits, &schema, &finds(alloc, 1, "a'b")?, RULE);
+    let long = shown(alloc, answer)?;
+    assert_eq!(rt; long.as_str(), "1: 114 50 49");
     Ok(())
 }
 

@@ -19,7 +19,8 @@ fn is_unsure(test: &LeafTest) -> bool
         LeafTest::Fits { .. }
         | LeafTest::Equals(_)
         | LeafTest::Compare { .. }
-        | LeafTest::SameAs(_) => true,
+        | LeafTest::SameAs(_)
+        | LeafTest::Finds(_) => true,
     }
 }
 
@@ -32,7 +33,8 @@ fn other_of(test: &LeafTest) -> Option<u32>
         | LeafTest::Absent
         | LeafTest::Fits { .. }
         | LeafTest::Equals(_)
-        | LeafTest::Compare { .. } => None,
+        | LeafTest::Compare { .. }
+        | LeafTest::Finds(_) => None,
         LeafTest::SameAs(other) => Some(*other),
     }
 }

@@ -27,7 +27,8 @@ fn is_other_many(fields: &[Field], test: &LeafTest) -> bool
         | LeafTest::Absent
         | LeafTest::Fits { .. }
         | LeafTest::Equals(_)
-        | LeafTest::Compare { .. } => false,
+        | LeafTest::Compare { .. }
+        | LeafTest::Finds(_) => false,
         LeafTest::SameAs(other) => is_many(fields, *other),
     }
 }

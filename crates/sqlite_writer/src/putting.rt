@@ -54,8 +54,9 @@ pub(crate) fn put_inside(out: &mut Text, quote: char, c: char) -> Result<(), All
     Ok(())
 }
 
+/// Adds a text, each quote in it doubled.
 #[tactic(auto, using(crate::proofs::Doubled::one_doubled))]
-fn put_doubled(out: &mut Text, quote: char, text: &str) -> Result<(), AllocError>
+pub(crate) fn put_doubled(out: &mut Text, quote: char, text: &str) -> Result<(), AllocError>
     ensures { OnOk result (out.new ≡ out.old ++ doubled quote (chars text.now)) }
 {
     for c in text.chars() {

@@ -7,12 +7,12 @@ ghost use Rattle.sql_lang.specs.Grammar.{spell_test};
 ghost use Rattle.sql_lang.specs.Tokens.{Eq};
 ghost use Rattle.sql_layout.specs.Layout.{op_text, spaced};
 ghost use Rattle.sql_layout.specs.Leaves.{compares_number, has_no_value};
-ghost use Rattle.sqlite_writer.specs.Guarded.{wildcard_test, plain_test, same_test, sign_of};
+ghost use Rattle.sqlite_writer.specs.Guarded.{wildcard_test, plain_test, same_test, finds_test, sign_of};
 ghost use Rattle.sqlite_writer.specs.Pieces.{has_text, test_text};
 
 use crate::fields::{kind_of, name_of};
 use crate::patterns::{put_characters, put_glob, put_like};
-use crate::putting::{put, put_name};
+use crate::putting::{put, put_doubled, put_name};
 use backend_core::{LeafTest, Op};
 use event_schema::{Field, FieldKind, decimal_in};
 use itoa::Buffer;
@@ -133,6 +133,18 @@ fn put_same(out: &mut Text, field: &str, other: &str, kind: FieldKind) -> Result
     }
 }
 
+/// Adds the test that a regular expression has a match in the value.
+#[tactic(auto, using(crate::proofs::Doubled::text_test))]
+fn put_finds(out: &mut Text, field: &str, expression: &str) -> Result<(), Fault>
+    ensures ok { OnOk result (out.new ≡ out.old ++ spaced (spell_test (finds_test (chars field.now) (chars expression.now)))) }
+    ensures err { IfErr result (λ e. e ≡ Fault.Memory) }
+{
+    put_name(out, field)?;
+    put(out, " REGEXP '")?;
+    put_doubled(out, '\'', expression)?;
+    put(out, "'")
+}
+
 /// Adds a test of a field of this name.
 pub(crate) fn put_test(
     out: &mut Text,
@@ -152,5 +164,6 @@ pub(crate) fn put_test(
         LeafTest::SameAs(other) => {
             put_same(out, field, name_of(fields, *other), kind_of(fields, *other))
         }
+        LeafTest::Finds(expression) => put_finds(out, field, expression.as_str()),
     }
 }

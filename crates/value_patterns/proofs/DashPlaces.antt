@@ -7,7 +7,7 @@ use Rattle.dash_choices.specs.Choices.{dash_count, is_dash_place}
 use Rattle.modifier_chains.specs.Kinds.{is_position, is_windash}
 use Rattle.modifier_chains.specs.Written.{Written}
 use Rattle.modifier_chains.specs.declared.modifier.Modifier.{Modifier}
-use Rattle.modifier_chains.specs.declared.modifier.Modifier.TheVariants.{Position as In, All, Cased, Windash, Units, Encoding as As, Exists, Cidr, Order, Fieldref}
+use Rattle.modifier_chains.specs.declared.modifier.Modifier.TheVariants.{Position as In, All, Cased, Windash, Units, Encoding as As, Exists, Cidr, Order, Fieldref, Re, Flag}
 use Rattle.modifier_chains.specs.declared.modifier.Position.{Position}
 use Rattle.modifier_chains.specs.declared.modifier.Position.TheVariants.{Around, After, Before}
 use Rattle.sig_strings.specs.Edits.{is_dash_sign, is_word_part, starts_with_word, dashes_after, dashes_of, starts_with_run, ends_with_run, with_run_before, with_run_after}
@@ -149,6 +149,8 @@ edited_places (Exists ∷ modifiers) parts = edited_places modifiers parts
 edited_places (Cidr ∷ modifiers) parts = edited_places modifiers parts
 edited_places (Order op ∷ modifiers) parts = edited_places modifiers parts
 edited_places (Fieldref ∷ modifiers) parts = edited_places modifiers parts
+edited_places (Re ∷ modifiers) parts = edited_places modifiers parts
+edited_places (Flag flag ∷ modifiers) parts = edited_places modifiers parts
 
 around_places : (b : Bool) (parts : List Part) → dash_count (if b then parts else with_runs Around parts) ≡ dash_count parts
 around_places true parts = refl

@@ -152,7 +152,7 @@ same_networks t m n a b = some_same (sym (network_read t m a) ∙ network_read t
     some_same : Some m ≡ Some n → m ≡ n
     some_same e = ap taken e
 
-network_taken : (a b c d : Bool) (place : Place) → first (must 49 place a ∷ must 50 place b ∷ None ∷ None ∷ None ∷ must 44 place c ∷ None ∷ must 46 place d ∷ []) ≡ None → c ≡ true
+network_taken : (a b c d : Bool) (place : Place) → first (must 49 place a ∷ must 50 place b ∷ None ∷ None ∷ None ∷ must 44 place c ∷ None ∷ must 46 place d ∷ None ∷ None ∷ []) ≡ None → c ≡ true
 network_taken true true true d place h = refl
 network_taken true true false d place h = absurd cc
 network_taken true false c d place h = absurd cc
@@ -162,5 +162,5 @@ network_there : (t : List ℕ) (o : Option Net) → net_in t ≡ o → is_some o
 network_there t None is some = absurd cc
 network_there t (Some n) is some = (n, network_written t n is)
 
-pub some_network : (most dashes : ℕ) (chain : Written) (place : Place) (t : List ℕ) → use_refusal most dashes chain place (network t) ≡ None → (n : Net) × IsNetwork t n
-some_network most dashes chain place t h = network_there t (net_in t) refl (network_taken _ _ _ _ place h)
+pub some_network : (unbuilt : List Place) (most dashes : ℕ) (chain : Written) (place : Place) (t : List ℕ) → use_refusal unbuilt most dashes chain place (network t) ≡ None → (n : Net) × IsNetwork t n
+some_network unbuilt most dashes chain place t h = network_there t (net_in t) refl (network_taken _ _ _ _ place h)

@@ -36,7 +36,7 @@ later false b place more h = absurd cc
 -- the lines of the table for a pattern, by its encoding
 abbrev pattern_lines : ℕ → Option Encoding → Written → Place → List ℕ → Option Refusal
 pattern_lines dashes encoding chain place t =
-    first (must 43 place (no_wildcard encoding t) ∷ must 42 place (enough_bytes encoding chain t) ∷ None ∷ None ∷ None ∷ must 46 place (nat_le (dash_places_of encoding chain t) dashes) ∷ [])
+    first (must 43 place (no_wildcard encoding t) ∷ must 42 place (enough_bytes encoding chain t) ∷ None ∷ None ∷ None ∷ must 46 place (nat_le (dash_places_of encoding chain t) dashes) ∷ None ∷ None ∷ [])
 
 -- a text's own checks decide where one of them refuses
 pub sooner : (a b : Bool) (place : Place) (more : List (Option Refusal)) (r : Refusal) → first (must 49 place a ∷ must 50 place b ∷ []) ≡ Some r
@@ -50,28 +50,28 @@ no_places : (dashes : ℕ) → nat_le 0 dashes ≡ true
 no_places dashes = le-leb 0 dashes (omega arith)
 
 -- two lines, and then nothing else that is refused
-two_lines : (a b c : Bool) (place : Place) → c ≡ true → first (must 43 place a ∷ must 42 place b ∷ None ∷ None ∷ None ∷ must 46 place c ∷ []) ≡ first (must 43 place a ∷ must 42 place b ∷ [])
+two_lines : (a b c : Bool) (place : Place) → c ≡ true → first (must 43 place a ∷ must 42 place b ∷ None ∷ None ∷ None ∷ must 46 place c ∷ None ∷ None ∷ []) ≡ first (must 43 place a ∷ must 42 place b ∷ [])
 two_lines true true c place h = rw h refl
 two_lines true false c place h = refl
 two_lines false b c place h = refl
 
-one_line : (a : Bool) (place : Place) → first (None ∷ None ∷ None ∷ None ∷ None ∷ must 46 place a ∷ []) ≡ must 46 place a
+one_line : (a : Bool) (place : Place) → first (None ∷ None ∷ None ∷ None ∷ None ∷ must 46 place a ∷ None ∷ None ∷ []) ≡ must 46 place a
 one_line true place = refl
 one_line false place = refl
 
-module _ (most dashes : ℕ) (chain : Written) (place : Place) (t : List ℕ) (parts : List Part) (spelled : Spells false t parts)
+module _ (unbuilt : List Place) (most dashes : ℕ) (chain : Written) (place : Place) (t : List ℕ) (parts : List Part) (spelled : Spells false t parts)
     (taken : first (text_checks most place t) ≡ None) where
-  the_lines : use_refusal most dashes chain place (pattern t) ≡ pattern_lines dashes (encoding_of chain.modifiers) chain place t
+  the_lines : use_refusal unbuilt most dashes chain place (pattern t) ≡ pattern_lines dashes (encoding_of chain.modifiers) chain place t
   the_lines = later (nat_le (length t) most) (not (has_nul t)) place _ taken
 
   encoded_lines : (e : Encoding) → encoding_of chain.modifiers ≡ Some e
-      → use_refusal most dashes chain place (pattern t) ≡ first (encoding_checks e chain place parts)
+      → use_refusal unbuilt most dashes chain place (pattern t) ≡ first (encoding_checks e chain place parts)
   encoded_lines e is =
       the_lines ∙ ap (λ (o : Option Encoding). pattern_lines dashes o chain place t) is
       ∙ two_lines _ _ (nat_le 0 dashes) place (no_places dashes) ∙ ap (λ (ps : List Part). first (encoding_checks e chain place ps)) (sym (spelled_is parts t spelled))
 
   plain_lines : encoding_of chain.modifiers ≡ None
-      → use_refusal most dashes chain place (pattern t) ≡ must 46 place (nat_le (dash_count (pattern_of chain parts)) dashes)
+      → use_refusal unbuilt most dashes chain place (pattern t) ≡ must 46 place (nat_le (dash_count (pattern_of chain parts)) dashes)
   plain_lines is =
       the_lines ∙ ap (λ (o : Option Encoding). pattern_lines dashes o chain place t) is
       ∙ one_line _ place ∙ ap (λ (ps : List Part). must 46 place (nat_le (dash_count (pattern_of chain ps)) dashes)) (sym (spelled_is parts t spelled))
@@ -96,25 +96,25 @@ module _ (most dashes : ℕ) (chain : Written) (place : Place) (t : List ℕ) (p
 
   pub encoded_judged : {X : Type 0} (items : X → List (List Part)) (e : Encoding) → encoding_of chain.modifiers ≡ Some e → (r : Result X Fault)
       → Judged (λ all. AreEditedTexts chain e parts (items all)) (first (encoding_checks e chain place parts)) r
-      → Judged (λ all. ArePatterns chain t (items all)) (use_refusal most dashes chain place (pattern t)) r
+      → Judged (λ all. ArePatterns chain t (items all)) (use_refusal unbuilt most dashes chain place (pattern t)) r
   encoded_judged items e is (Ok all) h = (encoded_lines e is ∙ h.0, encoded_patterns e is (items all) h.1)
   encoded_judged items e is (Err Memory) h = tt
   encoded_judged items e is (Err (Refused r)) h = encoded_lines e is ∙ h
 
   pub plain_judged : {X : Type 0} (items : X → List (List Part)) → encoding_of chain.modifiers ≡ None → (r : Result X Fault)
       → Judged (λ all. items all ≡ pattern_of chain parts ∷ []) (must 46 place (nat_le (dash_count (pattern_of chain parts)) dashes)) r
-      → Judged (λ all. ArePatterns chain t (items all)) (use_refusal most dashes chain place (pattern t)) r
+      → Judged (λ all. ArePatterns chain t (items all)) (use_refusal unbuilt most dashes chain place (pattern t)) r
   plain_judged items is (Ok all) h = (plain_lines is ∙ h.0, plain_patterns is (items all) h.1)
   plain_judged items is (Err Memory) h = tt
   plain_judged items is (Err (Refused r)) h = plain_lines is ∙ h
 
-pub refused_sooner : (most dashes : ℕ) (chain : Written) (place : Place) (t : List ℕ) (r : Refusal)
-    → first (text_checks most place t) ≡ Some r → use_refusal most dashes chain place (pattern t) ≡ Some r
-refused_sooner most dashes chain place t r h = sooner (nat_le (length t) most) (not (has_nul t)) place _ r h
+pub refused_sooner : (unbuilt : List Place) (most dashes : ℕ) (chain : Written) (place : Place) (t : List ℕ) (r : Refusal)
+    → first (text_checks most place t) ≡ Some r → use_refusal unbuilt most dashes chain place (pattern t) ≡ Some r
+refused_sooner unbuilt most dashes chain place t r h = sooner (nat_le (length t) most) (not (has_nul t)) place _ r h
 
 -- ---- networks
 
-network_line : (place : Place) (b c : Bool) → c ≡ true → first (None ∷ None ∷ None ∷ must 44 place b ∷ None ∷ must 46 place c ∷ []) ≡ must 44 place b
+network_line : (place : Place) (b c : Bool) → c ≡ true → first (None ∷ None ∷ None ∷ must 44 place b ∷ None ∷ must 46 place c ∷ None ∷ None ∷ []) ≡ must 44 place b
 network_line place true c h = rw h refl
 network_line place false c h = refl
 
@@ -128,37 +128,37 @@ network_decides place t (Err Memory) h = absurd h
 network_decides place t (Err (Refused r)) h =
     ap (λ b. must 44 place b) (none_in t (net_in t) refl h.1) ∙ ap (λ (x : Refusal). Some x) (sym h.0)
 
-pub network_judged : (most dashes : ℕ) (chain : Written) (place : Place) (t : List ℕ) (r : Result Net Fault)
+pub network_judged : (unbuilt : List Place) (most dashes : ℕ) (chain : Written) (place : Place) (t : List ℕ) (r : Result Net Fault)
     → nat_le (length t) most ≡ true → has_nul t ≡ false → NetworkRead place t r
-    → Judged (λ n. IsNetwork t n) (use_refusal most dashes chain place (network t)) r
-network_judged most dashes chain place t r short free h =
+    → Judged (λ n. IsNetwork t n) (use_refusal unbuilt most dashes chain place (network t)) r
+network_judged unbuilt most dashes chain place t r short free h =
     let taken : first (text_checks most place t) ≡ None = rw (short, free) refl in
-    let lines : use_refusal most dashes chain place (network t) ≡ must 44 place (is_some (net_in t)) =
+    let lines : use_refusal unbuilt most dashes chain place (network t) ≡ must 44 place (is_some (net_in t)) =
     later (nat_le (length t) most) (not (has_nul t)) place _ taken ∙ network_line place (is_some (net_in t)) (nat_le 0 dashes) (no_places dashes) in
     subst (λ (o : Option Refusal). Judged (λ n. IsNetwork t n) o r) (sym lines) (network_decides place t r h)
 
 -- ---- numbers that others stand to, and names of fields
 
 ordered_line : (place : Place) (b c : Bool) → c ≡ true
-    → first (None ∷ None ∷ None ∷ None ∷ None ∷ None ∷ None ∷ must 45 place b ∷ must 46 place c ∷ []) ≡ must 45 place b
+    → first (None ∷ None ∷ None ∷ None ∷ None ∷ None ∷ None ∷ must 45 place b ∷ must 46 place c ∷ None ∷ None ∷ []) ≡ must 45 place b
 ordered_line place true c h = rw h refl
 ordered_line place false c h = refl
 
 -- an empty text is short, whatever the greatest length is
-pub ordered_lines : (most dashes : ℕ) (chain : Written) (place : Place) (op : Op) (n : ℤ)
-    → use_refusal most dashes chain place (ordered op n) ≡ must 45 place (is_whole n)
-ordered_lines most dashes chain place op n =
+pub ordered_lines : (unbuilt : List Place) (most dashes : ℕ) (chain : Written) (place : Place) (op : Op) (n : ℤ)
+    → use_refusal unbuilt most dashes chain place (ordered op n) ≡ must 45 place (is_whole n)
+ordered_lines unbuilt most dashes chain place op n =
     let short : nat_le 0 most ≡ true = le-leb 0 most (omega arith) in
     later (nat_le 0 most) true place _ (rw short refl) ∙ ordered_line place (is_whole n) (nat_le 0 dashes) (no_places dashes)
 
 name_line : (place : Place) (b c : Bool) → c ≡ true
-    → first (None ∷ None ∷ must 42 place b ∷ None ∷ None ∷ must 46 place c ∷ []) ≡ must 42 place b
+    → first (None ∷ None ∷ must 42 place b ∷ None ∷ None ∷ must 46 place c ∷ None ∷ None ∷ []) ≡ must 42 place b
 name_line place true c h = rw h refl
 name_line place false c h = refl
 
-pub reference_lines : (most dashes : ℕ) (chain : Written) (place : Place) (t : List ℕ)
-    → first (text_checks most place t) ≡ None → use_refusal most dashes chain place (reference t) ≡ must 42 place (is_legal t)
-reference_lines most dashes chain place t taken =
+pub reference_lines : (unbuilt : List Place) (most dashes : ℕ) (chain : Written) (place : Place) (t : List ℕ)
+    → first (text_checks most place t) ≡ None → use_refusal unbuilt most dashes chain place (reference t) ≡ must 42 place (is_legal t)
+reference_lines unbuilt most dashes chain place t taken =
     later (nat_le (length t) most) (not (has_nul t)) place _ taken ∙ name_line place (is_legal t) (nat_le 0 dashes) (no_places dashes)
 
 -- ---- what isn't refused
@@ -167,9 +167,9 @@ passes : (code : ℕ) (place : Place) (b : Bool) → must code place b ≡ None 
 passes code place true h = refl
 passes code place false h = absurd cc
 
-pub ordered_taken : (most dashes : ℕ) (chain : Written) (place : Place) (op : Op) (n : ℤ)
-    → use_refusal most dashes chain place (ordered op n) ≡ None → is_whole n ≡ true
-ordered_taken most dashes chain place op n h = passes 45 place (is_whole n) (sym (ordered_lines most dashes chain place op n) ∙ h)
+pub ordered_taken : (unbuilt : List Place) (most dashes : ℕ) (chain : Written) (place : Place) (op : Op) (n : ℤ)
+    → use_refusal unbuilt most dashes chain place (ordered op n) ≡ None → is_whole n ≡ true
+ordered_taken unbuilt most dashes chain place op n h = passes 45 place (is_whole n) (sym (ordered_lines unbuilt most dashes chain place op n) ∙ h)
 
 third_passes : (a b c : Bool) (place : Place) (more : List (Option Refusal))
     → first (must 49 place a ∷ must 50 place b ∷ None ∷ None ∷ must 42 place c ∷ more) ≡ None → c ≡ true
@@ -178,6 +178,6 @@ third_passes true true false place more h = absurd cc
 third_passes true false c place more h = absurd cc
 third_passes false b c place more h = absurd cc
 
-pub reference_taken : (most dashes : ℕ) (chain : Written) (place : Place) (t : List ℕ)
-    → use_refusal most dashes chain place (reference t) ≡ None → is_legal t ≡ true
-reference_taken most dashes chain place t h = third_passes (nat_le (length t) most) (not (has_nul t)) (is_legal t) place _ h
+pub reference_taken : (unbuilt : List Place) (most dashes : ℕ) (chain : Written) (place : Place) (t : List ℕ)
+    → use_refusal unbuilt most dashes chain place (reference t) ≡ None → is_legal t ≡ true
+reference_taken unbuilt most dashes chain place t h = third_passes (nat_le (length t) most) (not (has_nul t)) (is_legal t) place _ h

@@ -9,7 +9,7 @@ use Rattle.modifier_chains.specs.Kinds.{is_position}
 use Rattle.modifier_chains.specs.Written.{Written}
 use Rattle.modifier_chains.specs.declared.modifier.Encoding.{Encoding}
 use Rattle.modifier_chains.specs.declared.modifier.Modifier.{Modifier}
-use Rattle.modifier_chains.specs.declared.modifier.Modifier.TheVariants.{Position as In, All, Cased, Windash, Units, Encoding as As, Exists, Cidr, Order, Fieldref}
+use Rattle.modifier_chains.specs.declared.modifier.Modifier.TheVariants.{Position as In, All, Cased, Windash, Units, Encoding as As, Exists, Cidr, Order, Fieldref, Re, Flag}
 use Rattle.modifier_chains.specs.declared.modifier.Position.{Position}
 use Rattle.modifier_chains.specs.declared.modifier.Position.TheVariants.{Around, After, Before}
 use Rattle.sig_encode.specs.Base64.{alphabet}
@@ -45,6 +45,8 @@ module _ (Q : List Part → Type 0) (before : (parts : List Part) → Q parts �
   edit_keeps Cidr parts h = h
   edit_keeps (Order op) parts h = h
   edit_keeps Fieldref parts h = h
+  edit_keeps Re parts h = h
+  edit_keeps (Flag flag) parts h = h
 
   edits_keep : (modifiers : List Modifier) (parts : List Part) → Q parts → Q (all_edited modifiers parts)
   edits_keep [] parts h = h

@@ -8,3 +8,4 @@ pub mod Numbers
 pub mod PartsLemmas
 pub mod Passing
 pub mod Plain
+pub mod Readable

@@ -7,16 +7,19 @@ use Rattle.std.specs.Str.{all_scalars}
 use Rattle.std.proofs.lemmas.Bool.{and_from, or_parts}
 use Rattle.std.proofs.lemmas.Bool.Decides.{nat_tests}
 use Rattle.event_schema.specs.Lists.{EachOf}
+use Rattle.languages.specs.Patterns.{is_pattern}
 use Rattle.modifier_chains.specs.Written.{Written}
+use Rattle.modifier_chains.specs.declared.form.Flags.{Flags}
 use Rattle.sig_base.specs.declared.refusal.Fault.{Fault}
 use Rattle.sig_base.specs.declared.refusal.Place.{Place}
 use Rattle.sig_base.specs.declared.refusal.Refusal.{Refusal}
 use Rattle.sig_base.specs.Judged.{Judged, must, first}
 use Rattle.sig_strings.specs.Edits.{is_written, plain_text}
 use Rattle.sig_strings.specs.declared.part.Part.{Part}
+use Rattle.value_patterns.specs.Expressions.{expression_text, IsPlainExpression}
 use Rattle.value_patterns.specs.Parts.{has_nul}
 use Rattle.value_patterns.specs.PlainPatterns.{is_filled, is_dashed, is_plain, IsDashedPattern, IsPlainPattern}
-use Rattle.value_patterns.specs.Uses.{pattern, use_refusal, ArePatterns}
+use Rattle.value_patterns.specs.Uses.{pattern, expression, use_refusal, ArePatterns}
 use Rattle.value_patterns.proofs.Keeping.{AllParts, passing, by_parts, patterns_filled, patterns_pass}
 
 abbrev pub above_nul : ℕ → Bool
@@ -29,7 +32,7 @@ scalars_pass (c ∷ cs) = ap (λ (b : Bool). scalar c && b) (scalars_pass cs)
 above : (c : ℕ) → (c == 0) ≡ false → nat_lt 0 c ≡ true
 above c differs = grind (arith, nat_tests)
 
-no_nul : (text : List ℕ) → has_nul text ≡ false → list_all above_nul text ≡ true
+pub no_nul : (text : List ℕ) → has_nul text ≡ false → list_all above_nul text ≡ true
 no_nul [] none = refl
 no_nul (c ∷ cs) none =
     let both = or_parts (c == 0) (has_nul cs) none in
@@ -86,8 +89,26 @@ no_nul_left true false place more h = refl
 no_nul_left false b place more h = absurd cc
 
 -- what is read of a text that isn't refused
-pub judged_plain : {X : Type 0} (items : X → List (List Part)) (most dashes : ℕ) (chain : Written) (place : Place) (t : List ℕ) (r : Result X Fault) → all_scalars t ≡ true
-    → Judged (λ all. ArePatterns chain t (items all)) (use_refusal most dashes chain place (pattern t)) r → IfOk r (λ all. EachOf IsDashedPattern (items all))
-judged_plain items most dashes chain place t (Ok all) scalars h =
+pub judged_plain : {X : Type 0} (items : X → List (List Part)) (unbuilt : List Place) (most dashes : ℕ) (chain : Written) (place : Place) (t : List ℕ) (r : Result X Fault) → all_scalars t ≡ true
+    → Judged (λ all. ArePatterns chain t (items all)) (use_refusal unbuilt most dashes chain place (pattern t)) r → IfOk r (λ all. EachOf IsDashedPattern (items all))
+judged_plain items unbuilt most dashes chain place t (Ok all) scalars h =
     patterns_plain chain t (items all) scalars (no_nul_left (nat_le (length t) most) (has_nul t) place _ h.0) h.1
-judged_plain items most dashes chain place t (Err e) scalars h = tt
+judged_plain items unbuilt most dashes chain place t (Err e) scalars h = tt
+
+-- ---- regular expressions
+
+is_read : (a b c reads : Bool) (place : Place) (more : List (Option Refusal))
+    → first (must 49 place a ∷ must 50 place b ∷ None ∷ None ∷ None ∷ None ∷ None ∷ must 46 place c ∷ must 47 place reads ∷ more) ≡ None → reads ≡ true
+is_read true true true true place more h = refl
+is_read true true true false place more h = absurd cc
+is_read true true false reads place more h = absurd cc
+is_read true false c reads place more h = absurd cc
+is_read false b c reads place more h = absurd cc
+
+-- a regular expression that isn't refused is one that the grammar reads
+pub expression_taken : (unbuilt : List Place) (most dashes : ℕ) (chain : Written) (place : Place) (flags : Flags) (t : List ℕ)
+    → all_scalars t ≡ true → use_refusal unbuilt most dashes chain place (expression flags t) ≡ None → IsPlainExpression flags t
+expression_taken unbuilt most dashes chain place flags t scalars h = (
+  is_read (nat_le (length t) most) (not (has_nul t)) (nat_le 0 dashes) (is_pattern (expression_text flags t)) place _ h,
+  (scalars, no_nul t (no_nul_left (nat_le (length t) most) (has_nul t) place _ h)),
+)

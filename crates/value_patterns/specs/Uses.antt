@@ -7,6 +7,7 @@ use Rattle.dash_choices.specs.Choices.{dash_count}
 use Rattle.event_schema.specs.Names.{is_legal}
 use Rattle.modifier_chains.specs.Written.{Written}
 use Rattle.modifier_chains.specs.declared.modifier.Encoding.{Encoding}
+use Rattle.modifier_chains.specs.declared.form.Flags.{Flags}
 use Rattle.modifier_chains.specs.declared.modifier.Op.{Op}
 use Rattle.sig_encode.specs.Written.{net_in}
 use Rattle.sig_strings.specs.Edits.{has_wildcard, plain_text}
@@ -14,6 +15,7 @@ use Rattle.sig_strings.specs.Spells.{Spells}
 use Rattle.sig_strings.specs.declared.part.Part.{Part}
 use Rattle.value_patterns.specs.Edited.{pattern_of}
 use Rattle.value_patterns.specs.Encoded.{encoding_of, units_of, bytes_in, least_bytes, as_pattern, AreTexts, AreAlternatives}
+use Rattle.value_patterns.specs.Expressions.{expression_text, is_readable, is_built_at}
 use Rattle.value_patterns.specs.Numbers.{is_whole}
 use Rattle.value_patterns.specs.Parts.{parts_of, has_nul}
 
@@ -35,6 +37,8 @@ pub data Use : Type 0 where
   ordered : Op → ℤ → Use
   -- the field of this name
   reference : List ℕ → Use
+  -- the regular expression of this text, read with these flags
+  expression : Flags → List ℕ → Use
 
 abbrev pub is_used : Use → Bool
 is_used unused = false
@@ -45,6 +49,7 @@ is_used (network t) = true
 is_used (number n) = true
 is_used (ordered op n) = true
 is_used (reference t) = true
+is_used (expression flags t) = true
 
 -- the text that is read, if one is
 abbrev pub text_of : Use → List ℕ
@@ -56,6 +61,7 @@ text_of (network t) = t
 text_of (number n) = []
 text_of (ordered op n) = []
 text_of (reference t) = t
+text_of (expression flags t) = t
 
 -- what the text is encoded as, if it's one of a pattern and its chain encodes it
 abbrev pub encoding_in : Written → Use → Option Encoding
@@ -67,6 +73,7 @@ encoding_in chain (network t) = None
 encoding_in chain (number n) = None
 encoding_in chain (ordered op n) = None
 encoding_in chain (reference t) = None
+encoding_in chain (expression flags t) = None
 
 -- what is encoded has no wildcard
 abbrev pub no_wildcard : Option Encoding → List ℕ → Bool
@@ -88,6 +95,7 @@ is_name_text (network t) = true
 is_name_text (number n) = true
 is_name_text (ordered op n) = true
 is_name_text (reference t) = is_legal t
+is_name_text (expression flags t) = true
 
 -- a network's text is one
 abbrev pub is_network_text : Use → Bool
@@ -99,6 +107,7 @@ is_network_text (network t) = is_some (net_in t)
 is_network_text (number n) = true
 is_network_text (ordered op n) = true
 is_network_text (reference t) = true
+is_network_text (expression flags t) = true
 
 -- a number that others stand to is one that fields have
 abbrev pub is_in_range : Use → Bool
@@ -110,6 +119,19 @@ is_in_range (network t) = true
 is_in_range (number n) = true
 is_in_range (ordered op n) = is_whole n
 is_in_range (reference t) = true
+is_in_range (expression flags t) = true
+
+-- the regular expression that is asked for, if one is
+abbrev pub expression_in : Use → Option (List ℕ)
+expression_in unused = None
+expression_in absent = None
+expression_in (existing b) = None
+expression_in (pattern t) = None
+expression_in (network t) = None
+expression_in (number n) = None
+expression_in (ordered op n) = None
+expression_in (reference t) = None
+expression_in (expression flags t) = Some (expression_text flags t)
 
 -- the dash places of the pattern that is made of a text; what is encoded has none, since no chain has `windash` beside an
 -- encoding
@@ -126,12 +148,14 @@ dash_places chain (network t) = 0
 dash_places chain (number n) = 0
 dash_places chain (ordered op n) = 0
 dash_places chain (reference t) = 0
+dash_places chain (expression flags t) = 0
 
 -- what has to hold of a use, in the order in which it's judged: the value is taken; its text has at most so many
 -- characters, and no U+0000; what is encoded has no wildcard, and bytes enough; a field's name is legal, and a network is
--- one; a number that others stand to is one that fields have; and there are at most so many dash places
-abbrev pub use_checks : ℕ → ℕ → Written → Place → Use → List (Option Refusal)
-use_checks most dashes chain place u =
+-- one; a number that others stand to is one that fields have; there are at most so many dash places; and a regular expression
+-- is one that the grammar reads, and its place isn't one of those at which one isn't built
+abbrev pub use_checks : List Place → ℕ → ℕ → Written → Place → Use → List (Option Refusal)
+use_checks unbuilt most dashes chain place u =
     must 42 place (is_used u)
     ∷ must 49 place (nat_le (length (text_of u)) most)
     ∷ must 50 place (not (has_nul (text_of u)))
@@ -141,11 +165,13 @@ use_checks most dashes chain place u =
     ∷ must 44 place (is_network_text u)
     ∷ must 45 place (is_in_range u)
     ∷ must 46 place (nat_le (dash_places chain u) dashes)
+    ∷ must 47 place (is_readable (expression_in u))
+    ∷ must 48 place (is_built_at unbuilt place (expression_in u))
     ∷ []
 
 -- why a use is refused
-abbrev pub use_refusal : ℕ → ℕ → Written → Place → Use → Option Refusal
-use_refusal most dashes chain place u = first (use_checks most dashes chain place u)
+abbrev pub use_refusal : List Place → ℕ → ℕ → Written → Place → Use → Option Refusal
+use_refusal unbuilt most dashes chain place u = first (use_checks unbuilt most dashes chain place u)
 
 -- the patterns that a text stands for: its alternatives, each edited as the chain says
 pub record ArePatterns (chain : Written) (t : List ℕ) (patterns : List (List Part)) : Type 0 where

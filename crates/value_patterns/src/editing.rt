@@ -32,7 +32,9 @@ fn edited(modifier: Modifier, pattern: Pattern) -> Result<Pattern, Fault>
         | Modifier::Exists
         | Modifier::Cidr
         | Modifier::Order(_)
-        | Modifier::Fieldref => Ok(pattern),
+        | Modifier::Fieldref
+        | Modifier::Re
+        | Modifier::Flag(_) => Ok(pattern),
     }
 }
 

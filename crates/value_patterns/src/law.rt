@@ -5,15 +5,18 @@ ghost use Rattle.std.specs.List.{list_all, list_any};
 ghost use Rattle.std.specs.Str.{all_scalars};
 ghost use Rattle.dash_choices.specs.Choices.{choices, dash_count};
 ghost use Rattle.event_schema.specs.Addresses.{IsAddress};
+ghost use Rattle.event_schema.specs.Events.{IsPlainText};
 ghost use Rattle.event_schema.specs.Lists.{EachOf};
 ghost use Rattle.modifier_chains.specs.Kinds.{is_windash};
 ghost use Rattle.modifier_chains.specs.Written.{Written};
+ghost use Rattle.modifier_chains.specs.declared.form.Flags.{Flags};
 ghost use Rattle.sig_base.specs.declared.refusal.Place.{Place};
 ghost use Rattle.sig_encode.specs.Networks.{Net, InNetwork, IsNetwork, SomeFits, pattern_count, patterns_of};
 ghost use Rattle.sig_strings.specs.Edits.{dashes_of};
 ghost use Rattle.sig_strings.specs.Spells.{Spells};
 ghost use Rattle.sig_strings.specs.declared.part.Part.{Part};
 ghost use Rattle.value_patterns.specs.Edited.{pattern_of};
+ghost use Rattle.value_patterns.specs.Expressions.{expression_text};
 ghost use Rattle.value_patterns.specs.Parts.{has_nul, parts_of};
 ghost use Rattle.value_patterns.specs.PlainPatterns.{is_dashed, is_plain, IsDashedPattern, IsPlainPattern};
 ghost use Rattle.value_patterns.specs.Uses as uses;
@@ -33,8 +36,8 @@ pub fn one_list_of_patterns()
 
 /// A text is one network at most, and one where it isn't refused.
 pub fn one_network()
-    ensures some { (most dashes : ℕ) (chain : Written) (place : Place) (text : List ℕ)
-        → uses.use_refusal most dashes chain place (uses.network text) ≡ None → (n : Net) × IsNetwork text n }
+    ensures some { (unbuilt : List Place) (most dashes : ℕ) (chain : Written) (place : Place) (text : List ℕ)
+        → uses.use_refusal unbuilt most dashes chain place (uses.network text) ≡ None → (n : Net) × IsNetwork text n }
     ensures same { (text : List ℕ) (m n : Net) → IsNetwork text m → IsNetwork text n → m ≡ n }
 {}
 
@@ -50,6 +53,11 @@ pub fn patterns_are_dashed()
 pub fn dash_places_are_counted()
     ensures { (chain : Written) (text : List ℕ) → dash_count (pattern_of chain (parts_of false text))
         ≡ (if list_any is_windash chain.modifiers then dash_count (dashes_of (parts_of false text)) else 0) }
+{}
+
+/// A regular expression begins with letters and signs, and goes on with its text.
+pub fn expressions_are_plain()
+    ensures { (flags : Flags) (text : List ℕ) → IsPlainText text → IsPlainText (expression_text flags text) }
 {}
 
 /// The choices of dashes of a pattern without placeholders can be written.

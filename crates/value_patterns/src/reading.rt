@@ -1,6 +1,6 @@
 //! The patterns that texts stand for, and why they're refused.
 
-ghost use Rattle.std.specs.Prelude.{◌≡◌, ℕ, ◌∷◌, [], map, nat_le, false, IfOk, IfErr};
+ghost use Rattle.std.specs.Prelude.{◌≡◌, ℕ, ◌∷◌, [], List, map, nat_le, false, IfOk, IfErr};
 ghost use Rattle.std.specs.Str.{chars};
 ghost use Rattle.dash_choices.specs.Choices as choices;
 ghost use Rattle.event_schema.specs.Lists.{EachOf};
@@ -8,6 +8,7 @@ ghost use Rattle.event_schema.specs.Names.{IsName};
 ghost use Rattle.modifier_chains.specs.Written.{Written};
 ghost use Rattle.modifier_chains.specs.declared.modifier.Op.{Op};
 ghost use Rattle.sig_base.specs.Judged.{Judged, first, must};
+ghost use Rattle.sig_base.specs.declared.refusal.Place as places;
 ghost use Rattle.sig_encode.specs.Networks.{IsNetwork};
 ghost use Rattle.sig_strings.specs.Spells.{Spells};
 ghost use Rattle.value_patterns.specs.Edited as edits;
@@ -26,7 +27,8 @@ use sig_encode::Network;
 use sig_strings::{Part, Pattern, SharedPattern};
 use std::alloc::Global;
 
-fn has_nul(text: &str) -> bool
+/// Whether a character is U+0000.
+pub fn has_nul(text: &str) -> bool
     ensures { result ≡ parts.has_nul (chars text.now) }
 {
     text.chars().any(|c| c == '\0')
@@ -127,8 +129,8 @@ pub fn read_patterns(
     text: &str,
     place: Place,
 ) -> Result<Vec<SharedPattern>, Fault>
-    ensures judged { Judged (λ all. uses.ArePatterns chain.now (chars text.now) all.items)
-        (uses.use_refusal limits.now.value_chars limits.now.dashes chain.now place (uses.pattern (chars text.now))) result }
+    ensures judged { (unbuilt : List places.Place) → Judged (λ all. uses.ArePatterns chain.now (chars text.now) all.items)
+        (uses.use_refusal unbuilt limits.now.value_chars limits.now.dashes chain.now place (uses.pattern (chars text.now))) result }
     ensures plain { IfOk result (λ all. EachOf IsDashedPattern all.items) }
 {
     let pattern = read_pattern(alloc, limits, text, place)?;
@@ -141,8 +143,8 @@ pub fn read_patterns(
 /// The network that a text is, under a chain that takes it for one; takes no memory. At `place`, a text of more characters
 /// than `value_chars` is refused 49, one with U+0000 50, and one that is no network 44, the first of these in this order.
 pub fn read_network(limits: &Limits, text: &str, place: Place) -> Result<Network, Fault>
-    ensures { (chain : Written) → Judged (λ n. IsNetwork (chars text.now) n)
-        (uses.use_refusal limits.now.value_chars limits.now.dashes chain place (uses.network (chars text.now))) result }
+    ensures { (unbuilt : List places.Place) (chain : Written) → Judged (λ n. IsNetwork (chars text.now) n)
+        (uses.use_refusal unbuilt limits.now.value_chars limits.now.dashes chain place (uses.network (chars text.now))) result }
 {
     if count_of(text) > limits.value_chars {
         return Err(refused(Code::VALUE_TOO_LONG, place));
@@ -156,8 +158,8 @@ pub fn read_network(limits: &Limits, text: &str, place: Place) -> Result<Network
 /// Judges a number that others stand to, which a chain takes; takes no memory. At `place`, -2^63 is refused 45: no field
 /// has it.
 pub fn check_ordered(number: i64, place: Place) -> Result<(), Fault>
-    ensures { (most dashes : ℕ) (chain : Written) (op : Op) → Judged (λ done. Unit {0})
-        (uses.use_refusal most dashes chain place (uses.ordered op number)) result }
+    ensures { (unbuilt : List places.Place) (most dashes : ℕ) (chain : Written) (op : Op) → Judged (λ done. Unit {0})
+        (uses.use_refusal unbuilt most dashes chain place (uses.ordered op number)) result }
 {
     if number == i64::MIN {
         return Err(refused(Code::NUMBER_RANGE, place));
@@ -173,8 +175,8 @@ pub fn read_reference(
     text: &Text,
     place: Place,
 ) -> Result<Text, Fault>
-    ensures judged { (chain : Written) → Judged (λ name. name ≡ text.now)
-        (uses.use_refusal limits.now.value_chars limits.now.dashes chain place (uses.reference text.now)) result }
+    ensures judged { (unbuilt : List places.Place) (chain : Written) → Judged (λ name. name ≡ text.now)
+        (uses.use_refusal unbuilt limits.now.value_chars limits.now.dashes chain place (uses.reference text.now)) result }
     ensures legal { IfOk result (λ name. IsName name) }
 {
     if count_of(text.as_str()) > limits.value_chars {

@@ -1,7 +1,9 @@
 //! Patterns and refusals reckoned by hand.
 
-use crate::{check_ordered, read_network, read_patterns, read_reference};
-use modifier_chains::Chain;
+use crate::{
+    check_ordered, expression_text, read_expression, read_network, read_patterns, read_reference,
+};
+use modifier_chains::{Chain, Flags};
 use sig_base::{Fault, Limits, Place, Refusal, Text};
 use sig_strings::{Part, SharedPattern};
 use std::alloc::Global;
@@ -72,6 +74,34 @@ a\t~42
 a|b\0~50
 a|bcdefghijklmnopqrst~49
 aaaaaaaaaaaaaaaaaaaaa~49";
+
+/// Flags, texts of at most 20 characters, and the regular expression, or the number of a refusal.
+const EXPRESSIONS: &str = r"~a.c~a.c
+~~
+i~a~(?i)a
+m~^a$~(?m)^a$
+s~.~(?s).
+mi~a|b~(?im)a|b
+si~a~(?is)a
+sm~a~(?ms)a
+smi~^.*$~(?ims)^.*$
+ims~~(?ims)
+i~(?s)a~(?i)(?s)a
+~\d{2,3}~\d{2,3}
+~(~47
+~[~47
+i~a{2,1}~47
+~*~47
+~(?q)a~47
+~\~47
+~aaaaaaaaaaaaaaaaaaaa~aaaaaaaaaaaaaaaaaaaa
+ims~aaaaaaaaaaaaaaaaaaaa~(?ims)aaaaaaaaaaaaaaaaaaaa
+~(((((((((((((((((((((~49";
+
+/// Texts with U+0000, and the number of the refusal.
+const NUL_EXPRESSIONS: &str = "(\0~50
+a\0~50
+((((((((((((((((((((\0~49";
 
 fn chain(alloc: Global, joined: &str, keyword: bool) -> Result<Chain, Fail> {
     let mut words = Vec::new(alloc);
@@ -147,6 +177,47 @@ fn answered_reference(alloc: Global, text: &str) -> Result<String, Fail> {
     }
 }
 
+/// The flags of these letters.
+fn flags_of(letters: &str) -> Flags {
+    Flags {
+        i: letters.contains('i'),
+        m: letters.contains('m'),
+        s: letters.contains('s'),
+    }
+}
+
+/// The regular expression of a text, where none is built at these places.
+fn answered_expression(
+    alloc: Global,
+    limits: &Limits,
+    unbuilt: &[Place],
+    flags: Flags,
+    text: &str,
+) -> Result<String, Fail> {
+    let text = Text::copy(alloc, text)?;
+    match read_expression(alloc, limits, unbuilt, flags, &text, VALUE) {
+        Ok(text) => Ok(format!(in alloc;
+            "{}",
+            expression_text(alloc, flags, text.as_str())?.as_str()
+        )?),
+        Err(Fault::Refused(refusal)) => refused(alloc, &refusal),
+        Err(Fault::Memory) => Ok(String::new(alloc)),
+    }
+}
+
+/// Groups around a letter, one in the other.
+fn nested(alloc: Global, count: usize) -> Result<String, Fail> {
+    let mut text = String::new(alloc);
+    for _ in 0..count {
+        text.push('(')?;
+    }
+    text.push('a')?;
+    for _ in 0..count {
+        text.push(')')?;
+    }
+    Ok(text)
+}
+
 /// A row's three parts.
 fn row(line: &str) -> Option<(&str, &str, &str)> {
     let (joined, rest) = line.split_once('~')?;
@@ -198,6 +269,53 @@ fn texts_name_fields(rt: HostRuntime) -> Result<(), Fail> {
         };
         assert_eq!(rt; answered_reference(alloc, text)?.as_str(), want, "{line}");
     }
+    Ok(())
+}
+
+#[test]
+fn texts_are_regular_expressions(rt: HostRuntime) -> Result<(), Fail> {
+    let alloc = rt.alloc();
+    assert_eq!(rt; EXPRESSIONS.lines().count(), 21);
+    for line in EXPRESSIONS.lines() {
+        let Some((letters, text, want)) = row(line) else {
+            panic!(rt; "{line}");
+        };
+        let got = answered_expression(alloc, &limits(), &[KEY], flags_of(letters), text)?;
+        assert_eq!(rt; got.as_str(), want, "{line}");
+    }
+    for line in NUL_EXPRESSIONS.lines() {
+        let Some((text, want)) = line.split_once('~') else {
+            panic!(rt; "{line}");
+        };
+        let got = answered_expression(alloc, &limits(), &[VALUE], flags_of("i"), text)?;
+        assert_eq!(rt; got.as_str(), want, "{line}");
+    }
+    Ok(())
+}
+
+#[test]
+fn regular_expressions_are_not_built(rt: HostRuntime) -> Result<(), Fail> {
+    let alloc = rt.alloc();
+    let none = flags_of("");
+    let taken = answered_expression(alloc, &limits(), &[VALUE, KEY], none, "a")?;
+    assert_eq!(rt; taken.as_str(), "48");
+    let unread = answered_expression(alloc, &limits(), &[VALUE], none, "(")?;
+    assert_eq!(rt; unread.as_str(), "47");
+    let longer = answered_expression(alloc, &limits(), &[VALUE], none, "aaaaaaaaaaaaaaaaaaaaa")?;
+    assert_eq!(rt; longer.as_str(), "49");
+    Ok(())
+}
+
+#[test]
+fn regular_expressions_nest_so_deep(rt: HostRuntime) -> Result<(), Fail> {
+    let alloc = rt.alloc();
+    let standard = Limits::standard();
+    let text = nested(alloc, 250)?;
+    let deepest = answered_expression(alloc, &standard, &[KEY], flags_of(""), text.as_str())?;
+    assert_eq!(rt; deepest.as_str(), text.as_str());
+    let text = nested(alloc, 251)?;
+    let deeper = answered_expression(alloc, &standard, &[KEY], flags_of(""), text.as_str())?;
+    assert_eq!(rt; deeper.as_str(), "47");
     Ok(())
 }
 

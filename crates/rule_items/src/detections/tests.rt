@@ -1,4 +1,5 @@
 use super::*;
+use crate::expressions::find_expressions;
 use crate::item::Fields;
 use modifier_chains::Joined;
 use sig_base::Detail;
@@ -38,10 +39,20 @@ fn detection(alloc: Global, value: Node) -> Result<Node, Fail> {
     Ok(Node::map(at(6, 5), entries))
 }
 
-/// The code, the place and the word of what refuses the value of `detection`.
+/// The code, the place and the word of what refuses the value of `detection`, where each regular expression is built.
 fn refusal_within(alloc: Global, limits: &Limits, node: &Node) -> Result<String, Fail> {
+    refusal_where_unbuilt(alloc, limits, [].as_slice(), node)
+}
+
+/// .. where none is built at these places.
+fn refusal_where_unbuilt(
+    alloc: Global,
+    limits: &Limits,
+    unbuilt: &[Place],
+    node: &Node,
+) -> Result<String, Fail> {
     let mut shown = String::new(alloc);
-    let Err(Fault::Refused(refusal)) = read_detections(alloc, limits, node) else {
+    let Err(Fault::Refused(refusal)) = read_detections(alloc, limits, unbuilt, node) else {
         return Ok(shown);
     };
     let code = refusal.code.number();
@@ -95,6 +106,10 @@ fn names_are_refused(rt: HostRuntime) -> Result<(), Fail> {
         ("Image|contains|endswith", "41 7:9"),
         ("|exists", "41 7:9"),
         ("|near", "40 7:9 near"),
+        ("Image|re|s|i|all", ""),
+        ("|re", ""),
+        ("Image|re|i|i", "41 7:9"),
+        ("Image|i", "41 7:9"),
     ] {
         assert_eq!(rt; name_refusal(rt.alloc(), key)?.as_str(), want, "{key}");
     }
@@ -132,12 +147,125 @@ fn values_are_refused(rt: HostRuntime) -> Result<(), Fail> {
         ("Image|exists", "yes", "42 8:13"),
         ("", "abcd", "71 7:9"),
         ("Image|near", "abcd", "40 7:9 near"),
+        ("Image|re", "a.c", ""),
+        ("Image|re", "(", "47 8:13"),
+        ("Image|re", "((((", "49 8:13"),
+        ("Image|re", "(\0", "50 8:13"),
+        ("|re|i", "[", "47 8:13"),
     ] {
         assert_eq!(rt;
             value_refusal(rt.alloc(), key, value)?.as_str(),
             want,
             "{value}"
         );
+    }
+    Ok(())
+}
+
+/// The value of `detection` whose `sel` has these two items, one in line 7 and one in line 8, with texts.
+fn two_items(alloc: Global, first: &str, text_of_first: &str, second: &str) -> Result<Node, Fail> {
+    let entries = vec![in alloc;
+        entry(
+            alloc,
+            at(7, 9),
+            first,
+            text(alloc, at(7, 20), text_of_first)?
+        )?,
+        entry(alloc, at(8, 9), second, text(alloc, at(8, 20), "b")?)?,
+    ]?;
+    detection(alloc, Node::map(at(7, 9), entries))
+}
+
+/// What refuses them where no regular expression is built in this line.
+fn unbuilt_refusal(
+    alloc: Global,
+    line: u32,
+    first: &str,
+    text_of_first: &str,
+    second: &str,
+) -> Result<String, Fail> {
+    let node = two_items(alloc, first, text_of_first, second)?;
+    let unbuilt = [at(3, 20), at(line, 20)];
+    refusal_where_unbuilt(alloc, &Limits::standard(), unbuilt.as_slice(), &node)
+}
+
+/// A regular expression that isn't built is refused in its value's turn.
+#[test]
+fn what_is_not_built_is_refused(rt: HostRuntime) -> Result<(), Fail> {
+    for (line, first, value, second, want) in [
+        (9, "Image|re", "a", "User|re", ""),
+        (7, "Image|re", "a", "User|re", "48 7:20"),
+        (8, "Image|re", "a", "User|re", "48 8:20"),
+        (7, "Image|re", "(", "User|re", "47 7:20"),
+        (7, "Image", "a", "User|re", ""),
+        (7, "|re|m", "a", "", "48 7:20"),
+        (8, "", "a", "User|re", "71 7:9"),
+    ] {
+        assert_eq!(rt;
+            unbuilt_refusal(rt.alloc(), line, first, value, second)?.as_str(),
+            want,
+            "{line} {first} {second}"
+        );
+    }
+    Ok(())
+}
+
+/// The regular expressions in the value of `detection`, each behind its place.
+fn expressions_shown(alloc: Global, limits: &Limits, node: &Node) -> Result<String, Fail> {
+    let mut shown = String::new(alloc);
+    let expressions = find_expressions(alloc, limits, node)?;
+    for expression in expressions.as_slice() {
+        let place = expression.place;
+        let text = expression.text.as_str();
+        shown.push_str(&format!(in alloc; " {}:{} {text}", place.line, place.column)?)?;
+    }
+    Ok(shown)
+}
+
+fn expressions_of(alloc: Global, first: &str, second: &str) -> Result<String, Fail> {
+    let node = two_items(alloc, first, "(", second)?;
+    expressions_shown(alloc, &Limits::standard(), &node)
+}
+
+/// An item whose key is none has no regular expressions, and the items behind it have theirs.
+#[test]
+fn regular_expressions_are_found(rt: HostRuntime) -> Result<(), Fail> {
+    for (first, second, want) in [
+        ("Image|re", "User|re|i", " 7:20 ( 8:20 (?i)b"),
+        ("|re|s|all|m", "User", " 7:20 (?ms)("),
+        ("Image|re|foo", "User|re", " 8:20 b"),
+        ("Image|re|re", "", ""),
+    ] {
+        assert_eq!(rt;
+            expressions_of(rt.alloc(), first, second)?.as_str(),
+            want,
+            "{first} {second}"
+        );
+    }
+    Ok(())
+}
+
+/// At most one character in a value.
+fn one_character() -> Limits {
+    let mut limits = Limits::standard();
+    limits.value_chars = 1;
+    limits
+}
+
+/// The regular expressions of an item with a list of a text and a null, where a value has at most one character.
+fn listed_expressions(alloc: Global, value: &str) -> Result<String, Fail> {
+    let mut elements = Vec::new(alloc);
+    elements.push(text(alloc, at(8, 13), value)?)?;
+    elements.push(Node::null(at(8, 15)))?;
+    let items = map(alloc, at(7, 9), "Image|re", Node::list(at(8, 11), elements))?;
+    let node = detection(alloc, items)?;
+    expressions_shown(alloc, &one_character(), &node)
+}
+
+#[test]
+fn texts_alone_are_regular_expressions(rt: HostRuntime) -> Result<(), Fail> {
+    for (value, want) in [("a", " 8:13 a"), ("ab", "")] {
+        assert_eq!(rt; listed_expressions(rt.alloc(), value)?.as_str(), want);
     }
     Ok(())
 }
@@ -321,7 +449,7 @@ fn shown_item(alloc: Global, item: &Item) -> Result<String, Fail> {
 /// The detections, each with `=` before each of its alternatives.
 fn shown(alloc: Global, node: &Node) -> Result<String, Fail> {
     let mut shown = String::new(alloc);
-    let detections = read_detections(alloc, &Limits::standard(), node)?;
+    let detections = read_detections(alloc, &Limits::standard(), [].as_slice(), node)?;
     for detection in detections.as_slice() {
         let place = detection.place;
         let name = detection.name.as_str();

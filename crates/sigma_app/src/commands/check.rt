@@ -2,35 +2,41 @@
 
 ghost use Rattle.std.specs.Prelude.{◌≡◌};
 ghost use Rattle.answer_parts.specs.Stands.{Writes};
+ghost use Rattle.rule_building.specs.Unbuilt.{Unbuilt};
+ghost use Rattle.sig_base.specs.declared.limits.Limits.{Limits as LimitsData};
 ghost use Rattle.sigma_app.specs.Check.{CheckGives};
 ghost use Rattle.sigma_app.specs.Laws.{EachTree};
+ghost use Rattle.sigma_app.specs.RuleFiles.{BySome};
+ghost use Rattle.sigma_app.specs.UnderSchema.{is_ended};
 ghost use Rattle.yaml_tree.specs.View.{node_view};
 
 use crate::documents::{TreeCommand, put_refusal};
 use crate::report::ok_text;
 use answer_parts::{Outside, Stop, put_text};
+use languages::Builder;
 use rule_queries::check_node;
 use sig_base::{Fault, Limits, Text};
 use std::alloc::Global;
 use yaml_tree::Node;
 
+/// Tells the place of each rule.
 #[derive(Drop)]
-pub(crate) struct Check<'a> {
-    pub(crate) limits: &'a Limits,
-}
+pub(crate) struct Check;
 
-impl TreeCommand for Check<'_> {
-    ghost gives = { λ c. CheckGives c.limits.now };
+impl TreeCommand for Check {
+    ghost gives = { λ c. CheckGives };
 
-    fn answer<W: Outside>(
+    fn answer<W: Outside, B: Builder>(
         &self,
         alloc: Global,
+        limits: &Limits,
         name: &Text,
         node: &Node,
         outside: &mut W,
+        builder: &mut B,
     ) -> Result<bool, Stop> {
         self.each_tree();
-        match check_node(alloc, self.limits, node) {
+        match check_node(alloc, limits, node, builder) {
             Ok(place) => match ok_text(alloc, name, place) {
                 Ok(text) => put_text(text.as_bytes(), outside),
                 Err(_) => Err(Stop::Memory),

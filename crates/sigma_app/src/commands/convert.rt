@@ -2,10 +2,14 @@
 
 ghost use Rattle.std.specs.Prelude.{◌≡◌, false, option_map};
 ghost use Rattle.answer_parts.specs.Stands.{Ends, Writes};
+ghost use Rattle.rule_building.specs.Unbuilt.{Unbuilt};
+ghost use Rattle.sig_base.specs.declared.limits.Limits.{Limits as LimitsData};
 ghost use Rattle.sigma_app.specs.Answers.{names_with};
 ghost use Rattle.sigma_app.specs.Convert.{ConvertGives};
-ghost use Rattle.sigma_app.specs.Converted.{Converted, RulesBy};
+ghost use Rattle.sigma_app.specs.Converted.{RulesBySome};
 ghost use Rattle.sigma_app.specs.Laws.{EachTree, EachUnder};
+ghost use Rattle.sigma_app.specs.RuleFiles.{BySome};
+ghost use Rattle.sigma_app.specs.UnderSchema.{UnderSchema, is_ended};
 ghost use Rattle.yaml_tree.specs.View.{node_view};
 
 use crate::documents::{TreeCommand, put_refusal};
@@ -23,24 +27,25 @@ use yaml_tree::Node;
 
 /// Converts for the backend, under the schema or else the one that is made of each rule.
 #[derive(Drop)]
-struct Convert<'l, 's> {
+struct Convert<'s> {
     backend: BackendName,
-    limits: &'l Limits,
     schema: Option<&'s Schema>,
 }
 
-impl TreeCommand for Convert<'_, '_> {
-    ghost gives = { λ c. ConvertGives c.backend c.limits.now (option_map (λ s. s.now) c.schema) };
+impl TreeCommand for Convert<'_> {
+    ghost gives = { λ c limits. ConvertGives c.backend limits (option_map (λ s. s.now) c.schema) };
 
-    fn answer<W: Outside>(
+    fn answer<W: Outside, B: Builder>(
         &self,
         alloc: Global,
+        limits: &Limits,
         name: &Text,
         node: &Node,
         outside: &mut W,
+        builder: &mut B,
     ) -> Result<bool, Stop> {
         self.each_tree();
-        match convert_node(self.backend, alloc, self.limits, self.schema, node) {
+        match convert_node(self.backend, alloc, limits, self.schema, node, builder) {
             Ok(query) => put_line(query.into_vec(), outside),
             Err(Fault::Refused(refusal)) => put_refusal(alloc, name, &refusal, outside),
             Err(Fault::Memory) => Err(Stop::Memory),
@@ -61,7 +66,7 @@ struct ConvertFiles<'l, 'r> {
 }
 
 impl SchemaCommand for ConvertFiles<'_, '_> {
-    ghost by = { λ c before after ended. RulesBy (ConvertGives c.backend c.limits.now) c.limits.now c.rules.now };
+    ghost by = { λ c. RulesBySome (ConvertGives c.backend c.limits.now) c.limits.now c.rules.now };
 
     ghost names = { λ c. c.rules.now };
 
@@ -72,14 +77,15 @@ impl SchemaCommand for ConvertFiles<'_, '_> {
         alloc: Global,
         given: Option<&Schema>,
         outside: &mut W,
-        _builder: &mut B,
+        builder: &mut B,
     ) -> Result<bool, Stop> {
+        yaml_documents::laws::verdicts();
+        yaml_documents::laws::one_verdict();
         let command = Convert {
             backend: self.backend,
-            limits: self.limits,
             schema: given,
         };
-        answer_files(alloc, &command, self.limits, self.rules, outside)
+        answer_files(alloc, &command, self.limits, self.rules, outside, builder)
     }
 
     fn each_under(&self) {
@@ -97,7 +103,7 @@ pub(crate) fn answer_convert<W: Outside, B: Builder>(
     outside: &mut W,
     builder: &mut B,
 ) -> Result<bool, Stop>
-    ensures { Ends (record { names = names_with schema.now rules.now; events = false }) (Converted (ConvertGives backend limits.now) limits.now schema.now rules.now) result (W.state outside.old) (W.state outside.new) }
+    ensures { Ends (record { names = names_with schema.now rules.now; events = false }) (UnderSchema (RulesBySome (ConvertGives backend limits.now) limits.now rules.now (B.refused builder.old) (B.refused builder.new) (is_ended result)) limits.now schema.now) result (W.state outside.old) (W.state outside.new) }
 {
     answer_schema(
         alloc,

@@ -1,27 +1,33 @@
 //! `run`: the events that a rule matches.
 
-ghost use Rattle.std.specs.Prelude.{◌≡◌, ◌+◌, ◌∷◌, [], true, None, Some, option_map};
+ghost use Rattle.std.specs.Prelude.{◌≡◌, ◌+◌, ◌∷◌, [], true, Option, None, Some, List, ℕ, option_map};
 ghost use Rattle.answer_parts.specs.EventLines.{EventLines};
 ghost use Rattle.answer_parts.specs.Stands.{Ends};
-ghost use Rattle.detection_eval.specs.Ready.{StandsFor};
+ghost use Rattle.detection_eval.specs.Ready.{StandsFor, JudgesFor};
+ghost use Rattle.event_schema.specs.declared.schema.Schema.{Schema as SchemaData};
 ghost use Rattle.rule_model.specs.Plain.{rule_view};
+ghost use Rattle.rule_runs.specs.Answers.{ForValues, IsBare};
+ghost use Rattle.rule_runs.specs.Runs.{IsFit};
+ghost use Rattle.rule_schema.specs.Inferred.{schema_for};
 ghost use Rattle.sig_base.specs.Files.{IsFront};
 ghost use Rattle.sigma_app.specs.Answers.{names_with};
-ghost use Rattle.sigma_app.specs.Ran.{RunGives, RanUnder, Ran};
+ghost use Rattle.sigma_app.specs.Ran.{RunGives, RanBySome};
+ghost use Rattle.sigma_app.specs.UnderSchema.{UnderSchema, is_ended};
 
 use crate::documents::put_refusal;
 use crate::given_schema::{SchemaCommand, answer_schema};
 use crate::law::each_answer;
 use answer_parts::{LineCommand, Outside, Stop, answer_lines, read_file, tell_line_refusal};
-use detection_eval::Ready;
+use detection_eval::{Judge, Ready};
 use event_reading::read_event;
 use event_schema::Schema;
 use languages::Builder;
-use rule_model::Rule;
+use rule_model::{Rule, one_rule};
 use rule_runs::{rule_alone, rule_under};
 use selected_lines::put_picked;
 use sig_base::{Bytes, Fault, Limits, Text};
 use std::alloc::Global;
+use yaml_documents::laws::one_verdict;
 
 /// Runs the rule of a file.
 #[derive(Drop)]
@@ -31,7 +37,7 @@ struct RunFile<'l, 'r> {
 }
 
 impl SchemaCommand for RunFile<'_, '_> {
-    ghost by = { λ c before after ended. RanUnder c.limits.now c.rule.now };
+    ghost by = { λ c. RanBySome c.limits.now c.rule.now };
 
     ghost names = { λ c. c.rule.now ∷ [] };
 
@@ -42,7 +48,7 @@ impl SchemaCommand for RunFile<'_, '_> {
         alloc: Global,
         given: Option<&Schema>,
         outside: &mut W,
-        _builder: &mut B,
+        builder: &mut B,
     ) -> Result<bool, Stop> {
         self.each_under();
         match read_file(alloc, self.rule, self.limits.file_bytes + 1, outside) {
@@ -53,6 +59,7 @@ impl SchemaCommand for RunFile<'_, '_> {
                 self.rule,
                 bytes.as_slice(),
                 outside,
+                builder,
             ),
             Err(stop) => Err(stop),
         }
@@ -64,74 +71,110 @@ impl SchemaCommand for RunFile<'_, '_> {
 }
 
 /// Runs the rule that a file's bytes are, or refuses them and ends.
-fn run_bytes<W: Outside>(
+fn run_bytes<W: Outside, B: Builder>(
     alloc: Global,
     limits: &Limits,
     given: Option<&Schema>,
     file: &Text,
     bytes: &[u8],
     outside: &mut W,
+    builder: &mut B,
 ) -> Result<bool, Stop>
     ensures { IsFront (W.state outside.old).inputs.files file.now (limits.now.file_bytes + 1) bytes.now
-        → Ends (record { names = file.now ∷ []; events = true }) (RanUnder limits.now file.now (option_map (λ s. s.now) given.entry)) result (W.state outside.old) (W.state outside.new) }
+        → Ends (record { names = file.now ∷ []; events = true }) (RanBySome limits.now file.now (B.refused builder.old) (B.refused builder.new) (is_ended result) (option_map (λ s. s.now) given.entry)) result (W.state outside.old) (W.state outside.new) }
 {
     match given {
-        Some(schema) => run_under(alloc, limits, schema, file, bytes, outside),
-        None => run_alone(alloc, limits, file, bytes, outside),
+        Some(schema) => run_under(alloc, limits, schema, file, bytes, outside, builder),
+        None => run_alone(alloc, limits, file, bytes, outside, builder),
     }
 }
 
 /// Runs a rule under a schema.
-fn run_under<W: Outside>(
+fn run_under<W: Outside, B: Builder>(
     alloc: Global,
     limits: &Limits,
     schema: &Schema,
     file: &Text,
     bytes: &[u8],
     outside: &mut W,
+    builder: &mut B,
 ) -> Result<bool, Stop>
     ensures { IsFront (W.state outside.old).inputs.files file.now (limits.now.file_bytes + 1) bytes.now
-        → Ends (record { names = file.now ∷ []; events = true }) (RanUnder limits.now file.now (Some schema.now)) result (W.state outside.old) (W.state outside.new) }
+        → Ends (record { names = file.now ∷ []; events = true }) (RanBySome limits.now file.now (B.refused builder.old) (B.refused builder.new) (is_ended result) (Some schema.now)) result (W.state outside.old) (W.state outside.new) }
 {
     each_answer();
-    match rule_under(alloc, limits, schema, bytes) {
-        Ok(rule) => answer_events(alloc, limits, schema, &rule, outside),
+    match rule_under(alloc, limits, schema, bytes, builder) {
+        Ok(rule) => run_rule(alloc, limits, schema, file, &rule, outside, builder),
         Err(Fault::Refused(cause)) => put_refusal(alloc, file, &cause, outside),
         Err(Fault::Memory) => Err(Stop::Memory),
     }
 }
 
 /// Runs a rule under the schema that is made of it.
-fn run_alone<W: Outside>(
+fn run_alone<W: Outside, B: Builder>(
     alloc: Global,
     limits: &Limits,
     file: &Text,
     bytes: &[u8],
     outside: &mut W,
+    builder: &mut B,
 ) -> Result<bool, Stop>
     ensures { IsFront (W.state outside.old).inputs.files file.now (limits.now.file_bytes + 1) bytes.now
-        → Ends (record { names = file.now ∷ []; events = true }) (RanUnder limits.now file.now None) result (W.state outside.old) (W.state outside.new) }
+        → Ends (record { names = file.now ∷ []; events = true }) (RanBySome limits.now file.now (B.refused builder.old) (B.refused builder.new) (is_ended result) None) result (W.state outside.old) (W.state outside.new) }
 {
     each_answer();
-    match rule_alone(alloc, limits, bytes) {
-        Ok(found) => answer_events(alloc, limits, &found.schema, &found.rule, outside),
+    match rule_alone(alloc, limits, bytes, builder) {
+        Ok(found) => run_rule(
+            alloc,
+            limits,
+            &found.schema,
+            file,
+            &found.rule,
+            outside,
+            builder,
+        ),
         Err(Fault::Refused(cause)) => put_refusal(alloc, file, &cause, outside),
         Err(Fault::Memory) => Err(Stop::Memory),
     }
 }
 
-/// A rule, made ready for the events of a schema.
+/// Makes a rule that fits its schema ready and answers the events by it, or refuses the rule and ends, where a regular expression of it
+/// isn't built.
+fn run_rule<W: Outside, B: Builder>(
+    alloc: Global,
+    limits: &Limits,
+    schema: &Schema,
+    file: &Text,
+    rule: &Rule,
+    outside: &mut W,
+    builder: &mut B,
+) -> Result<bool, Stop>
+    ensures { (given : Option SchemaData) (bytes : List ℕ) (before : List (List ℕ)) → IsFront (W.state outside.old).inputs.files file.now (limits.now.file_bytes + 1) bytes
+        → ForValues limits.now bytes before (B.refused builder.old) true (λ values. IsBare (IsFit values limits.now given bytes) rule.now) → schema.now ≡ schema_for given (rule_view rule.now)
+        → Ends (record { names = file.now ∷ []; events = true }) (RanBySome limits.now file.now before (B.refused builder.new) (is_ended result) given) result (W.state outside.old) (W.state outside.new) }
+{
+    each_answer();
+    one_rule();
+    one_verdict();
+    match Ready::make(alloc, schema, rule, builder) {
+        Ok(ready) => answer_events(alloc, limits, schema, rule, &ready, outside),
+        Err(Fault::Refused(cause)) => put_refusal(alloc, file, &cause, outside),
+        Err(Fault::Memory) => Err(Stop::Memory),
+    }
+}
+
+/// A rule that judges the events of a schema.
 #[derive(Drop)]
 struct RunLines<'s, 'r> {
     schema: &'s Schema,
     rule: &'r Rule,
-    ready: Ready,
+    judge: Judge<'r>,
 }
 
 impl LineCommand for RunLines<'_, '_> {
     ghost gives = { λ c. RunGives c.schema.now (rule_view c.rule.now) };
 
-    ghost keeps = { λ c. StandsFor c.schema.now.fields (rule_view c.rule.now) c.ready };
+    ghost keeps = { λ c. JudgesFor c.schema.now.fields (rule_view c.rule.now) c.judge };
 
     fn answer<W: Outside>(
         &mut self,
@@ -142,10 +185,10 @@ impl LineCommand for RunLines<'_, '_> {
     ) -> Result<bool, Stop> {
         self.each_line();
         match read_event(alloc, self.schema, number, line.as_slice()) {
-            Ok(event) => match self.ready.matches(&event) {
-                Ok(picked) => put_picked(picked, line, outside),
-                Err(_) => Err(Stop::Memory),
-            },
+            Ok(event) => {
+                let picked = self.judge.matches(&event);
+                put_picked(picked, line, outside)
+            }
             Err(Fault::Refused(cause)) => tell_line_refusal(alloc, number, cause.code, outside),
             Err(Fault::Memory) => Err(Stop::Memory),
         }
@@ -156,28 +199,29 @@ impl LineCommand for RunLines<'_, '_> {
     }
 }
 
-/// Answers the lines of the events by a rule.
+/// Answers the lines of the events by a rule that is ready.
 fn answer_events<W: Outside>(
     alloc: Global,
     limits: &Limits,
     schema: &Schema,
     rule: &Rule,
+    ready: &Ready,
     outside: &mut W,
 ) -> Result<bool, Stop>
+    requires { StandsFor schema.now.fields (rule_view rule.now) ready.now }
     ensures { Ends (record { names = []; events = true }) (EventLines (RunGives schema.now (rule_view rule.now)) limits.now) result (W.state outside.old) (W.state outside.new) }
 {
     each_answer();
-    match Ready::make(alloc, schema, rule) {
-        Ok(ready) => {
-            let mut lines = RunLines {
-                schema,
-                rule,
-                ready,
-            };
-            answer_lines(alloc, limits, &mut lines, outside)
-        }
-        Err(_) => Err(Stop::Memory),
-    }
+    let judge = match ready.judge(alloc) {
+        Ok(judge) => judge,
+        Err(_) => return Err(Stop::Memory),
+    };
+    let mut lines = RunLines {
+        schema,
+        rule,
+        judge,
+    };
+    answer_lines(alloc, limits, &mut lines, outside)
 }
 
 /// Answers the events that the rule of a file matches, read under the schema of a file if one is named.
@@ -189,7 +233,7 @@ pub(crate) fn answer_run<W: Outside, B: Builder>(
     outside: &mut W,
     builder: &mut B,
 ) -> Result<bool, Stop>
-    ensures { Ends (record { names = names_with schema.now (rule.now ∷ []); events = true }) (Ran limits.now schema.now rule.now) result (W.state outside.old) (W.state outside.new) }
+    ensures { Ends (record { names = names_with schema.now (rule.now ∷ []); events = true }) (UnderSchema (RanBySome limits.now rule.now (B.refused builder.old) (B.refused builder.new) (is_ended result)) limits.now schema.now) result (W.state outside.old) (W.state outside.new) }
 {
     answer_schema(
         alloc,

@@ -4,4 +4,4 @@ use Rattle.detection_eval.proofs.making.number_detection.Given as goal
 
 abbrev pub invariant-loop-items : goal.invariant-loop-items
 invariant-loop-items l =
-    l.all ++ map (map (numbered_item l.fields)) (drop l.items-index l.alternatives) ≡ map (map (numbered_item l.fields)) l.alternatives
+    l.all ++ map (map (numbered_item l.fields l.texts)) (drop l.items-index l.alternatives) ≡ map (map (numbered_item l.fields l.texts)) l.alternatives

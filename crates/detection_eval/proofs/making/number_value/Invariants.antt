@@ -3,4 +3,4 @@ use Rattle.detection_eval.specs.Ready.{numbered_test}
 use Rattle.detection_eval.proofs.making.number_value.Given as goal
 
 abbrev pub invariant-loop-test : goal.invariant-loop-test
-invariant-loop-test l = l.all ++ map (numbered_test l.fields) (drop l.test-index l.tests) ≡ map (numbered_test l.fields) l.tests
+invariant-loop-test l = l.all ++ map (numbered_test l.fields l.texts) (drop l.test-index l.tests) ≡ map (numbered_test l.fields l.texts) l.tests

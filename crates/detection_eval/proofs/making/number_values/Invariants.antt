@@ -4,4 +4,4 @@ use Rattle.detection_eval.proofs.making.number_values.Given as goal
 
 abbrev pub invariant-loop-tests : goal.invariant-loop-tests
 invariant-loop-tests l =
-    l.all ++ map (map (numbered_test l.fields)) (drop l.tests-index l.values) ≡ map (map (numbered_test l.fields)) l.values
+    l.all ++ map (map (numbered_test l.fields l.texts)) (drop l.tests-index l.values) ≡ map (map (numbered_test l.fields l.texts)) l.values

@@ -1,8 +1,10 @@
-use Rattle.std.proofs.Common.{◌↔◌, drop}
+use Rattle.std.proofs.Common.{◌≡◌, ◌↔◌, drop}
 use Rattle.detection_eval.specs.Ready.{Satisfies}
 use Rattle.event_schema.specs.Lists.{EachOf}
 use Rattle.detection_eval.proofs.satisfying.each_satisfied.Given as goal
 
 abbrev pub invariant-loop-tests : goal.invariant-loop-tests
 invariant-loop-tests l =
-    EachOf (Satisfies l.event.values l.own) (drop l.tests-index l.values) ↔ EachOf (Satisfies l.event.values l.own) l.values
+    (l.finders ≡ l.fn.finders)
+    × (EachOf (Satisfies l.fn.finders l.event.values l.own) (drop l.tests-index l.values)
+    ↔ EachOf (Satisfies l.fn.finders l.event.values l.own) l.values)

@@ -6,12 +6,13 @@ use Rattle.detection_eval.specs.declared.numbered.Asked.TheVariants.{Numbers}
 use Rattle.detection_eval.specs.declared.numbered.NumberedTest.{NumberedTest}
 use Rattle.detection_eval.proofs.satisfying.item_holds.Goals as goal
 
-pub returns-in-Numbers : goal.returns-in-Numbers
-returns-in-Numbers c =
+pub returns-in-Numbers-clause-holds : goal.returns-in-Numbers-clause-holds
+returns-in-Numbers-clause-holds c =
     let item = c.args.item.now in
     let r = c.some_field_satisfies.result in
-    let Holds : List (List NumberedTest) → Asked → Type 0 = λ values asked. AskedHolds c.args.searched.now c.args.event.now.values item.joined values asked in
+    let Holds : List (List NumberedTest) → Asked → Type 0 =
+    λ values asked. AskedHolds c.args.finders.now c.args.searched.now c.args.event.now.values item.joined values asked in
     subst (λ (asked : Asked). IsTrue r ↔ Holds item.tests asked) (sym c.in-Numbers.is)
     (subst (λ (numbers : List (Option ℕ)). IsTrue r ↔ Holds item.tests (Numbers numbers)) c.as_slice-in-Numbers-2.ensures
     (subst (λ (values : List (List NumberedTest)). IsTrue r ↔ Holds values (Numbers c.as_slice-in-Numbers-2.result.now)) c.as_slice-in-Numbers.ensures
-    c.some_field_satisfies.ensures))
+    c.some_field_satisfies.ensures.holds))

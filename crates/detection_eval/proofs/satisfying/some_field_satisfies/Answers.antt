@@ -1,21 +1,31 @@
-use Rattle.std.proofs.Common.{ℕ, get_or}
+use Rattle.std.proofs.Common.{◌↔◌, ◌∙◌, IsTrue, ℕ, List, get_or, subst}
 use Rattle.std.specs.Prelude.{Option, None}
 use Rattle.event_schema.specs.Rows.{values_if_any}
 use Rattle.detection_eval.specs.Ready.{Satisfies, ValuesHold}
 use Rattle.detection_eval.proofs.Going.{read_is, some_stops, some_goes}
 use Rattle.detection_eval.proofs.satisfying.some_field_satisfies.Goals as goal
 
-pub returns-then-field_satisfies : goal.returns-then-field_satisfies
-returns-then-field_satisfies c =
+pub returns-then-field_satisfies-clause-holds : goal.returns-then-field_satisfies-clause-holds
+returns-then-field_satisfies-clause-holds c =
+    let row = c.args.event.now.values in
+    let values = c.args.values.now in
     let numbers = c.args.numbers.now in
     let i = c.loop-number.number-index in
-    some_stops (λ (number : Option ℕ). ValuesHold c.args.joined (Satisfies c.args.event.now.values (values_if_any c.args.event.now.values number)) c.args.values.now) numbers i
-    (get_or numbers i None) c.loop-number-test.true (read_is numbers i None c.loop-number-test.true) c.if-field_satisfies.true c.field_satisfies.ensures
+    some_stops (λ (number : Option ℕ). ValuesHold c.args.joined (Satisfies c.args.finders.now row (values_if_any row number)) values) numbers i
+    (get_or numbers i None) c.loop-number-test.true (read_is numbers i None c.loop-number-test.true) c.if-field_satisfies.true
+    (subst (λ (texts : List (List ℕ)). IsTrue c.field_satisfies.result ↔ ValuesHold c.args.joined (Satisfies texts row (values_if_any row (get_or numbers i None))) values)
+    c.loop-number.invariant.0 c.field_satisfies.ensures.holds)
 
 pub loop-number-preserved : goal.loop-number-preserved
 loop-number-preserved c =
+    let row = c.args.event.now.values in
+    let values = c.args.values.now in
     let numbers = c.args.numbers.now in
-    let i = c.loop-number.number-index in
-    some_goes (λ (number : Option ℕ). ValuesHold c.args.joined (Satisfies c.args.event.now.values (values_if_any c.args.event.now.values number)) c.args.values.now) numbers i
-    (get_or numbers i None) c.loop-number-test.true (read_is numbers i None c.loop-number-test.true) c.if-field_satisfies.false c.field_satisfies.ensures
-    c.loop-number.invariant
+    let i = c.loop-number.number-index in (
+      c.field_satisfies.ensures.same ∙ c.loop-number.invariant.0,
+      some_goes (λ (number : Option ℕ). ValuesHold c.args.joined (Satisfies c.args.finders.now row (values_if_any row number)) values) numbers i
+          (get_or numbers i None) c.loop-number-test.true (read_is numbers i None c.loop-number-test.true) c.if-field_satisfies.false
+          (subst (λ (texts : List (List ℕ)). IsTrue c.field_satisfies.result ↔ ValuesHold c.args.joined (Satisfies texts row (values_if_any row (get_or numbers i None))) values)
+          c.loop-number.invariant.0 c.field_satisfies.ensures.holds)
+          c.loop-number.invariant.1,
+    )

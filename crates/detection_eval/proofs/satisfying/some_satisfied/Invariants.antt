@@ -1,8 +1,10 @@
-use Rattle.std.proofs.Common.{◌↔◌, drop}
+use Rattle.std.proofs.Common.{◌≡◌, ◌↔◌, drop}
 use Rattle.detection_eval.specs.Ready.{Satisfies}
 use Rattle.event_schema.specs.Lists.{SomeOf}
 use Rattle.detection_eval.proofs.satisfying.some_satisfied.Given as goal
 
 abbrev pub invariant-loop-tests : goal.invariant-loop-tests
 invariant-loop-tests l =
-    SomeOf (Satisfies l.event.values l.own) (drop l.tests-index l.values) ↔ SomeOf (Satisfies l.event.values l.own) l.values
+    (l.finders ≡ l.fn.finders)
+    × (SomeOf (Satisfies l.fn.finders l.event.values l.own) (drop l.tests-index l.values)
+    ↔ SomeOf (Satisfies l.fn.finders l.event.values l.own) l.values)

@@ -1,4 +1,4 @@
-use Rattle.std.proofs.Common.{◌↔◌, drop}
+use Rattle.std.proofs.Common.{◌≡◌, ◌↔◌, drop}
 use Rattle.detection_eval.specs.Ready.{Satisfies}
 use Rattle.event_schema.specs.Lists.{SomeOf}
 use Rattle.event_schema.specs.Rows.{field_values}
@@ -6,4 +6,6 @@ use Rattle.detection_eval.proofs.satisfying.some_search_satisfies.Given as goal
 
 abbrev pub invariant-loop-field : goal.invariant-loop-field
 invariant-loop-field l =
-    SomeOf (λ n. Satisfies l.event.values (field_values l.event.values n) l.tests) (drop l.field-index l.searched) ↔ SomeOf (λ n. Satisfies l.event.values (field_values l.event.values n) l.tests) l.searched
+    (l.finders ≡ l.fn.finders)
+    × (SomeOf (λ n. Satisfies l.fn.finders l.event.values (field_values l.event.values n) l.tests) (drop l.field-index l.searched)
+    ↔ SomeOf (λ n. Satisfies l.fn.finders l.event.values (field_values l.event.values n) l.tests) l.searched)

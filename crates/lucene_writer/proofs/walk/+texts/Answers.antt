@@ -1,7 +1,7 @@
-use Rattle.std.proofs.Common.{◌≡◌, ◌∙◌, ◌++◌, ap, sym, subst, refl, List, ℕ, Bool, not, false}
+use Rattle.std.proofs.Common.{◌≡◌, ◌∙◌, ◌++◌, ap, sym, subst, List, ℕ, Bool, not, false}
 use Rattle.std.specs.Prelude.{codes, OnOk}
 use Rattle.lucene_writer.specs.declared.place.Standing.TheVariants.{InAnd, Alone}
-use Rattle.lucene_writer.specs.Pieces.{piece_if, enclosed_if, items_text, all_text, any_text, all_denied, is_whole}
+use Rattle.lucene_writer.specs.Pieces.{piece_if, enclosed_if, items_text, all_text, any_text, all_denied}
 use Rattle.lucene_writer.proofs.Rows.{text_end, enclosed_text, enclosed_both, text_of_all, text_of_any}
 use Rattle.lucene_writer.proofs.walk.+texts.Goals as goal
 

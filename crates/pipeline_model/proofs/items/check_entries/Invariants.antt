@@ -5,4 +5,4 @@ use Rattle.pipeline_model.specs.Causes.{least, sooner_of}
 use Rattle.pipeline_model.proofs.items.check_entries.Given as goal
 
 abbrev pub invariant-loop-entry : goal.invariant-loop-entry
-invariant-loop-entry l = least (map (item_refusal l.limits) (entries_view l.entries)) ≡ sooner_of l.found (map (item_refusal l.limits) (entries_view (drop l.entry-index l.entries)))
+invariant-loop-entry l = least (map (item_refusal l.unbuilt l.limits) (entries_view l.entries)) ≡ sooner_of l.found (map (item_refusal l.unbuilt l.limits) (entries_view (drop l.entry-index l.entries)))

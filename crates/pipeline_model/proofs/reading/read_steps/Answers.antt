@@ -14,7 +14,7 @@ loop-part-preserved c =
     let parts = c.args.parts.now in
     record {
       cause = at.invariant.cause
-          ∙ rest_first node_view (step_cause c.args.limits.now) at.part-index parts c.part-item.result
+          ∙ rest_first node_view (step_cause c.args.unbuilt.now c.args.limits.now) at.part-index parts c.part-item.result
           c.loop-part-test.true c.part-item.is c.in_ok-step.ensures.0;
       read = subst (λ (all : List Step). AllZip IsStep (nodes_view (take (at.part-index + 1) parts)) all) (sym c.in_ok-push.ensures.ok)
           (one_more node_view IsStep at.part-index parts c.part-item.result at.steps c.in_ok-step.step

@@ -8,6 +8,6 @@ use Rattle.pipeline_model.proofs.reading.read_steps.Given as goal
 
 abbrev pub invariant-loop-part : goal.invariant-loop-part
 invariant-loop-part l = record {
-  cause : first (map (step_cause l.limits) (nodes_view l.parts)) ≡ first (map (step_cause l.limits) (nodes_view (drop l.part-index l.parts)));
+  cause : first (map (step_cause l.unbuilt l.limits) (nodes_view l.parts)) ≡ first (map (step_cause l.unbuilt l.limits) (nodes_view (drop l.part-index l.parts)));
   read : AllZip IsStep (nodes_view (take l.part-index l.parts)) l.steps;
 }

@@ -16,7 +16,7 @@ loop-node-preserved c =
     let nodes = c.args.nodes.now in
     record {
       cause = at.invariant.cause
-          ∙ rest_first node_view (alternative_refusal c.args.limits.now) at.node-index nodes c.node-item.result
+          ∙ rest_first node_view (alternative_refusal c.args.unbuilt.now c.args.limits.now) at.node-index nodes c.node-item.result
           c.loop-node-test.true c.node-item.is c.in_ok-alternative.ensures.judged.0;
       read = subst (λ (all : List (List Item)). AllZip IsAlternative (nodes_view (take (at.node-index + 1) nodes)) all) (sym c.in_ok-push.ensures.ok)
           (one_more node_view IsAlternative at.node-index nodes c.node-item.result at.all c.in_ok-alternative.alternative

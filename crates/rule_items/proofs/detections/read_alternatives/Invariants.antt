@@ -9,7 +9,7 @@ use Rattle.rule_items.proofs.detections.read_alternatives.Given as goal
 
 abbrev pub invariant-loop-node : goal.invariant-loop-node
 invariant-loop-node l = record {
-  cause : first (map (alternative_refusal l.limits) (nodes_view l.nodes)) ≡ first (map (alternative_refusal l.limits) (nodes_view (drop l.node-index l.nodes)));
+  cause : first (map (alternative_refusal l.unbuilt l.limits) (nodes_view l.nodes)) ≡ first (map (alternative_refusal l.unbuilt l.limits) (nodes_view (drop l.node-index l.nodes)));
   read : AllZip IsAlternative (nodes_view (take l.node-index l.nodes)) l.all;
   whole : EachOf IsWholeAlternative l.all;
 }

@@ -16,7 +16,7 @@ loop-entry-preserved c =
     let passes : is_no_condition (entry_view c.entry-item.result) ≡ true = sym c.is_no_condition.ensures ∙ c.if-not-is_no_condition.false in
     record {
       cause = at.invariant.cause
-          ∙ kept_first entry_view is_no_condition (detection_refusal c.args.limits.now) at.entry-index entries c.entry-item.result
+          ∙ kept_first entry_view is_no_condition (detection_refusal c.args.unbuilt.now c.args.limits.now) at.entry-index entries c.entry-item.result
           c.loop-entry-test.true c.entry-item.is passes c.in_ok-detection.ensures.judged.0;
       read = subst (λ (all : List Detection). AllZip IsDetection (filter is_no_condition (entries_view (take (at.entry-index + 1) entries))) all) (sym c.in_ok-push.ensures.ok)
           (kept_more entry_view is_no_condition IsDetection at.entry-index entries c.entry-item.result at.all c.in_ok-detection.detection

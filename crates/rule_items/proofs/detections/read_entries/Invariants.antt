@@ -10,8 +10,8 @@ use Rattle.rule_items.proofs.detections.read_entries.Given as goal
 
 abbrev pub invariant-loop-entry : goal.invariant-loop-entry
 invariant-loop-entry l = record {
-  cause : first (map (detection_refusal l.limits) (filter is_no_condition (entries_view l.entries)))
-      ≡ first (map (detection_refusal l.limits) (filter is_no_condition (entries_view (drop l.entry-index l.entries))));
+  cause : first (map (detection_refusal l.unbuilt l.limits) (filter is_no_condition (entries_view l.entries)))
+      ≡ first (map (detection_refusal l.unbuilt l.limits) (filter is_no_condition (entries_view (drop l.entry-index l.entries))));
   read : AllZip IsDetection (filter is_no_condition (entries_view (take l.entry-index l.entries))) l.all;
   whole : EachOf IsWholeDetection l.all;
 }

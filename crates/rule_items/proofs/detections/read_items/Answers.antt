@@ -16,7 +16,7 @@ loop-entry-preserved c =
     let entries = c.args.entries.now in
     record {
       cause = at.invariant.cause
-          ∙ rest_first entry_view (item_refusal c.args.limits.now) at.entry-index entries c.entry-item.result
+          ∙ rest_first entry_view (item_refusal c.args.unbuilt.now c.args.limits.now) at.entry-index entries c.entry-item.result
           c.loop-entry-test.true c.entry-item.is c.in_ok-item.ensures.judged.0;
       read = subst (λ (all : List Item). AllZip IsItem (entries_view (take (at.entry-index + 1) entries)) all) (sym c.in_ok-push.ensures.ok)
           (one_more entry_view IsItem at.entry-index entries c.entry-item.result at.items c.in_ok-item.item

@@ -9,7 +9,7 @@ use Rattle.rule_items.proofs.detections.read_items.Given as goal
 
 abbrev pub invariant-loop-entry : goal.invariant-loop-entry
 invariant-loop-entry l = record {
-  cause : first (map (item_refusal l.limits) (entries_view l.entries)) ≡ first (map (item_refusal l.limits) (entries_view (drop l.entry-index l.entries)));
+  cause : first (map (item_refusal l.unbuilt l.limits) (entries_view l.entries)) ≡ first (map (item_refusal l.unbuilt l.limits) (entries_view (drop l.entry-index l.entries)));
   read : AllZip IsItem (entries_view (take l.entry-index l.entries)) l.items;
   whole : EachOf IsWholeItem l.items;
 }

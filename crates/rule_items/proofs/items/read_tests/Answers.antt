@@ -15,7 +15,7 @@ use Rattle.rule_items.proofs.items.read_tests.Goals as goal
 
 pub returns-clause-judged : goal.returns-clause-judged
 returns-clause-judged c =
-    subst (λ (parts : List Tree). Judged (λ all. AllZip (TestsOf c.args.chain.now) parts all) (values_refusal c.args.limits.now c.args.chain.now c.args.place (node_view c.args.value.now)) c.read_values.result)
+    subst (λ (parts : List Tree). Judged (λ all. AllZip (TestsOf c.args.chain.now) parts all) (values_refusal c.args.unbuilt.now c.args.limits.now c.args.chain.now c.args.place (node_view c.args.value.now)) c.read_values.result)
     c.parts_of-values.ensures
     (judged_last (λ all. AllZip (TestsOf c.args.chain.now) (nodes_view c.parts_of-values.result.now) all) _ _ c.read_values.result
     (let parts : parts_in (node_view c.args.value.now) ≡ nodes_view c.parts_of-values.result.now = sym c.parts_of-values.ensures in
@@ -24,6 +24,6 @@ returns-clause-judged c =
     must_same 78 _ _ _ _ (sym c.place_of.ensures) (ap (λ (ts : List Tree). not (is_empty ts)) parts ∙ ap not (sym c.is_empty.ensures)) ∙ c.in_ok-must.ensures.judged.0 in
     let few : must 79 c.args.place (nat_le (length (parts_in (node_view c.args.value.now))) c.args.limits.now.list_values) ≡ None =
     must_same 79 _ _ _ _ refl (ap (λ (n : ℕ). nat_le n c.args.limits.now.list_values) (ap (λ (ts : List Tree). length ts) parts ∙ length-map c.parts_of-values.result.now node_view)) ∙ c.in_ok-must-2.ensures.judged.0 in
-    let rest = ap (λ (ts : List Tree). first (map (value_refusal c.args.limits.now.value_chars c.args.limits.now.dashes c.args.chain.now) ts)) (sym c.parts_of-values.ensures) in
+    let rest = ap (λ (ts : List Tree). first (map (value_refusal c.args.unbuilt.now c.args.limits.now.value_chars c.args.limits.now.dashes c.args.chain.now) ts)) (sym c.parts_of-values.ensures) in
     skips _ _ shapes ∙ (skips _ _ some ∙ (skips _ _ few ∙ (first_one _ ∙ rest))))
     c.read_values.ensures.judged)

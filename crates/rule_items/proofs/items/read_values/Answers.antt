@@ -16,7 +16,7 @@ loop-value-preserved c =
     let nodes = c.args.values.now in
     record {
       cause = at.invariant.cause
-          ∙ rest_first node_view (value_refusal c.args.limits.now.value_chars c.args.limits.now.dashes c.args.chain.now) at.value-index nodes c.value-item.result
+          ∙ rest_first node_view (value_refusal c.args.unbuilt.now c.args.limits.now.value_chars c.args.limits.now.dashes c.args.chain.now) at.value-index nodes c.value-item.result
           c.loop-value-test.true c.value-item.is c.in_ok-tests.ensures.judged.0;
       read = subst (λ (all : List (List Test)). AllZip (TestsOf c.args.chain.now) (nodes_view (take (at.value-index + 1) nodes)) all) (sym c.in_ok-push.ensures.ok)
           (one_more node_view (TestsOf c.args.chain.now) at.value-index nodes c.value-item.result at.all c.in_ok-tests.tests

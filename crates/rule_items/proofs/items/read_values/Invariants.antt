@@ -9,8 +9,8 @@ use Rattle.rule_items.proofs.items.read_values.Given as goal
 
 abbrev pub invariant-loop-value : goal.invariant-loop-value
 invariant-loop-value l = record {
-  cause : first (map (value_refusal l.limits.value_chars l.limits.dashes l.chain) (nodes_view l.values))
-      ≡ first (map (value_refusal l.limits.value_chars l.limits.dashes l.chain) (nodes_view (drop l.value-index l.values)));
+  cause : first (map (value_refusal l.unbuilt l.limits.value_chars l.limits.dashes l.chain) (nodes_view l.values))
+      ≡ first (map (value_refusal l.unbuilt l.limits.value_chars l.limits.dashes l.chain) (nodes_view (drop l.value-index l.values)));
   read : AllZip (TestsOf l.chain) (nodes_view (take l.value-index l.values)) l.all;
   plain : EachOf ArePlainTests l.all;
 }

@@ -1,14 +1,19 @@
+use Rattle.std.proofs.Common.{List}
 use Rattle.std.specs.Prelude.{Some}
-use Rattle.rule_runs.proofs.Runs.{isnt_single, isnt_fit}
+use Rattle.sig_base.specs.declared.refusal.Place.{Place}
+use Rattle.rule_runs.proofs.Runs.{unfit_single, unfit_given, fits_given}
 use Rattle.rule_runs.specs.Answers.{IsBare}
-use Rattle.rule_runs.specs.Runs.{IsSingleRule, IsRun}
+use Rattle.rule_runs.specs.Runs.{IsSingleRule, IsFit}
 use Rattle.rule_runs.proofs.running.rule_under.Goals as goal
 
 pub returns-in-Err : goal.returns-in-Err
-returns-in-Err c =
-    isnt_single c.args.limits.now (Some c.args.schema.now) c.args.bytes.now (IsBare (IsSingleRule c.args.limits.now c.args.bytes.now))
-    (IsBare (IsRun c.args.limits.now (Some c.args.schema.now) c.args.bytes.now)) c.in-Err.fault c.in-Err.ensures
+returns-in-Err g c =
+    unfit_single c.args.limits.now c.args.bytes.now _ _ (Some c.args.schema.now) (λ (values : List Place). IsBare (IsSingleRule values c.args.limits.now c.args.bytes.now))
+    (λ (values : List Place). IsBare (IsFit values c.args.limits.now (Some c.args.schema.now) c.args.bytes.now)) c.in-Err.fault c.in-Err.ensures
 
 pub returns-in-Err-fit_schema : goal.returns-in-Err-fit_schema
-returns-in-Err-fit_schema c =
-    isnt_fit c.args.limits.now c.args.schema.now c.args.bytes.now c.in-Ok.rule c.in-Err-fit_schema.unfit c.in-Ok.ensures c.in-Err-fit_schema.ensures
+returns-in-Err-fit_schema g c =
+    unfit_given c.args.limits.now c.args.bytes.now _ _ c.in-Ok.rule c.in-Ok.ensures c.args.schema.now c.in-Err-fit_schema.unfit c.in-Err-fit_schema.ensures
+
+pub returns-in-Ok-fit_schema : goal.returns-in-Ok-fit_schema
+returns-in-Ok-fit_schema g c = fits_given c.args.limits.now c.args.bytes.now _ _ c.in-Ok.rule c.in-Ok.ensures c.args.schema.now c.in-Ok-fit_schema.ensures

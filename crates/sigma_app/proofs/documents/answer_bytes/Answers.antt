@@ -3,8 +3,10 @@ use Rattle.answer_parts.proofs.Rows.{shares_of}
 use Rattle.answer_parts.proofs.Wrote.{writes_as}
 use Rattle.answer_parts.specs.Each.{AllShares}
 use Rattle.answer_parts.specs.Stands.{Writes}
-use Rattle.sigma_app.proofs.Documented.{file_answered, file_refused, file_memory}
-use Rattle.sigma_app.specs.RuleFiles.{DocumentGives}
+use Rattle.sigma_app.proofs.Documented.{Gives, file_answered, file_refused, file_memory}
+use Rattle.sigma_app.proofs.Grown.{grown_nothing}
+use Rattle.sigma_app.specs.RuleFiles.{BySome, DocumentGives}
+use Rattle.sigma_app.specs.UnderSchema.{is_ended}
 use Rattle.yaml_documents.specs.Given.{answers_view}
 use Rattle.yaml_tree.specs.View.{document_view}
 use Rattle.yaml_tree.specs.declared.tree.Document.{Document}
@@ -12,20 +14,39 @@ use Rattle.sigma_app.proofs.documents.answer_bytes.Goals as goal
 
 pub returns-in-Ok : goal.returns-in-Ok
 returns-in-Ok g c =
-    let by = g.T.TreeCommand.gives c.args.command.now in
+    let limits = c.args.limits.now in
+    let name = c.args.name.now in
+    let before = g.B.Builder.refused c.args.builder.now in
+    let after = g.B.Builder.refused c.answer_documents.new.builder in
+    let ended = is_ended c.answer_documents.result in
+    let gives = g.T.TreeCommand.gives c.args.command.now limits in
+    let by = BySome gives limits before after ended in
     let old = g.W.Outside.state c.args.outside.now in
     let new = g.W.Outside.state c.answer_documents.new.outside in
-    file_answered by c.args.limits.now c.args.name.now c.args.bytes.now (answers_view c.in-Ok.documents.items) c.answer_documents.result old new c.in-Ok.ensures.taken
-    (writes_as (AllShares (λ (d : Document). DocumentGives by c.args.name.now (document_view d)) c.in-Ok.documents.items) (AllShares (DocumentGives by c.args.name.now) (answers_view c.in-Ok.documents.items)) c.answer_documents.result old new
-    (shares_of document_view (DocumentGives by c.args.name.now) c.in-Ok.documents.items)
-    (subst (λ (ds : List Document). Writes (AllShares (λ (d : Document). DocumentGives by c.args.name.now (document_view d)) ds) c.answer_documents.result old new) c.as_slice.ensures.value c.answer_documents.ensures))
+    record {
+      writes = file_answered by limits name c.args.bytes.now (answers_view c.in-Ok.documents.items) c.answer_documents.result old new c.in-Ok.ensures.taken
+          (writes_as (AllShares (Gives gives limits name before after ended) c.in-Ok.documents.items) (AllShares (DocumentGives by name) (answers_view c.in-Ok.documents.items)) c.answer_documents.result old new
+          (shares_of document_view (DocumentGives by name) c.in-Ok.documents.items)
+          (subst (λ (ds : List Document). Writes (AllShares (Gives gives limits name before after ended) ds) c.answer_documents.result old new) c.as_slice.ensures.value c.answer_documents.ensures.writes));
+      grown = c.answer_documents.ensures.grown;
+    }
 
 pub returns-in-Err-Refused : goal.returns-in-Err-Refused
 returns-in-Err-Refused g c =
+    let limits = c.args.limits.now in
+    let refused = g.B.Builder.refused c.args.builder.now in
     let refused_so = rw c.in-Err-Refused.field-0-is at c.in-Err-Refused.ensures.refused in
-    file_refused (g.T.TreeCommand.gives c.args.command.now) c.args.limits.now c.args.name.now c.args.bytes.now c.in-Err-Refused.refusal c.put_refusal.result
-    (g.W.Outside.state c.args.outside.now) (g.W.Outside.state c.put_refusal.new.outside) refused_so c.put_refusal.ensures
+    record {
+      writes = file_refused (BySome (g.T.TreeCommand.gives c.args.command.now limits) limits refused refused (is_ended c.put_refusal.result)) limits c.args.name.now c.args.bytes.now
+          c.in-Err-Refused.refusal c.put_refusal.result (g.W.Outside.state c.args.outside.now) (g.W.Outside.state c.put_refusal.new.outside) refused_so c.put_refusal.ensures;
+      grown = grown_nothing refused;
+    }
 
 pub returns-in-Err-Memory : goal.returns-in-Err-Memory
 returns-in-Err-Memory g c =
-    file_memory (g.T.TreeCommand.gives c.args.command.now) c.args.limits.now c.args.name.now c.args.bytes.now (g.W.Outside.state c.args.outside.now) c.each_file.ensures
+    let limits = c.args.limits.now in
+    let refused = g.B.Builder.refused c.args.builder.now in
+    record {
+      writes = file_memory (g.T.TreeCommand.gives c.args.command.now limits) limits (c.each_file.ensures limits) c.args.name.now c.args.bytes.now refused (g.W.Outside.state c.args.outside.now);
+      grown = grown_nothing refused;
+    }

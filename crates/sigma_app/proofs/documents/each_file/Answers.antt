@@ -1,5 +1,5 @@
-use Rattle.sigma_app.proofs.Documented as documented
+use Rattle.sigma_app.proofs.Documented.{each_cut}
 use Rattle.sigma_app.proofs.documents.each_file.Goals as goal
 
 pub returns : goal.returns
-returns g c = documented.each_file (g.T.TreeCommand.gives c.args.command.now) c.each_tree.ensures c.verdicts.ensures.each
+returns g c = λ limits. each_cut (g.T.TreeCommand.gives c.args.command.now limits) limits (c.each_tree.ensures limits) c.verdicts.ensures.each

@@ -1,19 +1,23 @@
-use Rattle.sigma_app.proofs.Lifted.{no_places, query_answers}
+use Rattle.sigma_app.proofs.Lifted.{check_answers, convert_answers, run_answers, query_answers}
 use Rattle.sigma_app.specs.UnderSchema.{is_ended}
 use Rattle.sigma_app.proofs.serve.answer_request.Goals as goal
 
 pub returns-in-Check : goal.returns-in-Check
 returns-in-Check g c =
-    let e = rw c.as_slice.ensures at c.answer_files.ensures in
-    rw c.in-Check.is (no_places _ _ c.answer_files.result (g.W.Outside.state c.args.outside.now) (g.W.Outside.state c.answer_files.new.outside) e)
+    let e = rw c.as_slice.ensures at c.answer_files.ensures.ends in
+    rw c.in-Check.is (check_answers c.verdicts.ensures.never_both c.one_verdict.ensures.list c.args.limits.now _ (g.B.Builder.refused c.args.builder.now) (g.B.Builder.refused c.answer_files.new.builder)
+    c.answer_files.ensures.grown (is_ended c.answer_files.result) _ c.answer_files.result (g.W.Outside.state c.args.outside.now) (g.W.Outside.state c.answer_files.new.outside) e)
 
 pub returns-in-Convert : goal.returns-in-Convert
 returns-in-Convert g c =
     let e = rw c.as_slice-in-Convert.ensures at c.answer_convert.ensures in
-    rw c.in-Convert.is (no_places _ _ c.answer_convert.result (g.W.Outside.state c.args.outside.now) (g.W.Outside.state c.answer_convert.new.outside) e)
+    rw c.in-Convert.is (convert_answers c.args.limits.now (g.B.Builder.refused c.args.builder.now) (g.B.Builder.refused c.answer_convert.new.builder) (is_ended c.answer_convert.result) _ _
+    c.answer_convert.result (g.W.Outside.state c.args.outside.now) (g.W.Outside.state c.answer_convert.new.outside) _ _ e)
 
 pub returns-in-Run : goal.returns-in-Run
-returns-in-Run g c = rw c.in-Run.is (no_places _ _ c.answer_run.result (g.W.Outside.state c.args.outside.now) (g.W.Outside.state c.answer_run.new.outside) c.answer_run.ensures)
+returns-in-Run g c =
+    rw c.in-Run.is (run_answers c.args.limits.now (g.B.Builder.refused c.args.builder.now) (g.B.Builder.refused c.answer_run.new.builder) (is_ended c.answer_run.result) _ _
+    c.answer_run.result (g.W.Outside.state c.args.outside.now) (g.W.Outside.state c.answer_run.new.outside) _ c.answer_run.ensures)
 
 pub returns-in-Query : goal.returns-in-Query
 returns-in-Query g c =

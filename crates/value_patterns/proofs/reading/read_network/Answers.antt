@@ -6,8 +6,8 @@ use Rattle.value_patterns.proofs.JudgedLemmas.{network_judged}
 use Rattle.value_patterns.proofs.reading.read_network.Goals as goal
 
 pub returns : goal.returns
-returns c = λ chain.
+returns c = λ unbuilt chain.
     let short : nat_le (length (chars c.args.text.now)) c.args.limits.now.value_chars ≡ true =
     le-leb _ _ (omega (arith, c.count_of.ensures, c.if-count_of-limits.false)) in
-    network_judged c.args.limits.now.value_chars c.args.limits.now.dashes chain c.args.place (chars c.args.text.now) c.read.result
+    network_judged unbuilt c.args.limits.now.value_chars c.args.limits.now.dashes chain c.args.place (chars c.args.text.now) c.read.result
     short (sym c.has_nul.ensures ∙ c.if-has_nul.false) c.read.ensures

@@ -6,6 +6,9 @@ use Rattle.backend_core.proofs.lack.Lack.name.Goals as goal
 pub returns-in-Many : goal.returns-in-Many
 returns-in-Many c = rw c.in-Many.is (ascii_chars (codes "Many") refl)
 
+pub returns-in-Regex : goal.returns-in-Regex
+returns-in-Regex c = rw c.in-Regex.is (ascii_chars (codes "Regex") refl)
+
 pub returns-in-FieldRef : goal.returns-in-FieldRef
 returns-in-FieldRef c = rw c.in-FieldRef.is (ascii_chars (codes "FieldRef") refl)
 

@@ -20,18 +20,12 @@ use Rattle.rule_items.specs.declared.item.Item.{Item}
 use Rattle.sig_base.proofs.Firsts.{hands_on}
 use Rattle.sig_base.proofs.Checks.{skips, stops, first_one}
 use Rattle.yaml_tree.proofs.NodeViews.{member_of, view-Entry}
+use Rattle.rule_items.proofs.Chained.{chain_same, key_chain_is}
 use Rattle.rule_items.proofs.WholeItems.{whole_item}
 use Rattle.rule_items.proofs.item.Item.read.Goals as goal
 
-abbrev Answered : Limits → Result Item Fault → Member → Type 0
-Answered limits r e = Judged (IsItem e) (item_refusal limits e) r
-
-chain_same : (a b : Bool) (place : Place) (v w : List (List ℕ)) → a ≡ b → v ≡ w → chain_refusal a place v ≡ chain_refusal b place w
-chain_same a b place v w same words = ap (λ x. chain_refusal x place v) same ∙ ap (λ x. chain_refusal b place x) words
-
--- the chain of the words is the key's
-key_chain_is : (chain : Written) (a b : Bool) (place : Place) (v w : List (List ℕ)) → a ≡ b → v ≡ w → chain ≡ chain_of v a place → chain ≡ chain_of w b place
-key_chain_is chain a b place v w same words is = is ∙ (ap (λ x. chain_of v x place) same ∙ ap (λ x. chain_of x b place) words)
+abbrev Answered : List Place → Limits → Result Item Fault → Member → Type 0
+Answered unbuilt limits r e = Judged (IsItem e) (item_refusal unbuilt limits e) r
 
 fields_are : (a b : Bool) (name key : List ℕ) → a ≡ b → name ≡ key → (if a then Keyword else Names (name ∷ [])) ≡ (if b then Keyword else Names (key ∷ []))
 fields_are a b name key same names =
@@ -40,8 +34,8 @@ fields_are a b name key same names =
 pub returns-in_err-key-clause-judged : goal.returns-in_err-key-clause-judged
 returns-in_err-key-clause-judged c =
     let entry = c.args.entry.now in
-    subst (Answered c.args.limits.now _) (sym (view-Entry entry))
-    (hands_on (IsItem (member_of entry)) (IsKey entry.key) c.from_residual.result c.in_err-key.field-0.0 _ (item_refusal c.args.limits.now (member_of entry)) (must 71 entry.place (is_item_key entry.key))
+    subst (Answered c.args.unbuilt.now c.args.limits.now _) (sym (view-Entry entry))
+    (hands_on (IsItem (member_of entry)) (IsKey entry.key) c.from_residual.result c.in_err-key.field-0.0 _ (item_refusal c.args.unbuilt.now c.args.limits.now (member_of entry)) (must 71 entry.place (is_item_key entry.key))
     c.from_residual.ensures.1 (λ y p. p) c.in_err-key.ensures.judged (λ r p. stops _ _ r p))
 
 pub returns-in_err-chain-clause-judged : goal.returns-in_err-chain-clause-judged
@@ -49,9 +43,9 @@ returns-in_err-chain-clause-judged c =
     let entry = c.args.entry.now in
     let key = c.in_ok-key.key in
     let is_key = c.in_ok-key.ensures.judged.1 in
-    subst (Answered c.args.limits.now _) (sym (view-Entry entry))
+    subst (Answered c.args.unbuilt.now c.args.limits.now _) (sym (view-Entry entry))
     (hands_on (IsItem (member_of entry)) (λ w. w ≡ chain_of c.as_slice.result.now key.keyword entry.place) c.from_residual-in_err-chain.result c.in_err-chain.field-0.0 _
-    (item_refusal c.args.limits.now (member_of entry)) (chain_refusal key.keyword entry.place c.as_slice.result.now)
+    (item_refusal c.args.unbuilt.now c.args.limits.now (member_of entry)) (chain_refusal key.keyword entry.place c.as_slice.result.now)
     c.from_residual-in_err-chain.ensures.1 (λ y p. p) c.in_err-chain.ensures
     (λ r p. skips _ _ c.in_ok-key.ensures.judged.0 ∙ stops _ _ r
     (sym (chain_same key.keyword (is_keyword_key entry.key) entry.place c.as_slice.result.now (words_in entry.key) is_key.keyword (c.as_slice.ensures ∙ is_key.words)) ∙ p)))
@@ -63,14 +57,14 @@ returns-in_err-tests-clause-judged c =
     let is_key = c.in_ok-key.ensures.judged.1 in
     let words = c.as_slice.ensures ∙ is_key.words in
     let limits = c.args.limits.now in
-    subst (Answered limits _) (sym (view-Entry entry))
+    subst (Answered c.args.unbuilt.now limits _) (sym (view-Entry entry))
     (hands_on (IsItem (member_of entry)) (λ all. AllZip (TestsOf c.in_ok-chain.chain) (parts_in (node_view entry.value)) all) c.from_residual-in_err-tests.result c.in_err-tests.field-0.0 _
-    (item_refusal limits (member_of entry)) (values_refusal limits c.in_ok-chain.chain entry.place (node_view entry.value))
+    (item_refusal c.args.unbuilt.now limits (member_of entry)) (values_refusal c.args.unbuilt.now limits c.in_ok-chain.chain entry.place (node_view entry.value))
     c.from_residual-in_err-tests.ensures.1 (λ y p. p) c.in_err-tests.ensures.judged
     (λ r p. skips _ _ c.in_ok-key.ensures.judged.0
     ∙ (skips _ _ (sym (chain_same key.keyword (is_keyword_key entry.key) entry.place c.as_slice.result.now (words_in entry.key) is_key.keyword words) ∙ c.in_ok-chain.ensures.0)
     ∙ (first_one _
-    ∙ (ap (λ (w : Written). values_refusal limits w entry.place (node_view entry.value))
+    ∙ (ap (λ (w : Written). values_refusal c.args.unbuilt.now limits w entry.place (node_view entry.value))
     (sym (key_chain_is c.in_ok-chain.chain key.keyword (is_keyword_key entry.key) entry.place c.as_slice.result.now (words_in entry.key) is_key.keyword words c.in_ok-chain.ensures.1))
     ∙ p)))))
 
@@ -84,11 +78,11 @@ returns-clause-judged c =
     let chain : c.in_ok-chain.chain ≡ key_chain (member_of entry) =
     key_chain_is c.in_ok-chain.chain key.keyword (is_keyword_key entry.key) entry.place c.as_slice.result.now (words_in entry.key) is_key.keyword words c.in_ok-chain.ensures.1 in
     let i : Item = record { fields = c.in_ok-fields.fields; tests = c.in_ok-tests.tests; joined = c.joined.result; place = entry.place } in
-    subst (λ (e : Member). (item_refusal limits e ≡ None) × IsItem e i) (sym (view-Entry entry)) (
+    subst (λ (e : Member). (item_refusal c.args.unbuilt.now limits e ≡ None) × IsItem e i) (sym (view-Entry entry)) (
       skips _ _ c.in_ok-key.ensures.judged.0
           ∙ (skips _ _ (sym (chain_same key.keyword (is_keyword_key entry.key) entry.place c.as_slice.result.now (words_in entry.key) is_key.keyword words) ∙ c.in_ok-chain.ensures.0)
           ∙ (first_one _
-          ∙ (ap (λ (w : Written). values_refusal limits w entry.place (node_view entry.value)) (sym chain) ∙ c.in_ok-tests.ensures.judged.0))),
+          ∙ (ap (λ (w : Written). values_refusal c.args.unbuilt.now limits w entry.place (node_view entry.value)) (sym chain) ∙ c.in_ok-tests.ensures.judged.0))),
       record {
         fields = c.in_ok-fields.ensures.ok ∙ fields_are key.keyword (is_keyword_key entry.key) key.name (name_in entry.key) is_key.keyword is_key.name;
         tests = subst (λ (w : Written). AllZip (TestsOf w) (parts_in (node_view entry.value)) c.in_ok-tests.tests) chain c.in_ok-tests.ensures.judged.1;
@@ -101,6 +95,6 @@ pub returns-clause-whole : goal.returns-clause-whole
 returns-clause-whole c =
     let entry = c.args.entry.now in
     let judged = returns-clause-judged c in
-    whole_item c.some_test.ensures c.keyword_tests.ensures c.args.limits.now (entry_view entry) _ judged.0 judged.1
+    whole_item c.some_test.ensures c.keyword_tests.ensures c.args.unbuilt.now c.args.limits.now (entry_view entry) _ judged.0 judged.1
     (ap (λ (e : Member). all_scalars (name_in e.key)) (view-Entry entry) ∙ (ap all_scalars (sym c.in_ok-key.ensures.judged.1.name) ∙ c.in_ok-key.ensures.scalars))
     c.in_ok-tests.ensures.plain

@@ -1,27 +1,41 @@
-use Rattle.std.proofs.Common.{◌≡◌, ◌∙◌, ap}
-use Rattle.answer_parts.proofs.Wrote.{writes_as, writes_memory}
+use Rattle.std.proofs.Common.{◌≡◌, ◌∙◌, ap, Ok, Err}
 use Rattle.answer_parts.specs.Lines.{ended}
 use Rattle.answer_parts.specs.Parts.{text_share}
-use Rattle.sigma_app.specs.Check.{CheckGives, is_rule, no_rule}
+use Rattle.rule_queries.specs.Verdicts.{CheckAnswers}
+use Rattle.sig_base.specs.declared.refusal.Fault.TheVariants.{Refused}
 use Rattle.sig_base.specs.declared.refusal.Place.{Place}
+use Rattle.sigma_app.proofs.Grown.{tree_wrote, tree_memory}
+use Rattle.sigma_app.specs.Check.{CheckGives, is_rule, no_rule}
 use Rattle.sigma_app.specs.Reports.{ok_line, refusal_share}
 use Rattle.yaml_tree.specs.View.{node_view}
 use Rattle.sigma_app.proofs.commands.check.CheckTreeCommand.answer.Goals as goal
 
 pub returns-in-Ok-ok_text : goal.returns-in-Ok-ok_text
 returns-in-Ok-ok_text g c =
-    let rule = c.in-Ok.ensures in
-    writes_as (λ share. share ≡ text_share c.as_bytes.result.now) (CheckGives c.args.self.now.limits.now c.args.name.now (node_view c.args.node.now)) c.put_text.result (g.W.Outside.state c.args.outside.now) (g.W.Outside.state c.put_text.new.outside)
-    (λ share is. is_rule rule.0 rule.1 (is ∙ ap text_share (c.as_bytes.ensures.value ∙ (c.in-Ok-ok_text.ensures ∙ ap (λ (p : Place). ended (ok_line c.args.name.now p)) rule.2)))) c.put_text.ensures
+    let limits = c.args.limits.now in
+    let t = node_view c.args.node.now in
+    tree_wrote (CheckGives limits) limits c.args.name.now t (λ unbuilt. CheckAnswers unbuilt limits t (Ok c.in-Ok.place)) (λ share. share ≡ text_share c.as_bytes.result.now)
+    (g.B.Builder.refused c.args.builder.now) (g.B.Builder.refused c.check_node.new.builder) c.put_text.result (g.W.Outside.state c.args.outside.now) (g.W.Outside.state c.put_text.new.outside) c.in-Ok.ensures
+    (λ unbuilt rule share is. is_rule rule.0 rule.1 (is ∙ ap text_share (c.as_bytes.ensures.value ∙ (c.in-Ok-ok_text.ensures ∙ ap (λ (p : Place). ended (ok_line c.args.name.now p)) rule.2)))) c.put_text.ensures
 
 pub returns-in-Err : goal.returns-in-Err
-returns-in-Err g c = writes_memory (CheckGives c.args.self.now.limits.now c.args.name.now (node_view c.args.node.now)) (g.W.Outside.state c.args.outside.now) (c.each_tree.ensures c.args.name.now (node_view c.args.node.now))
+returns-in-Err g c =
+    let limits = c.args.limits.now in
+    tree_memory (CheckGives limits) limits c.args.name.now (node_view c.args.node.now) (c.each_tree.ensures limits) (g.B.Builder.refused c.args.builder.now) (g.B.Builder.refused c.check_node.new.builder)
+    (c.in-Ok.ensures.gained, c.in-Ok.ensures.follows) (g.W.Outside.state c.args.outside.now)
 
 pub returns-in-Err-Memory : goal.returns-in-Err-Memory
-returns-in-Err-Memory g c = writes_memory (CheckGives c.args.self.now.limits.now c.args.name.now (node_view c.args.node.now)) (g.W.Outside.state c.args.outside.now) (c.each_tree.ensures c.args.name.now (node_view c.args.node.now))
+returns-in-Err-Memory g c =
+    let limits = c.args.limits.now in
+    let found = rw c.in-Err-Memory.field-0-is at c.in-Err-Memory.ensures in
+    tree_memory (CheckGives limits) limits c.args.name.now (node_view c.args.node.now) (c.each_tree.ensures limits) (g.B.Builder.refused c.args.builder.now) (g.B.Builder.refused c.check_node.new.builder)
+    (found.gained, found.follows) (g.W.Outside.state c.args.outside.now)
 
 pub returns-in-Err-Refused : goal.returns-in-Err-Refused
 returns-in-Err-Refused g c =
-    let is_refused = rw c.in-Err-Refused.field-0-is at c.in-Err-Refused.ensures in
-    writes_as (λ share. share ≡ refusal_share c.args.name.now c.in-Err-Refused.refusal) (CheckGives c.args.self.now.limits.now c.args.name.now (node_view c.args.node.now)) c.put_refusal.result (g.W.Outside.state c.args.outside.now) (g.W.Outside.state c.put_refusal.new.outside)
-    (λ share is. no_rule c.in-Err-Refused.refusal is_refused is) c.put_refusal.ensures
+    let limits = c.args.limits.now in
+    let t = node_view c.args.node.now in
+    let found = rw c.in-Err-Refused.field-0-is at c.in-Err-Refused.ensures in
+    tree_wrote (CheckGives limits) limits c.args.name.now t (λ unbuilt. CheckAnswers unbuilt limits t (Err (Refused c.in-Err-Refused.refusal))) (λ share. share ≡ refusal_share c.args.name.now c.in-Err-Refused.refusal)
+    (g.B.Builder.refused c.args.builder.now) (g.B.Builder.refused c.check_node.new.builder) c.put_refusal.result (g.W.Outside.state c.args.outside.now) (g.W.Outside.state c.put_refusal.new.outside) found
+    (λ unbuilt refused_so share is. no_rule c.in-Err-Refused.refusal refused_so is) c.put_refusal.ensures

@@ -4,5 +4,6 @@ use Rattle.sigma_app.proofs.commands.run.RunFileSchemaCommand.answer.Goals as go
 
 pub returns-in-Err : goal.returns-in-Err
 returns-in-Err g c =
-    run_unread c.args.self.now.limits.now c.args.self.now.rule.now (option_map (λ s. s.now) c.args.given) (c.each_under.ensures (g.B.Builder.refused c.args._builder.now)) c.in-Err.stop
+    let refused = g.B.Builder.refused c.args.builder.now in
+    run_unread c.args.self.now.limits.now c.args.self.now.rule.now (option_map (λ s. s.now) c.args.given) refused (c.each_under.ensures refused) c.in-Err.stop
     (g.W.Outside.state c.args.outside.now) (g.W.Outside.state c.read_file.new.outside) c.in-Err.ensures.stops

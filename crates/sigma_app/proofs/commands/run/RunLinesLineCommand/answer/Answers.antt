@@ -11,17 +11,17 @@ use Rattle.selected_lines.proofs.Selected.{event_gives, refused_gives}
 use Rattle.sigma_app.specs.Ran.{RunGives}
 use Rattle.sigma_app.proofs.commands.run.RunLinesLineCommand.answer.Goals as goal
 
-pub returns-in-Ok-matches-clause-writes : goal.returns-in-Ok-matches-clause-writes
-returns-in-Ok-matches-clause-writes g c =
+pub returns-in-Ok-clause-writes : goal.returns-in-Ok-clause-writes
+returns-in-Ok-clause-writes g c =
     let schema = c.args.self.now.schema.now in
     let rule = rule_view c.args.self.now.rule.now in
     let place : Place = record { line = c.args.number; column = 1 } in
     let answers = subst (λ (bytes : List ℕ). Answers place (event_of schema bytes) (Ok c.in-Ok.event)) c.as_slice.ensures c.in-Ok.ensures.taken in
     event_gives schema (λ row. Matches schema.fields row rule) c.args.number c.args.line place c.put_picked.result (g.W.Outside.state c.args.outside.now) (g.W.Outside.state c.put_picked.new.outside)
-    c.in-Ok.event c.in-Ok-matches.picked answers (c.in-Ok-matches.ensures.means schema.fields rule c.requires) c.put_picked.ensures
+    c.in-Ok.event c.matches-picked.result answers (c.matches-picked.ensures.means schema.fields rule c.requires) c.put_picked.ensures
 
-pub returns-in-Ok-matches-clause-keeps : goal.returns-in-Ok-matches-clause-keeps
-returns-in-Ok-matches-clause-keeps g c = c.matches.ensures.same c.args.self.now.schema.now.fields (rule_view c.args.self.now.rule.now) c.requires
+pub returns-in-Ok-clause-keeps : goal.returns-in-Ok-clause-keeps
+returns-in-Ok-clause-keeps g c = c.matches-picked.ensures.same c.args.self.now.schema.now.fields (rule_view c.args.self.now.rule.now) c.requires
 
 pub returns-in-Err-Refused-clause-writes : goal.returns-in-Err-Refused-clause-writes
 returns-in-Err-Refused-clause-writes g c =

@@ -1,0 +1,5 @@
+mod FoundPlaces
+pub mod BuiltRows
+pub mod Documents
+pub mod Growing
+pub mod Lists

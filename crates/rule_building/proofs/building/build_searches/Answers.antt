@@ -1,0 +1,102 @@
+use Rattle.std.proofs.Common.{ℕ, ◌≡◌, ◌<◌, ◌+◌, ◌∙◌, ◌∷◌, ◌++◌, [], List, Vec, Global, length, get_or, take, map, ap, refl, subst, sym}
+use Rattle.std.specs.Prelude.{Result, Ok, Err}
+use Rattle.std.proofs.lemmas.List.{map-append}
+use Rattle.languages.specs.declared.search.Search.{Search}
+use Rattle.rule_building.specs.Building.{Builds}
+use Rattle.rule_items.specs.declared.expression.Expression.{Expression}
+use Rattle.sig_base.proofs.Firsts.{from_error}
+use Rattle.sig_base.specs.declared.refusal.Fault.{Fault}
+use Rattle.rule_building.proofs.BuiltRows.{taken, built_none, built_more, built_stop, builds_no_memory, none_reached}
+use Rattle.rule_building.proofs.building.build_searches.Goals as goal
+
+abbrev Searches : List Expression → Vec Search Global → Type 0
+Searches es searches = map (λ search. search.text) searches.items ≡ map (λ e. e.text) es
+
+abbrev Answered : List Expression → List (List ℕ) → List (List ℕ) → Result (Vec Search Global) Fault → Type 0
+Answered es before after r = Builds (Searches es) es before after r
+
+abbrev IsSearch : Expression → Search → Type 0
+IsSearch e search = search.text ≡ e.text
+
+-- of a copy of its text
+of_copy : (e : Expression) (text : List ℕ) (now after : List (List ℕ)) (r : Result Search Fault) → text ≡ e.text
+    → Builds (λ search. search.text ≡ text) (record { place = e.place; text = text } ∷ []) now after r → Builds (IsSearch e) (e ∷ []) now after r
+of_copy e text now after r same built =
+    subst (λ (t : List ℕ). Builds (λ (search : Search). search.text ≡ t) (record { place = e.place; text = t } ∷ []) now after r) same built
+
+abbrev text_of : Search → List ℕ
+text_of search = search.text
+
+abbrev expression_text : Expression → List ℕ
+expression_text e = e.text
+
+texts_more : (searches : List Search) (search : Search) (es : List Expression) (e : Expression) (i : ℕ) → i < length es → e ≡ get_or es i e
+    → map (λ s. s.text) searches ≡ map (λ x. x.text) (take i es) → search.text ≡ e.text → map (λ s. s.text) (searches ++ search ∷ []) ≡ map (λ x. x.text) (take (i + 1) es)
+texts_more searches search es e i below is so_far same =
+    map-append text_of searches (search ∷ [])
+    ∙ (ap (λ (texts : List (List ℕ)). texts ++ search.text ∷ []) so_far
+    ∙ (ap (λ (text : List ℕ). map expression_text (take i es) ++ text ∷ []) same
+    ∙ (sym (map-append expression_text (take i es) (e ∷ [])) ∙ ap (map expression_text) (sym (taken es i e below is)))))
+
+pub returns-in_err-searches : goal.returns-in_err-searches
+returns-in_err-searches g c =
+    let before = g.B.Builder.refused c.args.builder.now in
+    let es = c.args.expressions.now in
+    from_error (Answered es before before) c.from_residual.result _ _ c.from_residual.ensures.1 (λ y p. p)
+    (none_reached (Searches es) es before before _ refl refl)
+
+pub loop-expression-init : goal.loop-expression-init
+loop-expression-init g c = record {
+  built = built_none (g.B.Builder.refused c.args.builder.now);
+  texts = ap (map (λ (search : Search). search.text)) c.in_ok-searches.ensures.items;
+}
+
+pub returns-in_err-text : goal.returns-in_err-text
+returns-in_err-text g c =
+    let at = c.loop-expression in
+    let before = g.B.Builder.refused c.args.builder.now in
+    let now = g.B.Builder.refused at.builder in
+    let es = c.args.expressions.now in
+    from_error (Answered es before now) c.from_residual-in_err-text.result c.in_err-text.field-0.0 _ c.from_residual-in_err-text.ensures.1 (λ y p. p)
+    (builds_no_memory (λ (done : Unit {0}). Unit {0}) (Searches es) _ es before now _ _ at.invariant.built c.in_err-text.ensures.err)
+
+pub returns-in_err-search : goal.returns-in_err-search
+returns-in_err-search g c =
+    let at = c.loop-expression in
+    let before = g.B.Builder.refused c.args.builder.now in
+    let after = g.B.Builder.refused c.build_at.new.builder in
+    let es = c.args.expressions.now in
+    let e = c.expression-item.result in
+    from_error (Answered es before after) c.from_residual-in_err-search.result c.in_err-search.field-0.0 _ c.from_residual-in_err-search.ensures.1 (λ y p. p)
+    (built_stop (IsSearch e) (Searches es) es at.expression-index e before (g.B.Builder.refused at.builder) after c.in_err-search.field-0.0
+    c.loop-expression-test.true c.expression-item.is at.invariant.built
+    (of_copy e c.in_ok-text.text _ after _ (c.in_ok-text.ensures.ok ∙ c.as_str.ensures.chars) c.in_err-search.ensures))
+
+pub returns-in_err-push : goal.returns-in_err-push
+returns-in_err-push g c =
+    let at = c.loop-expression in
+    let before = g.B.Builder.refused c.args.builder.now in
+    let after = g.B.Builder.refused c.build_at.new.builder in
+    let es = c.args.expressions.now in
+    let e = c.expression-item.result in
+    from_error (Answered es before after) c.from_residual-in_err-push.result _ _ c.from_residual-in_err-push.ensures.1 (λ y p. p)
+    (builds_no_memory (λ (done : Unit {0}). Unit {0}) (Searches es) (take (at.expression-index + 1) es) es before after _ _
+    (built_more (IsSearch e) es at.expression-index e before (g.B.Builder.refused at.builder) after c.in_ok-search.search c.loop-expression-test.true c.expression-item.is at.invariant.built
+    (of_copy e c.in_ok-text.text _ after _ (c.in_ok-text.ensures.ok ∙ c.as_str.ensures.chars) c.in_ok-search.ensures)) refl)
+
+pub loop-expression-preserved : goal.loop-expression-preserved
+loop-expression-preserved g c =
+    let at = c.loop-expression in
+    let before = g.B.Builder.refused c.args.builder.now in
+    let now = g.B.Builder.refused at.builder in
+    let after = g.B.Builder.refused c.build_at.new.builder in
+    let es = c.args.expressions.now in
+    let e = c.expression-item.result in
+    let search = c.in_ok-search.search in
+    let one : Builds (IsSearch e) (e ∷ []) now after (Ok search) =
+    of_copy e c.in_ok-text.text now after (Ok search) (c.in_ok-text.ensures.ok ∙ c.as_str.ensures.chars) c.in_ok-search.ensures in
+    record {
+      built = built_more (IsSearch e) es at.expression-index e before now after search c.loop-expression-test.true c.expression-item.is at.invariant.built one;
+      texts = ap (map text_of) c.in_ok-push.ensures.items
+          ∙ texts_more at.searches.items search es e at.expression-index c.loop-expression-test.true c.expression-item.is at.invariant.texts one.judged.1;
+    }

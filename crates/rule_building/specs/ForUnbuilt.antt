@@ -1,0 +1,35 @@
+-- What is said of a document for places at which its regular expressions aren't built.
+use Rattle.std.specs.Prelude.{◌≡◌, ℕ, Bool, true, false, List, ◌++◌, Result, Ok, Err}
+use Rattle.sig_base.specs.declared.limits.Limits.{Limits}
+use Rattle.sig_base.specs.declared.refusal.Fault.{Fault}
+use Rattle.sig_base.specs.declared.refusal.Fault.TheVariants.{Memory, Refused}
+use Rattle.sig_base.specs.declared.refusal.Place.{Place}
+use Rattle.yaml_tree.specs.Tree.{Tree}
+use Rattle.rule_model.specs.Expressions.{rule_expressions}
+use Rattle.rule_model.specs.Plain.{PlainRule}
+use Rattle.rule_model.specs.Rules.{IsRule}
+use Rattle.rule_building.specs.Unbuilt.{Unbuilt, AreUnbuilt, ArePlacesOf}
+
+-- it was answered to its end, and memory wasn't missing
+abbrev pub is_answered : {X : Type 0} → Result X Fault → Bool
+is_answered (Ok x) = true
+is_answered (Err (Refused r)) = true
+is_answered (Err Memory) = false
+
+-- For some such places it's so. The builder had refused the texts `before`, and then has refused the texts `after`; the places are
+-- those of what it refused meanwhile.
+pub record ForUnbuilt (limits : Limits) (t : Tree) (before after : List (List ℕ)) (ended : Bool) (Says : Unbuilt → Type 0) : Type 0 where
+  pub unbuilt : Unbuilt
+  pub gained : List (List ℕ)
+  pub follows : after ≡ before ++ gained
+  pub are : AreUnbuilt limits t gained ended unbuilt
+  pub says : Says unbuilt
+
+-- The same of what comes behind the building of the document's values, of which those at these places aren't built: for some places of
+-- items at which regular expressions of the rule aren't built once more.
+pub record ForItems (t : Tree) (values : List Place) (before after : List (List ℕ)) (Says : Unbuilt → Type 0) : Type 0 where
+  pub items : List Place
+  pub gained : List (List ℕ)
+  pub follows : after ≡ before ++ gained
+  pub places : (rule : PlainRule) → IsRule t rule → ArePlacesOf (rule_expressions rule) gained items
+  pub says : Says (record { values = values; items = items })

@@ -1,0 +1,12 @@
+//! Building the regular expressions of documents and rules, and where they aren't built.
+#![tactic(auto)]
+
+pub use building::{build_at, build_items, build_searches};
+pub use finding::find_unbuilt;
+pub use law::{refused_texts_grow, refused_where_unbuilt};
+
+mod building;
+mod finding;
+mod law;
+#[cfg(test)]
+mod tests;

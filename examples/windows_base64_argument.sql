@@ -1,0 +1,1 @@
+SELECT * FROM "events" WHERE ("Image" LIKE '%\\powershell.exe' ESCAPE '\' OR "Image" LIKE '%\\pwsh.exe' ESCAPE '\') AND "CommandLine" REGEXP '(?i)\s[-/]e(nc?(odedcommand)?)?\s+["'']?[a-z0-9+/]{20,}={0,2}' AND NOT ("ParentImage" IS NOT NULL AND "ParentImage" REGEXP '^C:\\Program Files( \(x86\))?\\Agent\\agent(64)?\.exe$')
