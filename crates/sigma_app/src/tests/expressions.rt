@@ -123,16 +123,22 @@ const EVENTS: &str =
 
 const FOUND: &str = "{\"CommandLine\":\"x AAB\"}\n{\"CommandLine\":\"ab\\nb\"}\n";
 
-/// What is written of these events by a rule and a query, under a schema.
-fn selected(alloc: Global, words: &[&str], rule: &str, query: &str) -> Result<Ran, Fail> {
-    let files: [(&str, &[u8]); 3] = [
-        ("s.json", SCHEMA.as_bytes()),
-        ("r.yml", rule.as_bytes()),
-        ("q", query.as_bytes()),
-    ];
+/// Runs the rule `r.yml` over these events under the schema.
+fn run_rule(alloc: Global, rule: &str) -> Result<Ran, Fail> {
+    let files: [(&str, &[u8]); 2] = [("s.json", SCHEMA.as_bytes()), ("r.yml", rule.as_bytes())];
     let mut world = still(&files);
     world.events = EVENTS;
-    run_over(alloc, words, &Limits::standard(), world)
+    let words = ["run", "--schema", "s.json", "r.yml"];
+    run_over(alloc, &words, &Limits::standard(), world)
+}
+
+/// Asks the query `q` of them.
+fn ask_query(alloc: Global, query: &str) -> Result<Ran, Fail> {
+    let files: [(&str, &[u8]); 2] = [("s.json", SCHEMA.as_bytes()), ("q", query.as_bytes())];
+    let mut world = still(&files);
+    world.events = EVENTS;
+    let words = ["query", "--backend", "sqlite", "--schema", "s.json", "q"];
+    run_over(alloc, &words, &Limits::standard(), world)
 }
 
 /// A rule and its query select the same events.
@@ -140,12 +146,10 @@ fn selected(alloc: Global, words: &[&str], rule: &str, query: &str) -> Result<Ra
 fn events_are_found(rt: HostRuntime) -> Result<(), Fail> {
     let alloc = rt.alloc();
     let rule = rule_of(alloc, "CommandLine|re|i: 'a+b'", "s")?;
-    let query = "SELECT * FROM \"events\" WHERE \"CommandLine\" REGEXP '(?i)a+b'\n";
-    let run: [&str; 4] = ["run", "--schema", "s.json", "r.yml"];
-    let ran = selected(alloc, &run, rule.as_str(), query)?;
+    let ran = run_rule(alloc, rule.as_str())?;
     check(&rt, &ran, 0, FOUND, "");
-    let asked: [&str; 6] = ["query", "--backend", "sqlite", "--schema", "s.json", "q"];
-    let ran = selected(alloc, &asked, rule.as_str(), query)?;
+    let query = "SELECT * FROM \"events\" WHERE \"CommandLine\" REGEXP '(?i)a+b'\n";
+    let ran = ask_query(alloc, query)?;
     check(&rt, &ran, 0, FOUND, "");
     Ok(())
 }
