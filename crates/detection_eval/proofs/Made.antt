@@ -1,7 +1,7 @@
 -- What is made of regular expressions that are built.
 use Rattle.std.proofs.Common.{◌≡◌, ℕ, List}
 use Rattle.std.specs.Prelude.{Result, Ok, Err, IfOk, IfErr}
-use Rattle.rule_building.proofs.BuiltRows.{builds_so, builds_no_memory}
+use Rattle.rule_building.proofs.BuiltRows.{no_memory}
 use Rattle.rule_building.specs.Building.{Builds}
 use Rattle.rule_items.specs.declared.expression.Expression.{Expression}
 use Rattle.sig_base.specs.declared.refusal.Fault.{Fault}
@@ -10,5 +10,5 @@ use Rattle.sig_base.specs.declared.refusal.Fault.TheVariants.{Memory}
 -- all are built, and what is made of them wants memory alone
 pub then_made : {X Y : Type 0} (Own : X → Type 0) (Is : Y → Type 0) (es : List Expression) (before after : List (List ℕ)) (x : X) (result : Result Y Fault)
     → Builds Own es before after (Ok x) → (Own x → IfOk result Is) → IfErr result (λ e. e ≡ Memory) → Builds Is es before after result
-then_made Own Is es before after x (Ok y) built made faults = builds_so Own Is es before after x y built (made built.judged.1)
-then_made Own Is es before after x (Err e) built made faults = builds_no_memory Own Is es es before after (Ok x) e built faults
+then_made Own Is es before after x (Ok y) built made faults = (built.0, made built.1)
+then_made Own Is es before after x (Err e) built made faults = no_memory Is es before after e faults built.0

@@ -28,7 +28,6 @@ use Rattle.sig_modifiers.specs.declared.test.Test.{Test}
 use Rattle.sig_modifiers.specs.declared.test.Test.TheVariants as tests
 use Rattle.detection_eval.specs.Ready.{NumberedHolds, Satisfies, ValuesHold, SearchSatisfies, AskedHolds, NumberedItemHolds, AlternativesHold, AreTruths, asked_of, numbered_test, numbered_item, numbered_detection, texts_of, PlainReady, ready_rule}
 use Rattle.detection_eval.specs.Truths.{truth_at}
-use Rattle.detection_eval.specs.declared.numbered.NumberedItem.{NumberedItem}
 use Rattle.detection_eval.specs.declared.numbered.NumberedTest.{NumberedTest}
 use Rattle.detection_eval.proofs.Standing.{Stands, all_stand, each_flat, each_mapped, over_map_of}
 

@@ -1,12 +1,12 @@
 -- Regular expressions of a rule are found by the numbers of their texts, each where it stands.
-use Rattle.std.proofs.Common.{ℕ, zero, suc, ◌≡◌, ◌↔◌, ◌+◌, ◌<◌, Bool, true, false, not, cond, ◌||◌, List, [], ◌∷◌, ◌++◌, length, map, refl, sym, ap, ◌∙◌, arith}
-use Rattle.std.specs.Prelude.{Option, Some, None, slice_get}
+use Rattle.std.proofs.Common.{ℕ, suc, ◌≡◌, ◌↔◌, ◌+◌, ◌<◌, Bool, true, false, not, cond, ◌||◌, List, [], ◌∷◌, ◌++◌, length, map, refl, sym, ap, ◌∙◌, arith}
+use Rattle.std.specs.Prelude.{Some, None, slice_get}
 use Rattle.std.specs.List.{flat_map, list_any, position_or_len}
 use Rattle.std.specs.Str.{bytes_eq}
 use Rattle.std.proofs.lemmas.Bool.{lt-ltb}
 use Rattle.std.proofs.lemmas.List.{append_assoc}
 use Rattle.std.proofs.lemmas.Slice.Eq.{bytes_eq-Decides}
-use Rattle.event_schema.specs.Lists.{EachOf, SomeOf}
+use Rattle.event_schema.specs.Lists.{EachOf}
 use Rattle.modifier_chains.specs.declared.modifier.Joined.{Joined}
 use Rattle.rule_matching.proofs.Iffs.{Over, iff_pair, iff_then, iff_back, over_cons, over_empty, each_append}
 use Rattle.text_index.specs.Numbers.{first_number}

@@ -1,5 +1,4 @@
 mod FoundPlaces
 pub mod BuiltRows
 pub mod Documents
-pub mod Growing
 pub mod Lists

@@ -2,13 +2,14 @@
 use Rattle.std.specs.Prelude.{◌≡◌, ℕ, Bool, true, false, List, [], ◌∷◌, ◌++◌, Result, Ok, Err}
 use Rattle.std.specs.declared.alloc.Global.{Global}
 use Rattle.std.specs.declared.vec.Vec.{Vec}
+use Rattle.event_schema.specs.Lists.{SomeOf}
 use Rattle.languages.specs.Patterns.{is_pattern}
 use Rattle.rule_items.specs.declared.expression.Expression.{Expression}
-use Rattle.sig_base.specs.Judged.{Judged}
+use Rattle.sig_base.specs.Judged.{refusal}
 use Rattle.sig_base.specs.declared.refusal.Fault.{Fault}
-use Rattle.sig_base.specs.declared.refusal.Fault.TheVariants.{Memory}
+use Rattle.sig_base.specs.declared.refusal.Fault.TheVariants.{Memory, Refused}
 use Rattle.sig_base.specs.declared.refusal.Place.{Place}
-use Rattle.rule_building.specs.Unbuilt.{unbuilt_refusal, ArePlacesOf, AreIllRefused}
+use Rattle.rule_building.specs.Unbuilt.{ArePlacesOf, IsOneOf, AreIllRefused}
 
 -- Whether the regular expression of this text is built. The list of refused texts gains this text where it isn't, and nothing else; what
 -- is built is one that the grammar reads.
@@ -21,22 +22,20 @@ abbrev pub places_in : Result (Vec Place Global) Fault → Result (List Place) F
 places_in (Ok places) = Ok places.items
 places_in (Err e) = Err e
 
--- the places of those that aren't built; want of memory says nothing
+-- the places of those that the builder refused; where memory was missing, what it refused until then has its places too
 abbrev pub FindsUnbuilt : List Expression → List (List ℕ) → Result (List Place) Fault → Type 0
-FindsUnbuilt expressions gained (Ok places) = ArePlacesOf expressions gained places × AreIllRefused expressions gained
-FindsUnbuilt expressions gained (Err e) = e ≡ Memory
+FindsUnbuilt expressions refused (Ok places) = ArePlacesOf (IsOneOf expressions) refused places × AreIllRefused expressions refused
+FindsUnbuilt expressions refused (Err e) = (e ≡ Memory) × (places : List Place) × ArePlacesOf (IsOneOf expressions) refused places
 
 -- with the texts that the builder refused meanwhile
 pub record FoundUnbuilt (expressions : List Expression) (before after : List (List ℕ)) (result : Result (List Place) Fault) : Type 0 where
-  pub gained : List (List ℕ)
-  pub follows : after ≡ before ++ gained
-  pub finds : FindsUnbuilt expressions gained result
+  pub refused : List (List ℕ)
+  pub follows : after ≡ before ++ refused
+  pub finds : FindsUnbuilt expressions refused result
 
--- All are built, and what is answered is so; or 48 is answered at the first that isn't. Each place at which one isn't built is that of one
--- which the builder refused meanwhile.
-pub record Builds {X : Type 0} (Is : X → Type 0) (expressions : List Expression) (before after : List (List ℕ)) (result : Result X Fault) : Type 0 where
-  pub unbuilt : List Place
-  pub gained : List (List ℕ)
-  pub follows : after ≡ before ++ gained
-  pub places : ArePlacesOf expressions gained unbuilt
-  pub judged : Judged Is (unbuilt_refusal unbuilt expressions) result
+-- All are built, and what is answered is so. Or memory was missing, and the builder refused none. Or it refused one, and no other: 48 is
+-- answered at the place of this one.
+abbrev pub Builds : {X : Type 0} → (X → Type 0) → List Expression → List (List ℕ) → List (List ℕ) → Result X Fault → Type 0
+Builds Is expressions before after (Ok x) = (after ≡ before) × Is x
+Builds Is expressions before after (Err Memory) = after ≡ before
+Builds Is expressions before after (Err (Refused r)) = SomeOf (λ e. (r ≡ refusal 48 e.place) × (after ≡ before ++ e.text ∷ [])) expressions

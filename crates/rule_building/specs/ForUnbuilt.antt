@@ -5,10 +5,7 @@ use Rattle.sig_base.specs.declared.refusal.Fault.{Fault}
 use Rattle.sig_base.specs.declared.refusal.Fault.TheVariants.{Memory, Refused}
 use Rattle.sig_base.specs.declared.refusal.Place.{Place}
 use Rattle.yaml_tree.specs.Tree.{Tree}
-use Rattle.rule_model.specs.Expressions.{rule_expressions}
-use Rattle.rule_model.specs.Plain.{PlainRule}
-use Rattle.rule_model.specs.Rules.{IsRule}
-use Rattle.rule_building.specs.Unbuilt.{Unbuilt, AreUnbuilt, ArePlacesOf}
+use Rattle.rule_building.specs.Unbuilt.{Unbuilt, AreUnbuilt, ArePlacesOf, IsOfItem, refused_texts}
 
 -- it was answered to its end, and memory wasn't missing
 abbrev pub is_answered : {X : Type 0} → Result X Fault → Bool
@@ -16,20 +13,19 @@ is_answered (Ok x) = true
 is_answered (Err (Refused r)) = true
 is_answered (Err Memory) = false
 
--- For some such places it's so. The builder had refused the texts `before`, and then has refused the texts `after`; the places are
--- those of what it refused meanwhile.
+-- For some such places it's so. The builder had refused the texts `before`, and then has refused the texts `after`: behind the former
+-- those of this document, and nothing else.
 pub record ForUnbuilt (limits : Limits) (t : Tree) (before after : List (List ℕ)) (ended : Bool) (Says : Unbuilt → Type 0) : Type 0 where
   pub unbuilt : Unbuilt
-  pub gained : List (List ℕ)
-  pub follows : after ≡ before ++ gained
-  pub are : AreUnbuilt limits t gained ended unbuilt
+  pub follows : after ≡ before ++ refused_texts unbuilt
+  pub are : AreUnbuilt limits t ended unbuilt
   pub says : Says unbuilt
 
 -- The same of what comes behind the building of the document's values, of which those at these places aren't built: for some places of
--- items at which regular expressions of the rule aren't built once more.
+-- items at which regular expressions of the rule aren't built once more. It's so whatever texts were refused for the values.
 pub record ForItems (t : Tree) (values : List Place) (before after : List (List ℕ)) (Says : Unbuilt → Type 0) : Type 0 where
   pub items : List Place
-  pub gained : List (List ℕ)
-  pub follows : after ≡ before ++ gained
-  pub places : (rule : PlainRule) → IsRule t rule → ArePlacesOf (rule_expressions rule) gained items
-  pub says : Says (record { values = values; items = items })
+  pub refused : List (List ℕ)
+  pub follows : after ≡ before ++ refused
+  pub are : ArePlacesOf (IsOfItem t) refused items
+  pub says : (earlier : List (List ℕ)) → Says (record { values = values; refused_values = earlier; items = items; refused_items = refused })

@@ -3,7 +3,7 @@
 
 pub use building::{build_at, build_items, build_searches};
 pub use finding::find_unbuilt;
-pub use law::{refused_texts_grow, refused_where_unbuilt};
+pub use law::refused_where_unbuilt;
 
 mod building;
 mod finding;

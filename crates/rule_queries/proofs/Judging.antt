@@ -1,5 +1,5 @@
 -- Why a rule has no query, line by line.
-use Rattle.std.proofs.Common.{ℕ, ◌≡◌, Bool, List, [], ◌∷◌, ◌++◌, Option, Some, None, refl, sym, subst, ap, ◌∙◌, append-nil}
+use Rattle.std.proofs.Common.{ℕ, ◌≡◌, Bool, List, [], ◌∷◌, Option, Some, None, sym, subst, ◌∙◌, append-nil}
 use Rattle.std.specs.Prelude.{min, ◌^◌, ◌-◌, option_map, Result, Ok, Err}
 use Rattle.backend_core.proofs.Checks.{parts, rest_decides, line_decides}
 use Rattle.backend_core.specs.Trees.{Plain}
@@ -10,10 +10,12 @@ use Rattle.event_schema.specs.declared.schema.Schema.{Schema}
 use Rattle.rule_lowering.specs.Leaves.{leaves}
 use Rattle.rule_lowering.specs.Refused.{leaves_refusal}
 use Rattle.rule_lowering.specs.TreeOf.{tree_of}
+use Rattle.rule_building.proofs.BuiltRows.{built_at}
 use Rattle.rule_building.proofs.Documents.{found_items, found_only, found_none, no_items}
+use Rattle.rule_building.proofs.Lists.{zip_map}
 use Rattle.rule_building.specs.Building.{Builds, FoundUnbuilt}
 use Rattle.rule_building.specs.ForUnbuilt.{ForItems, ForUnbuilt, is_answered}
-use Rattle.rule_building.specs.Unbuilt.{Unbuilt, ArePlacesOf, unbuilt_refusal}
+use Rattle.rule_building.specs.Unbuilt.{Unbuilt, of_values, IsOneOf, IsOfItem, unbuilt_refusal}
 use Rattle.rule_items.specs.declared.expression.Expression.{Expression}
 use Rattle.rule_model.specs.Expressions.{document_expressions, rule_expressions}
 use Rattle.rule_model.specs.Plain.{PlainRule, rule_with}
@@ -154,7 +156,7 @@ module _ (missing : Schema → Leaf → Option Lack) (text : Schema → Plain �
       → Rebuilt (rule_expressions rule) texts texts (λ unbuilt. Judged (λ bytes. bytes ≡ query_under text schema rule) (first (checks_under missing text too_deep unbuilt limits schema rule)) (Err (Refused r)))
   unfit_under limits rule schema texts r is = record {
     unbuilt = [];
-    gained = [];
+    refused = [];
     follows = sym (append-nil texts);
     places = tt;
     says = line_decides (fit_refusal schema rule) r (query_checks missing text too_deep [] limits schema rule) is;
@@ -166,7 +168,7 @@ module _ (missing : Schema → Leaf → Option Lack) (text : Schema → Plain �
       → Rebuilt (rule_expressions rule) before after (λ unbuilt. Judged (λ bytes. bytes ≡ query_under text schema rule) (first (checks_under missing text too_deep unbuilt limits schema rule)) r)
   fits_under limits rule schema before after r none h = record {
     unbuilt = h.unbuilt;
-    gained = h.gained;
+    refused = h.refused;
     follows = h.follows;
     places = h.places;
     says = judged_as (λ (bytes : List ℕ). bytes ≡ query_under text schema rule) (λ (bytes : List ℕ). bytes ≡ query_under text schema rule)
@@ -180,31 +182,34 @@ module _ (missing : Schema → Leaf → Option Lack) (text : Schema → Plain �
       → Rebuilt (rule_expressions rule) before after (λ unbuilt. Judged (λ bytes. bytes ≡ text schema t) (first (built_line unbuilt rule ∷ write_checks missing text too_deep limits schema t rule.head.place)) r)
       → Rebuilt (rule_expressions rule) before after (λ unbuilt. Judged (λ bytes. bytes ≡ query_under text schema rule) (first (query_checks missing text too_deep unbuilt limits schema rule)) r)
   rule_written limits rule schema t before after r e few h =
-      record { unbuilt = h.unbuilt; gained = h.gained; follows = h.follows; places = h.places; says = written h.unbuilt limits rule schema t r e few h.says }
+      record { unbuilt = h.unbuilt; refused = h.refused; follows = h.follows; places = h.places; says = written h.unbuilt limits rule schema t r e few h.says }
 
 -- ---- for places of items
 
 module _ (es : List Expression) where
   pub rebuilt_as : (before after : List (List ℕ)) (P Q : List Place → Type 0) → ((unbuilt : List Place) → P unbuilt → Q unbuilt) → Rebuilt es before after P → Rebuilt es before after Q
-  rebuilt_as before after P Q f h = record { unbuilt = h.unbuilt; gained = h.gained; follows = h.follows; places = h.places; says = f h.unbuilt h.says }
+  rebuilt_as before after P Q f h = record { unbuilt = h.unbuilt; refused = h.refused; follows = h.follows; places = h.places; says = f h.unbuilt h.says }
 
   pub rebuilt_none : (texts : List (List ℕ)) (P : List Place → Type 0) → P [] → Rebuilt es texts texts P
-  rebuilt_none texts P h = record { unbuilt = []; gained = []; follows = sym (append-nil texts); places = tt; says = h }
+  rebuilt_none texts P h = record { unbuilt = []; refused = []; follows = sym (append-nil texts); places = tt; says = h }
 
   pub rebuilt_by : {X : Type 0} (before after : List (List ℕ)) (Is : X → Type 0) (r : Result X Fault) (P : List Place → Type 0)
       → ((unbuilt : List Place) → Judged Is (unbuilt_refusal unbuilt es) r → P unbuilt) → Builds Is es before after r → Rebuilt es before after P
-  rebuilt_by before after Is r P f h = record { unbuilt = h.unbuilt; gained = h.gained; follows = h.follows; places = h.places; says = f h.unbuilt h.judged }
+  rebuilt_by before after Is r P f built =
+      let at = built_at Is es before after r built in
+      record { unbuilt = at.items; refused = at.refused; follows = at.follows; places = at.places; says = f at.items at.judged }
 
 -- for a rule that was read of the document without the other entries of its head
-pub rebuilt_items : ((t : Tree) (r s : PlainRule) → IsRule t r → IsRule t s → r ≡ s) → (t : Tree) (rest : List Member) (rule : PlainRule) (values : List Place)
-    (before after : List (List ℕ)) (P : List Place → Type 0) (Q : Unbuilt → Type 0) → IsRule t (rule_with rest rule)
-    → ((unbuilt : List Place) → P unbuilt → Q (record { values = values; items = unbuilt })) → Rebuilt (rule_expressions rule) before after P → ForItems t values before after Q
-rebuilt_items one t rest rule values before after P Q is f h = record {
+pub rebuilt_items : (t : Tree) (rest : List Member) (rule : PlainRule) (values : List Place) (before after : List (List ℕ)) (P : List Place → Type 0) (Q : Unbuilt → Type 0) → IsRule t (rule_with rest rule)
+    → ((earlier refused : List (List ℕ)) (items : List Place) → P items → Q (record { values = values; refused_values = earlier; items = items; refused_items = refused }))
+    → Rebuilt (rule_expressions rule) before after P → ForItems t values before after Q
+rebuilt_items t rest rule values before after P Q is f h = record {
   items = h.unbuilt;
-  gained = h.gained;
+  refused = h.refused;
   follows = h.follows;
-  places = λ other is_too. subst (λ (r : PlainRule). ArePlacesOf (rule_expressions r) h.gained h.unbuilt) (one t (rule_with rest rule) other is is_too) h.places;
-  says = f h.unbuilt h.says;
+  are = zip_map (λ text place. IsOneOf (rule_expressions rule) (record { place = place; text = text })) (λ text place. IsOfItem t (record { place = place; text = text }))
+      (λ text place one. (rule_with rest rule, is, one)) h.refused h.unbuilt h.places;
+  says = λ earlier. f earlier h.refused h.unbuilt h.says;
 }
 
 -- ---- for places of values, which the code reads as a slice
@@ -215,11 +220,11 @@ module _ (limits : Limits) (t : Tree) (values slice : List Place) (same : slice 
   node_converted after ended Says h =
       found_items limits t values before mid after ended Says found (subst (λ (places : List Place). ForItems t places mid after Says) same h)
 
-  pub node_checked : (r : Result Place Fault) → CheckAnswers (record { values = slice; items = [] }) limits t r
+  pub node_checked : (r : Result Place Fault) → ((earlier : List (List ℕ)) → CheckAnswers (of_values slice earlier) limits t r)
       → ForUnbuilt limits t before mid (is_answered r) (λ unbuilt. CheckAnswers unbuilt limits t r)
   node_checked r h =
       found_only limits t values before mid (is_answered r) (λ unbuilt. CheckAnswers unbuilt limits t r) found
-      (subst (λ (places : List Place). CheckAnswers (record { values = places; items = [] }) limits t r) same h)
+      (subst (λ (places : List Place). (earlier : List (List ℕ)) → CheckAnswers (of_values places earlier) limits t r) same h)
 
 -- the places aren't found, for want of memory
 pub none_checked : (limits : Limits) (t : Tree) (before after : List (List ℕ)) (fault : Fault) → FoundUnbuilt (document_expressions limits t) before after (Err fault)
@@ -239,14 +244,14 @@ module _ (missing : Schema → Leaf → Option Lack) (text : Schema → Plain �
       → ForItems t values texts texts (λ places. ConvertAnswers missing text too_deep places limits given t (Err fault))
   none_read limits given t values texts P fault judged =
       no_items limits t values texts (λ places. ConvertAnswers missing text too_deep places limits given t (Err fault))
-      (unread_answers missing text too_deep (record { values = values; items = [] }) limits given t P fault judged)
+      (λ earlier. unread_answers missing text too_deep (of_values values earlier) limits given t P fault judged)
 
   -- a rule was read of it, and converted
-  pub one_read : ((t : Tree) (r s : PlainRule) → IsRule t r → IsRule t s → r ≡ s) → (limits : Limits) (given : Option Schema) (t : Tree) (rest : List Member) (rule : PlainRule)
+  pub one_read : (limits : Limits) (given : Option Schema) (t : Tree) (rest : List Member) (rule : PlainRule)
       (values : List Place) (before after : List (List ℕ)) (r : Result (List ℕ) Fault) → (lone_refusal values limits t ≡ None) × IsRule t (rule_with rest rule)
       → Rebuilt (rule_expressions rule) before after (λ items. Judged (λ bytes. bytes ≡ query_of text given rule) (query_refusal missing text too_deep items limits given rule) r)
       → ForItems t values before after (λ places. ConvertAnswers missing text too_deep places limits given t r)
-  one_read one limits given t rest rule values before after r is h =
-      rebuilt_items one t rest rule values before after (λ items. Judged (λ bytes. bytes ≡ query_of text given rule) (query_refusal missing text too_deep items limits given rule) r)
+  one_read limits given t rest rule values before after r is h =
+      rebuilt_items t rest rule values before after (λ items. Judged (λ bytes. bytes ≡ query_of text given rule) (query_refusal missing text too_deep items limits given rule) r)
       (λ places. ConvertAnswers missing text too_deep places limits given t r) is.1
-      (λ items judged. bare_answers missing text too_deep (record { values = values; items = items }) limits given t rest rule r is judged) h
+      (λ earlier refused items judged. bare_answers missing text too_deep (record { values = values; refused_values = earlier; items = items; refused_items = refused }) limits given t rest rule r is judged) h

@@ -1,11 +1,11 @@
 //! Nodes of documents as rules, and rules as queries.
 
-ghost use Rattle.std.specs.Prelude.{◌≡◌, ◌∷◌, List, None, option_map};
+ghost use Rattle.std.specs.Prelude.{◌≡◌, ◌∷◌, List, ℕ, None, option_map};
 ghost use Rattle.backend_core.specs.Sound.{IsSound};
 ghost use Rattle.backend_core.specs.View.{tree_view};
 ghost use Rattle.backend_core.specs.Writing.{write_checks};
 ghost use Rattle.rule_building.specs.ForUnbuilt.{ForItems, ForUnbuilt, is_answered};
-ghost use Rattle.rule_building.specs.Unbuilt.{unbuilt_refusal};
+ghost use Rattle.rule_building.specs.Unbuilt.{of_values, unbuilt_refusal};
 ghost use Rattle.rule_model.specs.Expressions.{rule_expressions};
 ghost use Rattle.rule_schema.specs.Inferred.{fit_refusal};
 ghost use Rattle.rule_model.specs.Plain.{rule_view};
@@ -14,7 +14,6 @@ ghost use Rattle.rule_queries.specs.Queries.{query_of, query_under, query_refusa
 ghost use Rattle.rule_queries.specs.Rebuilt.{Rebuilt};
 ghost use Rattle.rule_queries.specs.Verdicts.{ConvertAnswers, CheckAnswers};
 ghost use Rattle.sig_base.specs.Judged.{Judged, first};
-ghost use Rattle.sig_base.specs.declared.refusal.Place.{Place as PlaceData};
 ghost use Rattle.yaml_tree.specs.View.{node_view};
 
 use backend_core::{Backend, Tree};
@@ -22,7 +21,7 @@ use event_schema::Schema;
 use languages::Builder;
 use rule_building::{build_items, find_unbuilt};
 use rule_lowering::lower;
-use rule_model::{Rule, one_rule};
+use rule_model::Rule;
 use rule_schema::{fit_indexed, fit_schema, infer_schema};
 use sig_base::{Bytes, Fault, Limits, Place};
 use std::alloc::Global;
@@ -167,7 +166,6 @@ fn convert_read<B: Backend, C: Builder>(
     ensures { ForItems (node_view node.now) unbuilt.now (C.refused builder.old) (C.refused builder.new)
         (λ places. ConvertAnswers B.missing B.text B.too_deep places limits.now (option_map (λ s. s.now) given.entry) (node_view node.now) result) }
 {
-    one_rule();
     match Rule::read_lone(alloc, limits, unbuilt, node) {
         Ok(rule) => convert_rule(backend, alloc, limits, &rule, given, builder),
         Err(fault) => Err(fault),
@@ -197,7 +195,7 @@ fn check_read(
     unbuilt: &[Place],
     node: &Node,
 ) -> Result<Place, Fault>
-    ensures { (items : List PlaceData) → CheckAnswers (record { values = unbuilt.now; items = items }) limits.now (node_view node.now) result }
+    ensures { (earlier : List (List ℕ)) → CheckAnswers (of_values unbuilt.now earlier) limits.now (node_view node.now) result }
 {
     let rule = Rule::read_bare(alloc, limits, unbuilt, node)?;
     Ok(rule.head.place)

@@ -26,12 +26,20 @@ module _ (limits : Limits) (all : List ℕ) where
     | inr small ↦ subst Q (take_all (limits.file_bytes + 1) all (omega (arith, small))) is
   ]
 
-  -- no documents are taken of what is too large, so nothing is said of their places
-  pub single_places_front : (refused : List (List ℕ)) (ended : Bool) (unbuilt : Unbuilt) → AreOfSingle limits front refused ended unbuilt → AreOfSingle limits all refused ended unbuilt
-  single_places_front refused ended unbuilt = moved (λ bytes. AreOfSingle limits bytes refused ended unbuilt) too_large
+  -- no documents are taken of what is too large, and its front is refused as a whole too
+  pub single_places_front : (ended : Bool) (unbuilt : Unbuilt) → AreOfSingle limits front ended unbuilt → AreOfSingle limits all ended unbuilt
+  single_places_front ended unbuilt = moved (λ bytes. AreOfSingle limits bytes ended unbuilt) too_large
     where
-      too_large : limits.file_bytes < length all → AreOfSingle limits front refused ended unbuilt → AreOfSingle limits all refused ended unbuilt
-      too_large large are documents taken top single = let small = taken.within in absurd (omega (arith, large, small))
+      refused_first : (p : ℕ × At) → IsCallRefusal limits.file_bytes limits.documents all p → limits.file_bytes < length all → IsCallRefusal limits.file_bytes limits.documents front p
+      refused_first p (inl (inl (_, is))) large = inl (inl (past large, is))
+      refused_first p (inl (inr (small, _, _, _))) large = absurd (omega (arith, large, small))
+      refused_first p (inr (small, _, _, _)) large = absurd (omega (arith, large, small))
+
+      too_large : limits.file_bytes < length all → AreOfSingle limits front ended unbuilt → AreOfSingle limits all ended unbuilt
+      too_large large are = record {
+        tree = λ documents taken. let small = taken.within in absurd (omega (arith, large, small));
+        whole = λ p is. are.whole p (refused_first p is large);
+      }
 
   single_front : (unbuilt : List Place) (rule : PlainRule) → IsSingleRule unbuilt limits front rule → IsSingleRule unbuilt limits all rule
   single_front unbuilt rule = moved (λ bytes. IsSingleRule unbuilt limits bytes rule) too_large

@@ -1,19 +1,18 @@
 -- That each file is run as exactly one rule, or isn't run for exactly one cause.
-use Rattle.std.proofs.Common.{◌≡◌, ℕ, Bool, true, false, List, [], ◌∷◌, ◌++◌, refl, ap, sym, ◌∙◌, subst, append-nil, Option, Some, None, Result, Ok, Err, inl, inr}
+use Rattle.std.proofs.Common.{◌≡◌, ℕ, Bool, true, false, List, [], ◌∷◌, refl, ap, sym, ◌∙◌, subst, append-nil, Option, Some, None, Result, Ok, Err, inl, inr}
 use Rattle.std.specs.Prelude.{◌⊎◌}
 use Rattle.event_schema.specs.declared.schema.Schema.{Schema}
-use Rattle.rule_building.proofs.Documents.{found_only, found_none}
 use Rattle.rule_building.specs.Building.{FoundUnbuilt}
-use Rattle.rule_building.specs.ForUnbuilt.{ForUnbuilt, is_answered}
-use Rattle.rule_building.specs.Unbuilt.{Unbuilt, AreUnbuilt, unbuilt_refusal}
+use Rattle.rule_building.specs.ForUnbuilt.{is_answered}
+use Rattle.rule_building.specs.Unbuilt.{Unbuilt, none_unbuilt, of_values, AreUnbuilt, unbuilt_refusal}
 use Rattle.rule_model.specs.Expressions.{document_expressions, rule_expressions}
 use Rattle.rule_model.specs.Plain.{PlainRule, rule_view, rule_with}
 use Rattle.rule_model.specs.Rules.{lone_refusal, IsLoneRule, IsRule}
 use Rattle.rule_model.specs.declared.rule.Rule.{Rule}
-use Rattle.rule_runs.specs.Answers.{Answers, ForDocuments, ForValues, IsBare}
+use Rattle.rule_runs.specs.Answers.{Answers, ForTree, ForDocuments, ForValues, IsBare}
 use Rattle.rule_runs.specs.Files.{yaml_refusal, single_tree}
 use Rattle.rule_runs.specs.Laws.{EachRun}
-use Rattle.rule_runs.specs.Runs.{AreDocuments, IsOnly, IsNoneOnly, no_tree, no_rule, IsSingleRule, IsNoSingleRule, as_one, by_document, IsFit, IsUnfit, no_single, unfit, IsRun, IsNotRun, no_fit, not_built, AreOfSingle}
+use Rattle.rule_runs.specs.Runs.{AreDocuments, IsOnly, IsNoneOnly, no_tree, no_rule, IsSingleRule, IsNoSingleRule, as_one, by_document, IsFit, IsUnfit, no_single, unfit, IsRun, IsNotRun, no_fit, not_built, AreOfTree, AreOfSingle}
 use Rattle.rule_schema.specs.Inferred.{unfit_refusal, schema_refusal, fit_refusal, inferred_schema}
 use Rattle.sig_base.specs.declared.limits.Limits.{Limits}
 use Rattle.sig_base.specs.Judged.{Judged, first}
@@ -280,17 +279,42 @@ fits_alone values limits bytes rule schema (rest, single) made fits = (
 
 -- ---- for places of values
 
+untrue : false ≡ true → ⊥
+untrue e = cc
+
+-- where the answer was cut off, there may be none
+pub none_are : (limits : Limits) (t : Tree) → AreUnbuilt limits t false none_unbuilt
+none_are limits t = record { values = tt; items = tt; ill = λ e. absurd (untrue e) }
+
+pub none_of_single : (limits : Limits) (bytes : List ℕ) → AreOfSingle limits bytes false none_unbuilt
+none_of_single limits bytes = record { tree = λ documents taken. by (single_tree documents); whole = λ p is. refl }
+  where
+    by : (r : Result Tree Refusal) → AreOfTree limits r false none_unbuilt
+    by (Ok t) = none_are limits t
+    by (Err r) = refl
+
+-- what came to its end may also have been cut off
+module _ (limits : Limits) (ended later : Bool) (so : later ≡ true → ended ≡ true) (unbuilt : Unbuilt) where
+  pub unbuilt_later : (t : Tree) → AreUnbuilt limits t ended unbuilt → AreUnbuilt limits t later unbuilt
+  unbuilt_later t are = record { values = are.values; items = are.items; ill = λ e. are.ill (so e) }
+
+  tree_later : (r : Result Tree Refusal) → AreOfTree limits r ended unbuilt → AreOfTree limits r later unbuilt
+  tree_later (Ok t) are = unbuilt_later t are
+  tree_later (Err r) none = none
+
+  pub single_later : (bytes : List ℕ) → AreOfSingle limits bytes ended unbuilt → AreOfSingle limits bytes later unbuilt
+  single_later bytes are = record { tree = λ documents taken. tree_later (single_tree documents) (are.tree documents taken); whole = are.whole }
+
 -- a document's places are those of the one tree
 pub of_documents : (limits : Limits) (documents : List Answer) (t : Tree) (rest : List Member) (before after : List (List ℕ)) (result : Result Rule Fault) → single_tree documents ≡ Ok t
-    → ForUnbuilt limits t before after (is_answered result) (λ unbuilt. Judged (λ r. IsRule t (rule_with rest (rule_view r))) (lone_refusal unbuilt.values limits t) result)
+    → ForTree limits t before after (is_answered result) (λ values. Judged (λ r. IsRule t (rule_with rest (rule_view r))) (lone_refusal values limits t) result)
     → ForDocuments limits documents before after (is_answered result) (λ values. Answers (IsBare (IsOnly values limits documents)) (IsNoneOnly values limits documents) result)
 of_documents limits documents t rest before after result single h = record {
-  values = h.unbuilt.values;
-  gained = h.gained;
+  values = h.values;
+  refused = h.refused;
   follows = h.follows;
-  are = λ top is. subst (λ (x : Tree). AreUnbuilt limits x h.gained (is_answered result) (record { values = h.unbuilt.values; items = [] })) (ok_is (single_tree documents) t top single is)
-      (record { values = h.are.values; items = λ rule is_rule. tt; ill = h.are.ill });
-  says = only_answers h.unbuilt.values limits documents t rest result single h.says;
+  are = subst (λ (r : Result Tree Refusal). AreOfTree limits r (is_answered result) (of_values h.values h.refused)) (sym single) h.are;
+  says = only_answers h.values limits documents t rest result single h.says;
 }
 
 -- there is no tree
@@ -298,41 +322,42 @@ pub of_no_tree : (limits : Limits) (documents : List Answer) (texts : List (List
     → ForDocuments limits documents texts texts true (λ values. Answers {X = Rule} (IsBare (IsOnly values limits documents)) (IsNoneOnly values limits documents) (Err (Refused r)))
 of_no_tree limits documents texts r none = record {
   values = [];
-  gained = [];
+  refused = [];
   follows = sym (append-nil texts);
-  are = λ top is. absurd (not_both (single_tree documents) top r is none);
+  are = subst (λ (x : Result Tree Refusal). AreOfTree limits x true none_unbuilt) (sym none) refl;
   says = no_tree none;
 }
 
-module _ (limits : Limits) (bytes : List ℕ) where
+module _ (limits : Limits) (bytes : List ℕ) (never : yaml.NeverBoth) where
   -- the documents of a file are these alone
   pub of_file : yaml.OneList → (documents : List Answer) (before after : List (List ℕ)) (result : Result Rule Fault) → AreDocuments limits bytes documents
       → ForDocuments limits documents before after (is_answered result) (λ values. Answers (IsBare (IsOnly values limits documents)) (IsNoneOnly values limits documents) result)
       → ForValues limits bytes before after (is_answered result) (λ values. Answers (IsBare (IsSingleRule values limits bytes)) (IsNoSingleRule values limits bytes) result)
   of_file list documents before after result taken h = record {
     values = h.values;
-    gained = h.gained;
+    refused = h.refused;
     follows = h.follows;
-    are = λ others others_taken top is.
-        h.are top (subst (λ (ds : List Answer). single_tree ds ≡ Ok top) (list limits.file_bytes limits.documents limits.yaml_depth bytes others documents others_taken taken) is);
+    are = record {
+      tree = λ others others_taken. subst (λ (ds : List Answer). AreOfTree limits (single_tree ds) (is_answered result) (of_values h.values h.refused))
+          (list limits.file_bytes limits.documents limits.yaml_depth bytes documents others taken others_taken) h.are;
+      whole = λ p is. absurd (never limits.file_bytes limits.documents limits.yaml_depth bytes documents p taken is);
+    };
     says = documents_answer h.values limits bytes documents result taken h.says;
   }
 
   -- a file that is refused as a whole has no documents
-  pub of_no_file : yaml.NeverBoth → (texts : List (List ℕ)) (fault : Fault) → IfRefused fault (IsCallRefusal limits.file_bytes limits.documents bytes)
+  pub of_no_file : (texts : List (List ℕ)) (fault : Fault) → IfRefused fault (IsCallRefusal limits.file_bytes limits.documents bytes)
       → ForValues limits bytes texts texts (is_answered {X = Rule} (Err fault)) (λ values. Answers {X = Rule} (IsBare (IsSingleRule values limits bytes)) (IsNoSingleRule values limits bytes) (Err fault))
-  of_no_file never texts Memory is = record {
+  of_no_file texts Memory is =
+      record { values = []; refused = []; follows = sym (append-nil texts); are = none_of_single limits bytes; says = tt }
+  of_no_file texts (Refused r) is = record {
     values = [];
-    gained = [];
+    refused = [];
     follows = sym (append-nil texts);
-    are = λ documents taken top single. record { values = tt; items = λ rule is_rule. tt; ill = λ e. absurd (cc) };
-    says = tt;
-  }
-  of_no_file never texts (Refused r) is = record {
-    values = [];
-    gained = [];
-    follows = sym (append-nil texts);
-    are = λ documents taken top single. absurd (never limits.file_bytes limits.documents limits.yaml_depth bytes documents _ taken is.1);
+    are = record {
+      tree = λ documents taken. absurd (never limits.file_bytes limits.documents limits.yaml_depth bytes documents _ taken is.1);
+      whole = λ p other. refl;
+    };
     says = file_answers [] limits bytes (Refused r) is;
   }
 
@@ -340,33 +365,46 @@ module _ (limits : Limits) (bytes : List ℕ) where
 pub node_read : (limits : Limits) (t : Tree) (rest : List Member) (values slice : List Place) (before after : List (List ℕ)) (result : Result Rule Fault)
     → FoundUnbuilt (document_expressions limits t) before after (Ok values) → slice ≡ values
     → Judged (λ r. IsRule t (rule_with rest (rule_view r))) (lone_refusal slice limits t) result
-    → ForUnbuilt limits t before after (is_answered result) (λ unbuilt. Judged (λ r. IsRule t (rule_with rest (rule_view r))) (lone_refusal unbuilt.values limits t) result)
-node_read limits t rest values slice before after result found same judged =
-    found_only limits t values before after (is_answered result) (λ unbuilt. Judged (λ r. IsRule t (rule_with rest (rule_view r))) (lone_refusal unbuilt.values limits t) result) found
-    (subst (λ (places : List Place). Judged (λ r. IsRule t (rule_with rest (rule_view r))) (lone_refusal places limits t) result) same judged)
+    → ForTree limits t before after (is_answered result) (λ values. Judged (λ r. IsRule t (rule_with rest (rule_view r))) (lone_refusal values limits t) result)
+node_read limits t rest values slice before after result found same judged = record {
+  values = values;
+  refused = found.refused;
+  follows = found.follows;
+  are = record { values = found.finds.0; items = tt; ill = λ _. found.finds.1 };
+  says = subst (λ (places : List Place). Judged (λ r. IsRule t (rule_with rest (rule_view r))) (lone_refusal places limits t) result) same judged;
+}
 
 -- they aren't found, for want of memory
 pub node_unread : (limits : Limits) (t : Tree) (rest : List Member) (before after : List (List ℕ)) (fault : Fault)
     → FoundUnbuilt (document_expressions limits t) before after (Err fault)
-    → ForUnbuilt limits t before after (is_answered {X = Rule} (Err fault)) (λ unbuilt. Judged {X = Rule} (λ r. IsRule t (rule_with rest (rule_view r))) (lone_refusal unbuilt.values limits t) (Err fault))
-node_unread limits t rest before after fault found =
-    found_none limits t {X = Rule} before after (λ unbuilt result. Judged (λ r. IsRule t (rule_with rest (rule_view r))) (lone_refusal unbuilt.values limits t) result) fault found (λ unbuilt. tt)
+    → ForTree limits t before after (is_answered {X = Rule} (Err fault)) (λ values. Judged {X = Rule} (λ r. IsRule t (rule_with rest (rule_view r))) (lone_refusal values limits t) (Err fault))
+node_unread limits t rest before after Memory found = record {
+  values = found.finds.1;
+  refused = found.refused;
+  follows = found.follows;
+  are = record { values = found.finds.2; items = tt; ill = λ e. absurd (untrue e) };
+  says = tt;
+}
+node_unread limits t rest before after (Refused r) found = absurd (not_memory r found.finds.0)
+  where
+    not_memory : (r : Refusal) → Refused r ≡ Memory → ⊥
+    not_memory r e = cc
 
 module _ (limits : Limits) (bytes : List ℕ) (before after : List (List ℕ)) where
   -- the documents as a slice
-  pub of_slice : yaml.OneList → (items slice : List Document) (result : Result Rule Fault) → slice ≡ items → AreDocuments limits bytes (answers_view items)
+  pub of_slice : yaml.NeverBoth → yaml.OneList → (items slice : List Document) (result : Result Rule Fault) → slice ≡ items → AreDocuments limits bytes (answers_view items)
       → ForDocuments limits (answers_view slice) before after (is_answered result)
       (λ values. Answers (IsBare (IsOnly values limits (answers_view slice))) (IsNoneOnly values limits (answers_view slice)) result)
       → ForValues limits bytes before after (is_answered result) (λ values. Answers (IsBare (IsSingleRule values limits bytes)) (IsNoSingleRule values limits bytes) result)
-  of_slice list items slice result same taken h =
-      of_file limits bytes list (answers_view items) before after result taken
+  of_slice never list items slice result same taken h =
+      of_file limits bytes never list (answers_view items) before after result taken
       (subst (λ (ds : List Document). ForDocuments limits (answers_view ds) before after (is_answered result)
       (λ values. Answers (IsBare (IsOnly values limits (answers_view ds))) (IsNoneOnly values limits (answers_view ds)) result)) same h)
 
   -- what is said for such places, of the same places
   with_values : (ended : Bool) (P Q : List Place → Type 0) → ((values : List Place) → P values → Q values)
       → ForValues limits bytes before after ended P → ForValues limits bytes before after ended Q
-  with_values ended P Q f h = record { values = h.values; gained = h.gained; follows = h.follows; are = h.are; says = f h.values h.says }
+  with_values ended P Q f h = record { values = h.values; refused = h.refused; follows = h.follows; are = h.are; says = f h.values h.says }
 
   -- no rule was read, so there is none that fits
   pub unfit_single : {X Y : Type 0} (given : Option Schema) (IsX : List Place → X → Type 0) (IsY : List Place → Y → Type 0) (fault : Fault)
@@ -391,9 +429,9 @@ module _ (limits : Limits) (bytes : List ℕ) (before after : List (List ℕ)) w
     unended : (P : List Place → Type 0) → ((values : List Place) → P values) → ForValues limits bytes before after false P
     unended P all = record {
       values = read.values;
-      gained = read.gained;
+      refused = read.refused;
       follows = read.follows;
-      are = λ documents taken top single. let are = read.are documents taken top single in record { values = are.values; items = are.items; ill = λ e. absurd (cc) };
+      are = single_later limits true false (λ e. absurd (untrue e)) (of_values read.values read.refused) bytes read.are;
       says = all read.values;
     }
 

@@ -1,5 +1,5 @@
 -- What reading a file as the rule that is run answers.
-use Rattle.std.specs.Prelude.{◌≡◌, ⊤, ℕ, Bool, List, [], ◌++◌, Result, Ok, Err}
+use Rattle.std.specs.Prelude.{◌≡◌, ⊤, ℕ, Bool, List, ◌++◌, Result, Ok, Err}
 use Rattle.rule_model.specs.Plain.{PlainRule, rule_view, rule_with}
 use Rattle.rule_model.specs.declared.rule.Rule.{Rule}
 use Rattle.sig_base.specs.declared.limits.Limits.{Limits}
@@ -8,9 +8,9 @@ use Rattle.sig_base.specs.declared.refusal.Fault.TheVariants.{Memory, Refused}
 use Rattle.sig_base.specs.declared.refusal.Place.{Place}
 use Rattle.sig_base.specs.declared.refusal.Refusal.{Refusal}
 use Rattle.yaml_tree.specs.Tree.{Tree, Answer, Member}
-use Rattle.rule_building.specs.Unbuilt.{AreUnbuilt}
+use Rattle.rule_building.specs.Unbuilt.{Unbuilt, of_values, AreUnbuilt}
 use Rattle.rule_runs.specs.Files.{single_tree}
-use Rattle.rule_runs.specs.Runs.{AreOfSingle}
+use Rattle.rule_runs.specs.Runs.{AreOfTree, AreOfSingle}
 
 -- a rule that is read without the other entries of its head, which decide nothing of what it matches
 abbrev pub IsBare : (PlainRule → Type 0) → Rule → Type 0
@@ -22,19 +22,21 @@ Answers IsRead IsCause (Ok x) = IsRead x
 Answers IsRead IsCause (Err (Refused r)) = IsCause r
 Answers IsRead IsCause (Err Memory) = ⊤
 
--- For some places of values at which regular expressions of the one tree of these documents aren't built it's so. The builder had refused
--- the texts `before`, and then has refused the texts `after`; the places are those of what it refused meanwhile.
-pub record ForDocuments (limits : Limits) (documents : List Answer) (before after : List (List ℕ)) (ended : Bool) (Says : List Place → Type 0) : Type 0 where
+-- For some places of values at which regular expressions aren't built it's so; `Are` says what they are. The builder had refused the texts
+-- `before`, and then has refused the texts `after`: behind the former those at these places, and nothing else.
+pub record ForPlaces (Are : Unbuilt → Type 0) (before after : List (List ℕ)) (Says : List Place → Type 0) : Type 0 where
   pub values : List Place
-  pub gained : List (List ℕ)
-  pub follows : after ≡ before ++ gained
-  pub are : (top : Tree) → single_tree documents ≡ Ok top → AreUnbuilt limits top gained ended (record { values = values; items = [] })
+  pub refused : List (List ℕ)
+  pub follows : after ≡ before ++ refused
+  pub are : Are (of_values values refused)
   pub says : Says values
 
--- the same of the documents of a file
-pub record ForValues (limits : Limits) (bytes : List ℕ) (before after : List (List ℕ)) (ended : Bool) (Says : List Place → Type 0) : Type 0 where
-  pub values : List Place
-  pub gained : List (List ℕ)
-  pub follows : after ≡ before ++ gained
-  pub are : AreOfSingle limits bytes gained ended (record { values = values; items = [] })
-  pub says : Says values
+-- said of a tree, of the one tree of some documents, and of that of a file
+abbrev pub ForTree : Limits → Tree → List (List ℕ) → List (List ℕ) → Bool → (List Place → Type 0) → Type 0
+ForTree limits t before after ended = ForPlaces (AreUnbuilt limits t ended) before after
+
+abbrev pub ForDocuments : Limits → List Answer → List (List ℕ) → List (List ℕ) → Bool → (List Place → Type 0) → Type 0
+ForDocuments limits documents before after ended = ForPlaces (AreOfTree limits (single_tree documents) ended) before after
+
+abbrev pub ForValues : Limits → List ℕ → List (List ℕ) → List (List ℕ) → Bool → (List Place → Type 0) → Type 0
+ForValues limits bytes before after ended = ForPlaces (AreOfSingle limits bytes ended) before after

@@ -1,9 +1,9 @@
 -- The rule that a file is run as, where its regular expressions aren't built at some places, or the first cause for which it's run as
 -- none.
-use Rattle.std.specs.Prelude.{◌≡◌, ℕ, Bool, List, None, Some, Ok, Err}
+use Rattle.std.specs.Prelude.{◌≡◌, ℕ, Bool, List, None, Some, Result, Ok, Err}
 use Rattle.std.specs.declared.option.Option.{Option}
 use Rattle.event_schema.specs.declared.schema.Schema.{Schema}
-use Rattle.rule_building.specs.Unbuilt.{Unbuilt, AreUnbuilt, unbuilt_refusal}
+use Rattle.rule_building.specs.Unbuilt.{Unbuilt, none_unbuilt, AreUnbuilt, unbuilt_refusal}
 use Rattle.rule_model.specs.Expressions.{rule_expressions}
 use Rattle.rule_model.specs.Plain.{PlainRule}
 use Rattle.rule_model.specs.Rules.{lone_refusal, IsLoneRule}
@@ -64,7 +64,12 @@ pub data IsNotRun (unbuilt : Unbuilt) (limits : Limits) (given : Option Schema) 
   not_built : (rule : PlainRule) → IsFit unbuilt.values limits given bytes rule → unbuilt_refusal unbuilt.items (rule_expressions rule) ≡ Some r
       → IsNotRun unbuilt limits given bytes r
 
--- What these places are, where the builder refused these texts in a run: places of the file's one document, as `AreUnbuilt` says.
-abbrev pub AreOfSingle : Limits → List ℕ → List (List ℕ) → Bool → Unbuilt → Type 0
-AreOfSingle limits bytes refused ended unbuilt =
-    (documents : List Answer) → AreDocuments limits bytes documents → (top : Tree) → single_tree documents ≡ Ok top → AreUnbuilt limits top refused ended unbuilt
+-- what these places are, of the one tree that there is; where there isn't exactly one, there are none
+abbrev pub AreOfTree : Limits → Result Tree Refusal → Bool → Unbuilt → Type 0
+AreOfTree limits (Ok top) ended unbuilt = AreUnbuilt limits top ended unbuilt
+AreOfTree limits (Err r) ended unbuilt = unbuilt ≡ none_unbuilt
+
+-- What they are, of the one tree of a file; where the file is refused as a whole, there are none.
+pub record AreOfSingle (limits : Limits) (bytes : List ℕ) (ended : Bool) (unbuilt : Unbuilt) : Type 0 where
+  pub tree : (documents : List Answer) → AreDocuments limits bytes documents → AreOfTree limits (single_tree documents) ended unbuilt
+  pub whole : (p : ℕ × At) → IsCallRefusal limits.file_bytes limits.documents bytes p → unbuilt ≡ none_unbuilt

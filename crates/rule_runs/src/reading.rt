@@ -1,11 +1,11 @@
 //! Reading the one rule of a file.
 
 ghost use Rattle.std.specs.List.{All};
-ghost use Rattle.rule_building.specs.ForUnbuilt.{ForUnbuilt, is_answered};
+ghost use Rattle.rule_building.specs.ForUnbuilt.{is_answered};
 ghost use Rattle.rule_head.specs.Heads.{rest_of};
 ghost use Rattle.rule_model.specs.Plain.{rule_view, rule_with};
 ghost use Rattle.rule_model.specs.Rules.{IsRule, lone_refusal};
-ghost use Rattle.rule_runs.specs.Answers.{Answers, ForDocuments, ForValues, IsBare};
+ghost use Rattle.rule_runs.specs.Answers.{Answers, ForTree, ForDocuments, ForValues, IsBare};
 ghost use Rattle.rule_runs.specs.Runs.{IsOnly, IsNoneOnly, IsSingleRule, IsNoSingleRule};
 ghost use Rattle.sig_base.specs.Judged.{Judged};
 ghost use Rattle.yaml_documents.specs.Given.{IsPlain, answers_view};
@@ -27,8 +27,8 @@ fn read_node<B: Builder>(
     node: &Node,
     builder: &mut B,
 ) -> Result<Rule, Fault>
-    ensures { ForUnbuilt limits.now (node_view node.now) (B.refused builder.old) (B.refused builder.new) (is_answered result)
-        (λ unbuilt. Judged (λ r. IsRule (node_view node.now) (rule_with (rest_of (node_view node.now)) (rule_view r))) (lone_refusal unbuilt.values limits.now (node_view node.now)) result) }
+    ensures { ForTree limits.now (node_view node.now) (B.refused builder.old) (B.refused builder.new) (is_answered result)
+        (λ values. Judged (λ r. IsRule (node_view node.now) (rule_with (rest_of (node_view node.now)) (rule_view r))) (lone_refusal values limits.now (node_view node.now)) result) }
 {
     match find_unbuilt(alloc, limits, node, builder) {
         Ok(unbuilt) => Rule::read_lone(alloc, limits, unbuilt.as_slice(), node),

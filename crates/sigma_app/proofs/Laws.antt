@@ -1,5 +1,5 @@
 -- The laws of the answers.
-use Rattle.std.proofs.Common.{◌≡◌, ℕ, false, List, [], ◌∷◌, ap, sym, ◌∙◌, subst, append-nil, Option, None, Some, Result, Ok, Err}
+use Rattle.std.proofs.Common.{◌≡◌, ℕ, false, List, [], ◌∷◌, refl, ap, sym, ◌∙◌, subst, append-nil, Option, None, Some, Result, Ok, Err}
 use Rattle.std.specs.Prelude.{IfSome}
 use Rattle.std.specs.List.{AllByRecursion}
 use Rattle.answer_parts.proofs.Rows.{each_parts, parts_one}
@@ -17,11 +17,9 @@ use Rattle.rule_runs.specs.Files.{file_start}
 use Rattle.sig_base.specs.Judged.{refusal as refused_at}
 use Rattle.sig_base.specs.declared.limits.Limits.{Limits}
 use Rattle.sigma_app.proofs.Documented.{each_document_at, each_file_at, one_document_at, one_file_at}
-use Rattle.sigma_app.proofs.Filed.{each_part, one_part}
-use Rattle.sigma_app.proofs.Grown.{grown_nothing, parts_as}
+use Rattle.sigma_app.proofs.Filed.{each_part, files_left, files_placed, one_part, parts_as}
 use Rattle.sigma_app.proofs.Judged.{each_checks, each_converts, one_checks, one_converts}
-use Rattle.sigma_app.proofs.Lifted.{nowhere, convert_places, run_places, query_places}
-use Rattle.sigma_app.proofs.Placed.{none_of_files}
+use Rattle.sigma_app.proofs.Lifted.{in_documents, convert_places, run_places, query_places}
 use Rattle.sigma_app.proofs.Ran.{each_ran_cut}
 use Rattle.sigma_app.proofs.Schemed.{each_schema}
 use Rattle.sigma_app.specs.Check.{CheckGives}
@@ -31,7 +29,7 @@ use Rattle.sigma_app.specs.Languages.{AskedBy, AskedAt}
 use Rattle.sigma_app.specs.Laws.{EachDocument, EachFile, EachUnder, EachAnswer, EachConverted, EachQueried, EachRan, OneDocument, OneFile, OneQueried, OneUnder, OneAnswer, OfBoth, EachRule, OneRule, EachLone, OneLone, QueriesMean, AnswersMean}
 use Rattle.sigma_app.specs.Ran.{RanUnder, RanBySome}
 use Rattle.sigma_app.specs.Reports.{refusal_share}
-use Rattle.sigma_app.specs.RuleFiles.{Grown, DocumentGives, as_one_at, by_document_at, RuleFileAt, contents, paired}
+use Rattle.sigma_app.specs.RuleFiles.{DocumentGives, as_one_at, by_document_at, RuleFileAt, contents, paired}
 use Rattle.sigma_app.specs.UnderSchema.{BySchema, UnderSchema, without, under, refused, file_part}
 use Rattle.sigma_app.specs.declared.request.Request.TheVariants.{Check, Convert, Run, Query}
 use Rattle.yaml_bounds.specs.Laws.{TextsAreScalars}
@@ -55,27 +53,25 @@ pub each_converted : OfBoth EachFile → EachConverted
 each_converted file backend limits unbuilt rules given world =
     each_parts (RuleFileAt (ConvertGives backend limits given) limits) (each_part (ConvertGives backend limits given) limits ((file limits).1 backend given)) (paired [] unbuilt rules) world
 
--- whatever the builder refused, there is an answer that is cut off
-pub each_converted_cut : EachConverted → (backend : BackendName) (limits : Limits) (rules before after : List (List ℕ)) → Grown before after
-    → EachUnder (RulesBySome (ConvertGives backend limits) limits rules before after false)
-each_converted_cut each backend limits rules before after (gained, follows) given world =
-    let all = each backend limits [] rules given world in
-    (all.0, record { unbuilt = []; gained = gained; follows = follows; are = none_of_files limits gained world rules; each = all.1 })
+-- there is an answer that is cut off before anything is built
+pub each_converted_cut : OfBoth EachFile → (backend : BackendName) (limits : Limits) (rules texts : List (List ℕ)) → EachUnder (RulesBySome (ConvertGives backend limits) limits rules texts texts false)
+each_converted_cut file backend limits rules texts given world = files_left (ConvertGives backend limits given) limits ((file limits).1 backend given) texts rules world
 
 pub each_answer : EachRule → EachLone → yaml.EachVerdict → EachRan → EachQueried → EachAnswer
 each_answer rule lone file ran queried limits built (Check rules) world =
-    let all = each_parts (RuleFileAt (CheckGives limits) limits) (each_part (CheckGives limits) limits (both_files rule lone file limits).0) (paired [] [] rules) world in
-    (all.0, (nowhere, ([], sym (append-nil built), none_of_files limits [] world rules), all.1))
+    let all = files_left (CheckGives limits) limits (both_files rule lone file limits).0 built rules world in
+    let placed = files_placed (CheckGives limits) limits built built false rules world all.0 all.1 in
+    (all.0, (in_documents placed.0, placed.1, placed.2))
 each_answer rule lone file ran queried limits built (Convert backend schema rules) world =
     let a = each_schema (RulesBySome (ConvertGives backend limits) limits rules built built false) limits
-    (each_converted_cut (each_converted (both_files rule lone file)) backend limits rules built built (grown_nothing built)) schema world in
-    (a.0, convert_places limits built built false schema backend rules world a.0 a.1)
+    (each_converted_cut (both_files rule lone file) backend limits rules built) schema world in
+    (a.0, convert_places limits built built false schema backend rules world a.0 (λ _. refl) a.1)
 each_answer rule lone file ran queried limits built (Run schema rule_file) world =
-    let a = each_schema (RanBySome limits rule_file built built false) limits (each_ran_cut ran limits rule_file built built (grown_nothing built)) schema world in
-    (a.0, run_places limits built built false schema rule_file world a.0 a.1)
+    let a = each_schema (RanBySome limits rule_file built built false) limits (each_ran_cut ran limits rule_file built) schema world in
+    (a.0, run_places limits built built false schema rule_file world a.0 (λ _. refl) a.1)
 each_answer rule lone file ran queried limits built (Query backend schema query) world =
     let a = each_schema (AskedBy backend limits query built built false) limits (queried backend limits query built built [] (sym (append-nil built))) (Some schema) world in
-    (a.0, query_places backend limits schema query built built false world a.0 a.1)
+    (a.0, query_places backend limits schema query built built false world a.0 (λ _. refl) a.1)
 
 pub one_documents : OneRule → OneLone → OfBoth OneDocument
 one_documents rule lone limits = (

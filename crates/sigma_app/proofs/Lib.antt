@@ -1,7 +1,6 @@
 pub mod Documented
 pub mod Filed
 pub mod Fronts
-pub mod Grown
 pub mod Judged
 pub mod Laws
 pub mod Lifted
@@ -14,4 +13,5 @@ pub mod Running
 pub mod SameLines
 pub mod Schemed
 pub mod Selected
+pub mod Trees
 pub mod Wording

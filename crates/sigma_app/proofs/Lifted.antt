@@ -1,7 +1,6 @@
 -- The places of a request: what is answered under a schema for some places is the answer to the request for these.
 use Rattle.std.proofs.Common.{◌≡◌, ℕ, Bool, true, false, List, [], sym, ◌∙◌, subst, Option, Some, None, Result, Ok, Err}
 use Rattle.answer_parts.proofs.Ending.{ends_as}
-use Rattle.answer_parts.specs.Each.{EachPart}
 use Rattle.answer_parts.specs.Input.{World, Needs}
 use Rattle.answer_parts.specs.Parts.{Part}
 use Rattle.answer_parts.specs.Stands.{Ends}
@@ -11,22 +10,22 @@ use Rattle.event_reading.specs.SchemaOf.{schema_of}
 use Rattle.event_schema.specs.declared.schema.Schema.{Schema}
 use Rattle.rule_building.specs.Unbuilt.{Unbuilt, none_unbuilt}
 use Rattle.rule_queries.specs.declared.backend_name.BackendName.{BackendName}
-use Rattle.rule_runs.specs.Runs.{AreOfSingle}
+use Rattle.rule_runs.proofs.Runs.{single_later}
 use Rattle.sig_base.specs.declared.limits.Limits.{Limits}
-use Rattle.sigma_app.proofs.Grown.{cut, unbuilt_later}
-use Rattle.sigma_app.proofs.Placed.{files_placed, files_later}
+use Rattle.sigma_app.proofs.Filed.{files_placed}
+use Rattle.sigma_app.proofs.Placed.{files_later}
+use Rattle.sigma_app.proofs.Trees.{cut}
 use Rattle.sigma_app.specs.Answers.{Places, IsSchemed, AreChecked, AreRun, ArePlaces, Answers}
 use Rattle.sigma_app.specs.Check.{CheckGives}
 use Rattle.sigma_app.specs.Convert.{ConvertGives}
 use Rattle.sigma_app.specs.Converted.{RulesBySome}
-use Rattle.sigma_app.specs.Languages.{AskedBy, AreUnbuilt}
+use Rattle.sigma_app.specs.Languages.{AskedBy, AreOfQuery}
 use Rattle.sigma_app.specs.Ran.{RanBySome}
-use Rattle.sigma_app.specs.RuleFiles.{ByUnbuilt, Grown, BySome, RuleFile, contents, paired}
-use Rattle.sigma_app.specs.UnderSchema.{UnderSchema, without, under, refused}
+use Rattle.sigma_app.specs.RuleFiles.{FilesBySome, contents}
+use Rattle.sigma_app.specs.UnderSchema.{UnderSchema, without, under, refused, IsUnschemed, UnderBuilder}
 use Rattle.sigma_app.specs.declared.request.Request.{Request}
 use Rattle.sigma_app.specs.declared.request.Request.TheVariants.{Check, Convert, Run, Query}
 use Rattle.text_places.specs.Places.{CodeAt}
-use Rattle.yaml_documents.specs.Verdicts as yaml
 
 -- ---- places of one kind
 
@@ -44,23 +43,11 @@ in_query query = record { documents = []; rule = none_unbuilt; query = query }
 
 -- ---- rule files that are checked
 
-pub check_answers : yaml.NeverBoth → yaml.OneList → (limits : Limits) (rules : List (List ℕ)) (before after : List (List ℕ)) → Grown before after → (ended : Bool) (needs : Needs) (result : Result Bool Stop) (old new : State)
-    → Ends needs (EachPart (RuleFile (BySome (CheckGives limits) limits before after ended) limits) rules) result old new → Ends needs (Answers limits before after ended (Check rules)) result old new
-check_answers never list limits rules before after (gained, follows) ended needs result old new e =
-    ends_as needs (EachPart (RuleFile (BySome (CheckGives limits) limits before after ended) limits) rules) (Answers limits before after ended (Check rules)) result old new
-    (λ w ps each.
-    let placed = files_placed (CheckGives limits) limits before after gained follows ended never list rules w ps each in
-    (in_documents placed.0, (gained, follows, placed.1), placed.2)) e
-
--- rule files that are converted, under the given schema or else the one that is made of each rule
-pub rules_by_some : yaml.NeverBoth → yaml.OneList → (by : Option Schema → ByUnbuilt) (limits : Limits) (rules : List (List ℕ)) (before after : List (List ℕ)) → Grown before after → (ended : Bool) (given : Option Schema)
-    (needs : Needs) (result : Result Bool Stop) (old new : State) → Ends needs (EachPart (RuleFile (BySome (by given) limits before after ended) limits) rules) result old new
-    → Ends needs (RulesBySome by limits rules before after ended given) result old new
-rules_by_some never list by limits rules before after (gained, follows) ended given needs result old new e =
-    ends_as needs (EachPart (RuleFile (BySome (by given) limits before after ended) limits) rules) (RulesBySome by limits rules before after ended given) result old new
-    (λ w ps each.
-    let placed = files_placed (by given) limits before after gained follows ended never list rules w ps each in
-    record { unbuilt = placed.0; gained = gained; follows = follows; are = placed.1; each = placed.2 }) e
+pub check_answers : (limits : Limits) (rules : List (List ℕ)) (before after : List (List ℕ)) (ended : Bool) (needs : Needs) (result : Result Bool Stop) (old new : State)
+    → Ends needs (FilesBySome (CheckGives limits) limits before after ended rules) result old new → Ends needs (Answers limits before after ended (Check rules)) result old new
+check_answers limits rules before after ended needs result old new e =
+    ends_as needs (FilesBySome (CheckGives limits) limits before after ended rules) (Answers limits before after ended (Check rules)) result old new
+    (λ w ps some. let placed = files_placed (CheckGives limits) limits before after ended rules w ps some in (in_documents placed.0, placed.1, placed.2)) e
 
 -- ---- a schema's file
 
@@ -94,58 +81,67 @@ not_schemed limits schema file world code is so schemed =
 -- ---- rule files that are converted, and one that is run
 
 module _ (limits : Limits) (before after : List (List ℕ)) (ended : Bool) (schema : Option (List ℕ)) where
-  pub convert_places : (backend : BackendName) (rules : List (List ℕ)) (world : World) (parts : List Part)
+  pub convert_places : (backend : BackendName) (rules : List (List ℕ)) (world : World) (parts : List Part) → (IsUnschemed limits schema world → after ≡ before)
       → UnderSchema (RulesBySome (ConvertGives backend limits) limits rules before after ended) limits schema world parts → Answers limits before after ended (Convert backend schema rules) world parts
-  convert_places backend rules world parts (without is some) = (in_documents some.unbuilt, (λ _. (some.gained, some.follows, some.are)), without is some.each)
-  convert_places backend rules world parts (under file is given so others some same) =
-      (in_documents some.unbuilt, (λ _. (some.gained, some.follows, some.are)), under file is given so others some.each same)
-  convert_places backend rules world parts (refused file is code so same) =
-      (nowhere, (λ schemed. absurd (not_schemed limits schema file world code is so schemed)), refused file is code so same)
+  convert_places backend rules world parts still (without is some) =
+      let placed = files_placed (ConvertGives backend limits None) limits before after ended rules world parts some in (in_documents placed.0, ((λ _. placed.1), still), without is placed.2)
+  convert_places backend rules world parts still (under file is given so others some same) =
+      let placed = files_placed (ConvertGives backend limits (Some given)) limits before after ended rules world others some in
+      (in_documents placed.0, ((λ _. placed.1), still), under file is given so others placed.2 same)
+  convert_places backend rules world parts still (refused file is code so same) =
+      (nowhere, ((λ schemed. absurd (not_schemed limits schema file world code is so schemed)), still), refused file is code so same)
 
-  pub run_places : (rule : List ℕ) (world : World) (parts : List Part)
+  pub run_places : (rule : List ℕ) (world : World) (parts : List Part) → (IsUnschemed limits schema world → after ≡ before)
       → UnderSchema (RanBySome limits rule before after ended) limits schema world parts → Answers limits before after ended (Run schema rule) world parts
-  run_places rule world parts (without is some) = (in_rule some.unbuilt, (λ _. (some.gained, some.follows, some.are)), without is some.ran)
-  run_places rule world parts (under file is given so others some same) =
-      (in_rule some.unbuilt, (λ _. (some.gained, some.follows, some.are)), under file is given so others some.ran same)
-  run_places rule world parts (refused file is code so same) =
-      (nowhere, (λ schemed. absurd (not_schemed limits schema file world code is so schemed)), refused file is code so same)
+  run_places rule world parts still (without is some) = (in_rule some.unbuilt, ((λ _. (some.follows, some.are)), still), without is some.ran)
+  run_places rule world parts still (under file is given so others some same) =
+      (in_rule some.unbuilt, ((λ _. (some.follows, some.are)), still), under file is given so others some.ran same)
+  run_places rule world parts still (refused file is code so same) =
+      (nowhere, ((λ schemed. absurd (not_schemed limits schema file world code is so schemed)), still), refused file is code so same)
 
   module _ (needs : Needs) (result : Result Bool Stop) (old new : State) where
-    pub convert_answers : (backend : BackendName) (rules : List (List ℕ)) → Ends needs (UnderSchema (RulesBySome (ConvertGives backend limits) limits rules before after ended) limits schema) result old new
+    pub convert_answers : (backend : BackendName) (rules : List (List ℕ)) → Ends needs (UnderBuilder (RulesBySome (ConvertGives backend limits) limits rules) limits schema before after ended) result old new
         → Ends needs (Answers limits before after ended (Convert backend schema rules)) result old new
     convert_answers backend rules e =
-        ends_as needs (UnderSchema (RulesBySome (ConvertGives backend limits) limits rules before after ended) limits schema) (Answers limits before after ended (Convert backend schema rules)) result old new
-        (convert_places backend rules) e
+        ends_as needs (UnderBuilder (RulesBySome (ConvertGives backend limits) limits rules) limits schema before after ended) (Answers limits before after ended (Convert backend schema rules)) result old new
+        (λ w ps u. convert_places backend rules w ps u.still u.answer) e
 
-    pub run_answers : (rule : List ℕ) → Ends needs (UnderSchema (RanBySome limits rule before after ended) limits schema) result old new
+    pub run_answers : (rule : List ℕ) → Ends needs (UnderBuilder (RanBySome limits rule) limits schema before after ended) result old new
         → Ends needs (Answers limits before after ended (Run schema rule)) result old new
     run_answers rule e =
-        ends_as needs (UnderSchema (RanBySome limits rule before after ended) limits schema) (Answers limits before after ended (Run schema rule)) result old new (run_places rule) e
+        ends_as needs (UnderBuilder (RanBySome limits rule) limits schema before after ended) (Answers limits before after ended (Run schema rule)) result old new
+        (λ w ps u. run_places rule w ps u.still u.answer) e
 
 -- ---- the query that is asked, under a schema
 
 pub query_places : (backend : BackendName) (limits : Limits) (schema file : List ℕ) (before after : List (List ℕ)) (ended : Bool) (world : World) (parts : List Part)
-    → UnderSchema (AskedBy backend limits file before after ended) limits (Some schema) world parts → Answers limits before after ended (Query backend schema file) world parts
-query_places backend limits schema file before after ended world parts (without is other) = absurd (none_some schema file is)
-query_places backend limits schema file before after ended world parts (under name is given so others other same) = (
+    → (IsUnschemed limits (Some schema) world → after ≡ before) → UnderSchema (AskedBy backend limits file before after ended) limits (Some schema) world parts → Answers limits before after ended (Query backend schema file) world parts
+query_places backend limits schema file before after ended world parts still (without is other) = absurd (none_some schema file is)
+query_places backend limits schema file before after ended world parts still (under name is given so others other same) = (
   in_query other.0,
-  (λ given_too so_too. subst (λ (g : Schema). AreUnbuilt backend limits file before after ended g world other.0)
-      (ok_is (schema_of limits (contents world.files name)) given given_too so (subst (λ (n : List ℕ). schema_of limits (contents world.files n) ≡ Ok given_too) (sym (some_is schema name is)) so_too)) other.1),
+  (
+    (λ given_too so_too. subst (λ (g : Schema). AreOfQuery backend limits file before after ended g world other.0)
+        (ok_is (schema_of limits (contents world.files name)) given given_too so (subst (λ (n : List ℕ). schema_of limits (contents world.files n) ≡ Ok given_too) (sym (some_is schema name is)) so_too)) other.1),
+    still,
+  ),
   under name is given so others other.2 same,
 )
-query_places backend limits schema file before after ended world parts (refused name is code so same) = (
+query_places backend limits schema file before after ended world parts still (refused name is code so same) = (
   nowhere,
-  (λ given so_too. absurd (not_both (schema_of limits (contents world.files name)) given code
-      (subst (λ (n : List ℕ). schema_of limits (contents world.files n) ≡ Ok given) (sym (some_is schema name is)) so_too) so)),
+  (
+    (λ given so_too. absurd (not_both (schema_of limits (contents world.files name)) given code
+        (subst (λ (n : List ℕ). schema_of limits (contents world.files n) ≡ Ok given) (sym (some_is schema name is)) so_too) so)),
+    still,
+  ),
   refused name is code so same,
 )
 
 pub query_answers : (backend : BackendName) (limits : Limits) (schema file : List ℕ) (before after : List (List ℕ)) (ended : Bool) (needs : Needs) (result : Result Bool Stop) (old new : State)
-    → Ends needs (UnderSchema (AskedBy backend limits file before after ended) limits (Some schema)) result old new
+    → Ends needs (UnderBuilder (AskedBy backend limits file) limits (Some schema) before after ended) result old new
     → Ends needs (Answers limits before after ended (Query backend schema file)) result old new
 query_answers backend limits schema file before after ended needs result old new e =
-    ends_as needs (UnderSchema (AskedBy backend limits file before after ended) limits (Some schema)) (Answers limits before after ended (Query backend schema file)) result old new
-    (λ w ps is. query_places backend limits schema file before after ended w ps is) e
+    ends_as needs (UnderBuilder (AskedBy backend limits file) limits (Some schema) before after ended) (Answers limits before after ended (Query backend schema file)) result old new
+    (λ w ps u. query_places backend limits schema file before after ended w ps u.still u.answer) e
 
 -- ---- an answer that came to its end is one that may have been cut off
 
@@ -154,24 +150,19 @@ not_ended h = cc
 
 checked_cut : (limits : Limits) (before after : List (List ℕ)) (ended : Bool) (rules : List (List ℕ)) (world : World) (places : Places)
     → AreChecked limits before after ended rules world places → AreChecked limits before after false rules world places
-checked_cut limits before after ended rules world places (gained, follows, are) = (gained, follows, files_later limits gained ended false cut world (paired [] places.documents rules) are)
-
-pub single_later : (limits : Limits) (bytes : List ℕ) (gained : List (List ℕ)) (ended later : Bool) → (later ≡ true → ended ≡ true) → (unbuilt : Unbuilt)
-    → AreOfSingle limits bytes gained ended unbuilt → AreOfSingle limits bytes gained later unbuilt
-single_later limits bytes gained ended later so unbuilt are = λ documents taken top single. unbuilt_later limits top gained ended later so unbuilt (are documents taken top single)
+checked_cut limits before after ended rules world places are = (are.0, files_later limits ended false cut world places.documents rules are.1)
 
 run_cut : (limits : Limits) (before after : List (List ℕ)) (ended : Bool) (rule : List ℕ) (world : World) (places : Places)
     → AreRun limits before after ended rule world places → AreRun limits before after false rule world places
-run_cut limits before after ended rule world places (gained, follows, are) =
-    (gained, follows, single_later limits (contents world.files rule) gained ended false cut places.rule are)
+run_cut limits before after ended rule world places are = (are.0, single_later limits ended false cut places.rule (contents world.files rule) are.1)
 
 query_cut : (backend : BackendName) (limits : Limits) (file : List ℕ) (before after : List (List ℕ)) (ended : Bool) (given : Schema) (world : World) (places : List CodeAt)
-    → AreUnbuilt backend limits file before after ended given world places → AreUnbuilt backend limits file before after false given world places
+    → AreOfQuery backend limits file before after ended given world places → AreOfQuery backend limits file before after false given world places
 query_cut backend limits file before after ended given world places b = record { gained = b.gained; follows = b.follows; are = b.are; told = λ is. absurd (not_ended is) }
 
 pub places_cut : (limits : Limits) (before after : List (List ℕ)) (ended : Bool) (request : Request) (world : World) (places : Places)
     → ArePlaces limits before after ended request world places → ArePlaces limits before after false request world places
 places_cut limits before after ended (Check rules) world places are = checked_cut limits before after ended rules world places are
-places_cut limits before after ended (Convert backend schema rules) world places are = λ schemed. checked_cut limits before after ended rules world places (are schemed)
-places_cut limits before after ended (Run schema rule) world places are = λ schemed. run_cut limits before after ended rule world places (are schemed)
-places_cut limits before after ended (Query backend schema query) world places are = λ given so. query_cut backend limits query before after ended given world places.query (are given so)
+places_cut limits before after ended (Convert backend schema rules) world places are = ((λ schemed. checked_cut limits before after ended rules world places (are.0 schemed)), are.1)
+places_cut limits before after ended (Run schema rule) world places are = ((λ schemed. run_cut limits before after ended rule world places (are.0 schemed)), are.1)
+places_cut limits before after ended (Query backend schema query) world places are = ((λ given so. query_cut backend limits query before after ended given world places.query (are.0 given so)), are.1)

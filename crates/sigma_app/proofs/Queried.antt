@@ -29,7 +29,7 @@ use Rattle.sig_base.specs.declared.limits.Limits.{Limits}
 use Rattle.sig_base.specs.declared.refusal.Refusal.{Refusal}
 use Rattle.sigma_app.proofs.Fronts.{file_is}
 use Rattle.sigma_app.specs.Laws.{EachUnder, OneUnder}
-use Rattle.sigma_app.specs.Queried.{IsOfBuilder, AskedUnder, asks, doesnt_ask, AreUnbuilt, AskedBy, AskedAt}
+use Rattle.sigma_app.specs.Queried.{IsOfBuilder, AskedUnder, asks, doesnt_ask, AreOfQuery, AskedBy, AskedAt}
 use Rattle.sigma_app.specs.Reports.{refusal_share}
 use Rattle.sigma_app.specs.RuleFiles.{contents}
 use Rattle.sigma_app.specs.UnderSchema.{file_part, is_ended}
@@ -59,7 +59,7 @@ module _ {Query : Type 0} (is_query : Schema → List ℕ → Query → Type 0) 
         let some = places_are (patterns (contents world.files file)) gained in
         by some.0 (record { gained = gained; follows = follows; are = some.1; told = λ ended. absurd (not_ended ended) }) (each limits given some.0 (contents world.files file))
       where
-        by : (places : List CodeAt) → AreUnbuilt is_query is_within picks patterns refuses limits file before after false given world places
+        by : (places : List CodeAt) → AreOfQuery is_query is_within picks patterns refuses limits file before after false given world places
             → ((q : Query) × Asked limits given places (contents world.files file) q) ⊎ ((r : Refusal) × NotAsked limits given places (contents world.files file) r)
             → (parts : List Part) × By limits file before after false (Some given) world parts
         by places built (inl (q, asked)) =

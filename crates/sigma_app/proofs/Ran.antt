@@ -16,18 +16,19 @@ use Rattle.answer_parts.specs.declared.stop.Stop.TheVariants.{Memory}
 use Rattle.detection_eval.specs.declared.ready.Ready.{Ready}
 use Rattle.event_reading.specs.SchemaOf.{schema_of}
 use Rattle.event_schema.specs.declared.schema.Schema.{Schema}
-use Rattle.rule_building.proofs.Growing.{places_grown, unbuilt_grown}
+use Rattle.rule_building.proofs.BuiltRows.{built_at, none_refused}
+use Rattle.rule_building.proofs.Lists.{zip_map}
 use Rattle.rule_building.specs.Building.{Builds}
-use Rattle.rule_building.specs.Unbuilt.{Unbuilt, none_unbuilt, ArePlacesOf}
+use Rattle.rule_building.specs.Unbuilt.{Unbuilt, none_unbuilt, of_values, refused_texts, AreUnbuilt, ArePlacesOf, IsOneOf, IsOfItem}
 use Rattle.rule_model.specs.Expressions.{rule_expressions}
 use Rattle.rule_model.specs.Plain.{PlainRule, rule_view, rule_with}
-use Rattle.rule_model.specs.Rules.{IsRule}
 use Rattle.rule_model.specs.declared.rule.Rule.{Rule}
 use Rattle.rule_runs.proofs.Fronts.{single_places_front, run_front, not_run_front}
+use Rattle.rule_runs.proofs.Runs.{none_of_single, single_later}
 use Rattle.rule_runs.specs.Answers.{ForValues, IsBare}
 use Rattle.rule_runs.specs.Files.{file_start, single_tree}
 use Rattle.rule_runs.specs.Laws as files
-use Rattle.rule_runs.specs.Runs.{IsFit, IsUnfit, IsRun, IsNotRun, no_fit, not_built, AreOfSingle}
+use Rattle.rule_runs.specs.Runs.{IsFit, IsUnfit, IsRun, IsNotRun, no_fit, not_built, AreOfTree, AreOfSingle}
 use Rattle.rule_schema.specs.Inferred.{schema_for}
 use Rattle.sig_base.specs.Files.{IsFront}
 use Rattle.sig_base.specs.Judged.{refusal}
@@ -36,12 +37,11 @@ use Rattle.sig_base.specs.declared.refusal.Fault.TheVariants as fault
 use Rattle.sig_base.specs.declared.refusal.Place.{Place}
 use Rattle.sig_base.specs.declared.refusal.Refusal.{Refusal}
 use Rattle.sigma_app.proofs.Fronts.{file_is}
-use Rattle.sigma_app.proofs.Grown.{none_are}
-use Rattle.sigma_app.proofs.Lifted.{single_later}
+use Rattle.sigma_app.proofs.Trees.{cut}
 use Rattle.sigma_app.specs.Laws.{AsksUnlessUnrun, AsksNoneUnschemed, EachRan, EachSelected, EachUnder, OneUnder}
 use Rattle.sigma_app.specs.Ran.{RunGives, RanUnder, runs, isnt_run, RanBySome}
 use Rattle.sigma_app.specs.Reports.{refusal_share}
-use Rattle.sigma_app.specs.RuleFiles.{Grown, contents}
+use Rattle.sigma_app.specs.RuleFiles.{contents}
 use Rattle.sigma_app.specs.UnderSchema.{file_part, is_ended, without, under, refused}
 use Rattle.yaml_documents.specs.Verdicts as yaml
 use Rattle.yaml_tree.specs.Tree.{Member, Tree, Answer}
@@ -76,11 +76,11 @@ one_ran never one cause line limits unbuilt file given world a b (isnt_run r is 
 one_ran never one cause line limits unbuilt file given world a b (isnt_run r is same) (isnt_run s too same_too) =
     same ∙ (ap (λ (x : Refusal). file_part file (refusal_share file x) ∷ []) (cause unbuilt limits given (contents world.files file) r s is too) ∙ sym same_too)
 
--- whatever the builder refused, there is an answer that is cut off
-pub each_ran_cut : EachRan → (limits : Limits) (file : List ℕ) (before after : List (List ℕ)) → Grown before after → EachUnder (RanBySome limits file before after false)
-each_ran_cut each limits file before after (gained, follows) given world =
+-- there is an answer that is cut off before anything is built
+pub each_ran_cut : EachRan → (limits : Limits) (file : List ℕ) (texts : List (List ℕ)) → EachUnder (RanBySome limits file texts texts false)
+each_ran_cut each limits file texts given world =
     let all = each limits none_unbuilt file given world in
-    (all.0, record { unbuilt = none_unbuilt; gained = gained; follows = follows; are = λ documents taken top single. none_are limits top gained; ran = all.1 })
+    (all.0, record { unbuilt = none_unbuilt; follows = sym (append-nil texts); are = none_of_single limits (contents world.files file); ran = all.1 })
 
 -- ---- which answers ask for events
 
@@ -116,43 +116,37 @@ asks_none_unschemed limits unbuilt schema file world parts code refused_so (refu
 
 -- ---- the rule of a file, and its places
 
-abbrev tree_ok : Tree → Result Tree Refusal
-tree_ok t = Ok t
-
-same_tree : (r : Result Tree Refusal) (t u : Tree) → r ≡ Ok t → r ≡ Ok u → t ≡ u
-same_tree r t u first second = by (sym first ∙ second)
-  where
-    by : tree_ok t ≡ tree_ok u → t ≡ u
-    by same = cc
-
--- a document is one rule
-abbrev pub OneRule : Type 0
-OneRule = (t : Tree) (r s : PlainRule) → IsRule t r → IsRule t s → r ≡ s
-
 -- the rule and these places of a file's bytes, and why there is none that fits
-abbrev FitsAt : Limits → Option Schema → List (List ℕ) → List Place → PlainRule → List ℕ → Type 0
-FitsAt limits given gained values rule bytes = AreOfSingle limits bytes gained true (record { values = values; items = [] }) × IsFit values limits given bytes rule
+abbrev FitsAt : Limits → Option Schema → List Place → List (List ℕ) → PlainRule → List ℕ → Type 0
+FitsAt limits given values earlier rule bytes = AreOfSingle limits bytes true (of_values values earlier) × IsFit values limits given bytes rule
 
-abbrev RunsAt : Limits → Option Schema → List (List ℕ) → Bool → Unbuilt → PlainRule → List ℕ → Type 0
-RunsAt limits given gained ended unbuilt rule bytes = AreOfSingle limits bytes gained ended unbuilt × IsRun unbuilt limits given bytes rule
+abbrev RunsAt : Limits → Option Schema → Bool → Unbuilt → PlainRule → List ℕ → Type 0
+RunsAt limits given ended unbuilt rule bytes = AreOfSingle limits bytes ended unbuilt × IsRun unbuilt limits given bytes rule
 
-abbrev RunsNone : Limits → Option Schema → List (List ℕ) → Bool → Unbuilt → Refusal → List ℕ → Type 0
-RunsNone limits given gained ended unbuilt r bytes = AreOfSingle limits bytes gained ended unbuilt × IsNotRun unbuilt limits given bytes r
+abbrev RunsNone : Limits → Option Schema → Bool → Unbuilt → Refusal → List ℕ → Type 0
+RunsNone limits given ended unbuilt r bytes = AreOfSingle limits bytes ended unbuilt × IsNotRun unbuilt limits given bytes r
 
 -- and the places of its items at which regular expressions aren't built when it's made ready
-fit_places : yaml.OneList → OneRule → (limits : Limits) (given : Option Schema) (bytes : List ℕ) (first second : List (List ℕ)) (values items : List Place) (rule : PlainRule)
-    → FitsAt limits given first values rule bytes → ArePlacesOf (rule_expressions rule) second items → AreOfSingle limits bytes (first ++ second) true (record { values = values; items = items })
-fit_places list one limits given bytes first second values items rule (are, fit) of documents taken top single =
-    let here : top ≡ fit.single.only.top = same_tree (single_tree documents) top fit.single.only.top single
-    (subst (λ (ds : List Answer). single_tree ds ≡ Ok fit.single.only.top) (list limits.file_bytes limits.documents limits.yaml_depth bytes fit.single.documents documents fit.single.taken taken) fit.single.only.single) in
-    let more = unbuilt_grown limits top [] first second true (record { values = values; items = [] }) (are documents taken top single) in
-    let here_too : ArePlacesOf (rule_expressions rule) (first ++ second) items = subst (λ (l : List (List ℕ)). ArePlacesOf (rule_expressions rule) (first ++ l) items) (append-nil second)
-    (places_grown (rule_expressions rule) first second [] items of) in
+fit_places : yaml.NeverBoth → yaml.OneList → (limits : Limits) (given : Option Schema) (bytes : List ℕ) (values items : List Place) (earlier more : List (List ℕ)) (rule : PlainRule)
+    → FitsAt limits given values earlier rule bytes → ArePlacesOf (IsOneOf (rule_expressions rule)) more items
+    → AreOfSingle limits bytes true (record { values = values; refused_values = earlier; items = items; refused_items = more })
+fit_places never list limits given bytes values items earlier more rule (are, fit) of =
+    let documents : List Answer = fit.single.documents in
+    let top : Tree = fit.single.only.top in
+    let all : Unbuilt = record { values = values; refused_values = earlier; items = items; refused_items = more } in
+    let read : AreUnbuilt limits top true (of_values values earlier) =
+    subst (λ (r : Result Tree Refusal). AreOfTree limits r true (of_values values earlier)) fit.single.only.single (are.tree documents fit.single.taken) in
+    let here : AreUnbuilt limits top true all = record {
+      values = read.values;
+      items = zip_map (λ text place. IsOneOf (rule_expressions rule) (record { place = place; text = text })) (λ text place. IsOfItem top (record { place = place; text = text }))
+          (λ text place one. (rule, fit.single.only.lone.is, one)) more items of;
+      ill = read.ill;
+    } in
     record {
-      values = more.values;
-      items = λ other is. subst (λ (r : PlainRule). ArePlacesOf (rule_expressions r) (first ++ second) items)
-          (one top rule other (subst (λ (t : Tree). IsRule t rule) (sym here) fit.single.only.lone.is) is) here_too;
-      ill = more.ill;
+      tree = λ others taken. subst (λ (ds : List Answer). AreOfTree limits (single_tree ds) true all)
+          (list limits.file_bytes limits.documents limits.yaml_depth bytes documents others fit.single.taken taken)
+          (subst (λ (r : Result Tree Refusal). AreOfTree limits r true all) (sym fit.single.only.single) here);
+      whole = λ p is. absurd (never limits.file_bytes limits.documents limits.yaml_depth bytes documents p fit.single.taken is);
     }
 
 -- the entries of its head decide nothing of the schema that is made of it
@@ -182,87 +176,95 @@ module _ (limits : Limits) (file : List ℕ) (given : Option Schema) where
   run_unread texts each stop old new stops =
       ends_unread needs (RanBySome limits file texts texts false given) file old new there stop (λ world. let a = each given world in (a.0, a.1, begins a.1.unbuilt world a.0 a.1.ran)) stops
 
+  -- the places of a file's bytes are those of the file that is told, also where the answer may have been cut off
+  placed : (ended later : Bool) → (later ≡ true → ended ≡ true) → (unbuilt : Unbuilt) (bytes : List ℕ) (s : State) → IsFront s.inputs.files file (limits.file_bytes + 1) bytes → AreOfSingle limits bytes ended unbuilt
+      → (world : World) → s.inputs.files ≡ Some world.files → AreOfSingle limits (contents world.files file) later unbuilt
+  placed ended later so unbuilt bytes s front are world told =
+      single_later limits ended later so unbuilt (contents world.files file)
+      (file_is (limits.file_bytes + 1) (λ bs. AreOfSingle limits bs ended unbuilt) file (λ bs so_front. single_places_front limits bs ended unbuilt so_front) s.inputs.files world.files bytes told front are)
+
   -- memory was missing
-  pub run_memory : (before after : List (List ℕ)) → EachUnder (RanBySome limits file before after false) → (s : State) → Ends needs (RanBySome limits file before after false given) (Err Memory) s s
-  run_memory before after each s = record {
+  pub run_memory : EachRan → (before after : List (List ℕ)) (bytes : List ℕ) (s : State) → IsFront s.inputs.files file (limits.file_bytes + 1) bytes → (unbuilt : Unbuilt)
+      → after ≡ before ++ refused_texts unbuilt → (ended : Bool) → AreOfSingle limits bytes ended unbuilt → Ends needs (RanBySome limits file before after false given) (Err Memory) s s
+  run_memory each before after bytes s front unbuilt follows ended are = record {
     unread = None;
     cause = refl;
-    stands = λ world told. let a = each given world in (a.0, a.1, cut_nothing (share_of a.0) s.streams, λ _. (refl, refl));
+    stands = λ world told. let a = each limits unbuilt file given world in (
+      a.0,
+      record { unbuilt = unbuilt; follows = follows; are = placed ended false cut unbuilt bytes s front are world (told.files file there); ran = a.1 },
+      cut_nothing (share_of a.0) s.streams,
+      λ _. (refl, refl),
+    );
     files = refl;
     apart = λ _. (refl, refl);
     kept = refl;
   }
 
-  module _ (before after gained : List (List ℕ)) (follows : after ≡ before ++ gained) (bytes : List ℕ) (old new : State) (front : IsFront old.inputs.files file (limits.file_bytes + 1) bytes) where
+  module _ (before after : List (List ℕ)) (bytes : List ℕ) (old new : State) (front : IsFront old.inputs.files file (limits.file_bytes + 1) bytes) (unbuilt : Unbuilt) (follows : after ≡ before ++ refused_texts unbuilt) where
     -- the file isn't run
-    pub run_refused : (unbuilt : Unbuilt) (r : Refusal) (result : Result Bool Stop) → RunsNone limits given gained true unbuilt r bytes
+    pub run_refused : (r : Refusal) (result : Result Bool Stop) → RunsNone limits given true unbuilt r bytes
         → Writes (λ share. share ≡ refusal_share file r) result old new → Ends needs (RanBySome limits file before after (is_ended result) given) result old new
-    run_refused unbuilt r result is wrote =
+    run_refused r result is wrote =
         ends_written needs (RanBySome limits file before after (is_ended result) given) (λ share. share ≡ refusal_share file r) (Some (File file)) result old new
-        (λ world told share same.
-        let all = file_is (limits.file_bytes + 1) (RunsNone limits given gained true unbuilt r) file
-        (λ bs so. (single_places_front limits bs gained true unbuilt so.0, not_run_front limits bs unbuilt given r so.1)) old.inputs.files world.files bytes (told.files file there) front is in
-        record {
+        (λ world told share same. record {
           unbuilt = unbuilt;
-          gained = gained;
           follows = follows;
-          are = single_later limits (contents world.files file) gained true (is_ended result) (λ _. refl) unbuilt all.0;
-          ran = isnt_run r all.1 (ap (λ (s : Share). file_part file s ∷ []) same);
+          are = placed true (is_ended result) (λ _. refl) unbuilt bytes old front is.0 world (told.files file there);
+          ran = isnt_run r (file_is (limits.file_bytes + 1) (λ bs. IsNotRun unbuilt limits given bs r) file (λ bs so. not_run_front limits bs unbuilt given r so) old.inputs.files world.files bytes (told.files file there) front is.1)
+              (ap (λ (s : Share). file_part file s ∷ []) same);
         }) wrote
 
     -- the file is run, and the lines of events are answered
-    pub run_answered : (unbuilt : Unbuilt) (rule : PlainRule) (result : Result Bool Stop) → RunsAt limits given gained true unbuilt rule bytes
+    pub run_answered : (rule : PlainRule) (result : Result Bool Stop) → RunsAt limits given true unbuilt rule bytes
         → Ends (record { names = []; events = true }) (EventLines (RunGives (schema_for given rule) rule) limits) result old new
         → Ends needs (RanBySome limits file before after (is_ended result) given) result old new
-    run_answered unbuilt rule result is e =
+    run_answered rule result is e =
         ends_behind needs (record { names = []; events = true }) (file_part file no_share ∷ []) refl none_there refl
         (EventLines (RunGives (schema_for given rule) rule) limits) (RanBySome limits file before after (is_ended result) given) result old new
-        (λ world told ps lines.
-        let all = file_is (limits.file_bytes + 1) (RunsAt limits given gained true unbuilt rule) file
-        (λ bs so. (single_places_front limits bs gained true unbuilt so.0, run_front limits bs unbuilt given rule so.1)) old.inputs.files world.files bytes (told.files file there) front is in
-        record {
+        (λ world told ps lines. record {
           unbuilt = unbuilt;
-          gained = gained;
           follows = follows;
-          are = single_later limits (contents world.files file) gained true (is_ended result) (λ _. refl) unbuilt all.0;
-          ran = runs rule all.1 ps lines refl;
+          are = placed true (is_ended result) (λ _. refl) unbuilt bytes old front is.0 world (told.files file there);
+          ran = runs rule (file_is (limits.file_bytes + 1) (λ bs. IsRun unbuilt limits given bs rule) file (λ bs so. run_front limits bs unbuilt given rule so) old.inputs.files world.files bytes (told.files file there) front is.1)
+              ps lines refl;
         }) e
+
+  -- of values alone
+  pub values_follow : (before after : List (List ℕ)) (values : List Place) (refused_so : List (List ℕ)) → after ≡ before ++ refused_so → after ≡ before ++ refused_texts (of_values values refused_so)
+  values_follow before after values refused_so follows = follows ∙ ap (λ (l : List (List ℕ)). before ++ l) (sym (append-nil refused_so))
 
   module _ (before middle after : List (List ℕ)) (bytes : List ℕ) (old new : State) (front : IsFront old.inputs.files file (limits.file_bytes + 1) bytes) where
     -- there is no rule that fits
     pub run_unfit : (r : Refusal) (result : Result Bool Stop) → ForValues limits bytes before after true (λ values. IsUnfit values limits given bytes r)
         → Writes (λ share. share ≡ refusal_share file r) result old new → Ends needs (RanBySome limits file before after (is_ended result) given) result old new
     run_unfit r result some wrote =
-        run_refused before after some.gained some.follows bytes old new front (record { values = some.values; items = [] }) r result (some.are, no_fit some.says) wrote
+        run_refused before after bytes old new front (of_values some.values some.refused) (values_follow before after some.values some.refused some.follows) r result (some.are, no_fit some.says) wrote
 
-    module _ (list : yaml.OneList) (one : OneRule) (rule : Rule) (some : ForValues limits bytes before middle true (λ values. IsBare (IsFit values limits given bytes) rule)) where
+    module _ (rule : Rule) (some : ForValues limits bytes before middle true (λ values. IsBare (IsFit values limits given bytes) rule)) where
       abbrev whole : PlainRule
       whole = rule_with some.says.0 (rule_view rule)
 
-      follows_both : (gained : List (List ℕ)) → after ≡ middle ++ gained → after ≡ before ++ (some.gained ++ gained)
-      follows_both gained is = is ∙ (ap (λ (l : List (List ℕ)). l ++ gained) some.follows ∙ append_assoc before some.gained gained)
-
-      places : (items : List Place) (gained : List (List ℕ)) → ArePlacesOf (rule_expressions (rule_view rule)) gained items
-          → AreOfSingle limits bytes (some.gained ++ gained) true (record { values = some.values; items = items })
-      places items gained of = fit_places list one limits given bytes some.gained gained some.values items whole (some.are, some.says.1) of
+      abbrev read : Unbuilt
+      read = of_values some.values some.refused
 
       -- a regular expression of the rule isn't built
-      pub run_unbuilt : (r : Refusal) (result : Result Bool Stop) → {Is : Ready → Type 0} → Builds Is (rule_expressions (rule_view rule)) middle after (Err (fault.Refused r))
+      pub run_unbuilt : yaml.NeverBoth → yaml.OneList → (r : Refusal) (result : Result Bool Stop) → Builds {X = Ready} (λ ready. Unit {0}) (rule_expressions (rule_view rule)) middle after (Err (fault.Refused r))
           → Writes (λ share. share ≡ refusal_share file r) result old new → Ends needs (RanBySome limits file before after (is_ended result) given) result old new
-      run_unbuilt r result built wrote =
-          run_refused before after (some.gained ++ built.gained) (follows_both built.gained built.follows) bytes old new front (record { values = some.values; items = built.unbuilt }) r result
-          (places built.unbuilt built.gained built.places, not_built whole some.says.1 built.judged) wrote
+      run_unbuilt never list r result built wrote =
+          let at = built_at {X = Ready} (λ ready. Unit {0}) (rule_expressions (rule_view rule)) middle after (Err (fault.Refused r)) built in
+          run_refused before after bytes old new front (record { values = some.values; refused_values = some.refused; items = at.items; refused_items = at.refused })
+          (at.follows ∙ (ap (λ (l : List (List ℕ)). l ++ at.refused) some.follows ∙ append_assoc before some.refused at.refused)) r result
+          (fit_places never list limits given bytes some.values at.items some.refused at.refused whole (some.are, some.says.1) at.places, not_built whole some.says.1 at.judged) wrote
 
       -- all are built, and the lines of events are answered
-      pub run_ready : (ready : Ready) (schema : Schema) (result : Result Bool Stop) → {Is : Ready → Type 0} → Builds Is (rule_expressions (rule_view rule)) middle after (Ok ready) → schema ≡ schema_for given (rule_view rule)
+      pub run_ready : (schema : Schema) (result : Result Bool Stop) → after ≡ middle → schema ≡ schema_for given (rule_view rule)
           → Ends (record { names = []; events = true }) (EventLines (RunGives schema (rule_view rule)) limits) result old new
           → Ends needs (RanBySome limits file before after (is_ended result) given) result old new
-      run_ready ready schema result built is e =
-          run_answered before after (some.gained ++ built.gained) (follows_both built.gained built.follows) bytes old new front (record { values = some.values; items = built.unbuilt }) whole result
-          (places built.unbuilt built.gained built.places, record { fit = some.says.1; built = built.judged.0 })
+      run_ready schema result same is e =
+          run_answered before after bytes old new front read (values_follow before after some.values some.refused (same ∙ some.follows)) whole result
+          (some.are, record { fit = some.says.1; built = none_refused (rule_expressions (rule_view rule)) })
           (subst (λ (s : Schema). Ends (record { names = []; events = true }) (EventLines (RunGives s (rule_view rule)) limits) result old new) (is ∙ made_with given some.says.0 (rule_view rule)) e)
 
       -- memory was missing for them
-      pub run_unready : EachRan → {Is : Ready → Type 0} → Builds Is (rule_expressions (rule_view rule)) middle after (Err fault.Memory) → (s : State)
-          → Ends needs (RanBySome limits file before after false given) (Err Memory) s s
-      run_unready each built s = run_memory before after (each_ran_cut each limits file before after (some.gained ++ built.gained, follows_both built.gained built.follows)) s
+      pub run_unready : EachRan → after ≡ middle → Ends needs (RanBySome limits file before after false given) (Err Memory) old old
+      run_unready each same = run_memory each before after bytes old front read (values_follow before after some.values some.refused (same ∙ some.follows)) true some.are

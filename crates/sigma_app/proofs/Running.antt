@@ -18,7 +18,7 @@ use Rattle.sigma_app.specs.Convert.{ConvertMeans}
 use Rattle.sigma_app.specs.Converted.{Converted}
 use Rattle.sigma_app.specs.Laws.{EachAnswer, OneAnswer, AnswersMean}
 use Rattle.sigma_app.specs.Reports.{usage_share}
-use Rattle.sigma_app.specs.Served.{Unbuilt, PlacesOf, Answer, accepted, unaccepted, status_of, Serves, Tells, Unasked, StandsCut, StandsAfter, StandsUnread, MayBeUnread, IsCutOff, IsRead, ReadsNoEvents, usage_part}
+use Rattle.sigma_app.specs.Served.{RefusedTexts, PlacesOf, Answer, accepted, unaccepted, status_of, Serves, Tells, Unasked, StandsCut, StandsAfter, StandsUnread, MayBeUnread, IsCutOff, IsRead, ReadsNoEvents, usage_part}
 use Rattle.sigma_app.specs.Words.{IsAccepted, IsUnaccepted}
 use Rattle.sigma_app.specs.declared.request.Request.{Request}
 use Rattle.sigma_app.specs.declared.request.Request.TheVariants.{Convert}
@@ -43,17 +43,17 @@ not_cut : (found : Bool) → IsCutOff (status_of found) → ⊥
 not_cut true is = is
 not_cut false is = is
 
-module _ (limits : Limits) (unbuilt : Unbuilt) (words : List (List ℕ)) (request : Request) (is_accepted : IsAccepted words request) (old new : State) where
+module _ (limits : Limits) (texts : RefusedTexts) (words : List (List ℕ)) (request : Request) (is_accepted : IsAccepted words request) (old new : State) where
   -- the answers to this request, where the run came to its end or didn't
   abbrev pub By : Bool → World → List Part → Type 0
-  By ended = Answers limits unbuilt.before unbuilt.after ended request
+  By ended = Answers limits texts.before texts.after ended request
 
   -- the places of the request are those of the words
-  of_words : (ended : Bool) (world : World) (places : Places) → ArePlaces limits unbuilt.before unbuilt.after ended request world places → PlacesOf limits unbuilt ended words world places
-  of_words ended world places are other too = subst (λ (r : Request). ArePlaces limits unbuilt.before unbuilt.after ended r world places) (one_request words request other is_accepted too) are
+  of_words : (ended : Bool) (world : World) (places : Places) → ArePlaces limits texts.before texts.after ended request world places → PlacesOf limits texts ended words world places
+  of_words ended world places are other too = subst (λ (r : Request). ArePlaces limits texts.before texts.after ended r world places) (one_request words request other is_accepted too) are
 
-  cut_of_words : (ended : Bool) (world : World) (places : Places) → ArePlaces limits unbuilt.before unbuilt.after ended request world places → PlacesOf limits unbuilt false words world places
-  cut_of_words ended world places are = of_words false world places (places_cut limits unbuilt.before unbuilt.after ended request world places are)
+  cut_of_words : (ended : Bool) (world : World) (places : Places) → ArePlaces limits texts.before texts.after ended request world places → PlacesOf limits texts false words world places
+  cut_of_words ended world places are = of_words false world places (places_cut limits texts.before texts.after ended request world places are)
 
   -- where the one answer asks for no events, none were read
   stay : OneAnswer → (world : World) (own : List Part) (places : Places) → AnswersAt limits places request world own → (NoneOfEvents own → EventsStay old.inputs new.inputs)
@@ -65,7 +65,7 @@ module _ (limits : Limits) (unbuilt : Unbuilt) (words : List (List ℕ)) (reques
   stay one world own places own_answer quiet status parts (unaccepted is usage same) none = absurd (is request is_accepted)
 
   not_asked : OneAnswer → (ended : Bool) (result : Result Bool Stop) → Ends (needs_of request) (By ended) result old new
-      → (world : World) → Tells words old.inputs world → Unasked limits unbuilt words world old.inputs new.inputs
+      → (world : World) → Tells words old.inputs world → Unasked limits texts words world old.inputs new.inputs
   not_asked one ended result e world tells =
       let s = e.stands world (tells request is_accepted) in
       (s.1.0, cut_of_words ended world s.1.0 s.1.1, λ status parts answer none. stay one world s.0 s.1.0 s.1.2 s.3 status parts answer none)
@@ -75,7 +75,7 @@ module _ (limits : Limits) (unbuilt : Unbuilt) (words : List (List ℕ)) (reques
   converted means world places parts backend schema rules answers too =
       means backend limits places.documents schema rules world parts (subst (λ (r : Request). AnswersAt limits places r world parts) (one_request words request (Convert backend schema rules) is_accepted too) answers)
 
-  pub serves_whole : OneAnswer → AnswersMean → (found : Bool) → Ends (needs_of request) (By true) (Ok found) old new → Serves limits unbuilt words (status_of found) old.inputs new.inputs old.streams new.streams
+  pub serves_whole : OneAnswer → AnswersMean → (found : Bool) → Ends (needs_of request) (By true) (Ok found) old new → Serves limits texts words (status_of found) old.inputs new.inputs old.streams new.streams
   serves_whole one means found e = record {
     answer = λ _ world tells. let s = e.stands world (tells request is_accepted) in
         (s.1.0, of_words true world s.1.0 s.1.1, s.0, accepted request is_accepted s.1.2 (ap status_of s.2.0), s.2.1, s.3);
@@ -91,13 +91,13 @@ module _ (limits : Limits) (unbuilt : Unbuilt) (words : List (List ℕ)) (reques
     unasked = not_asked one true (Ok found) e;
   }
 
-  pub serves_as : OneAnswer → AnswersMean → (found so : Bool) → found ≡ so → Ends (needs_of request) (By true) (Ok found) old new → Serves limits unbuilt words (status_of so) old.inputs new.inputs old.streams new.streams
-  serves_as one means found so is e = subst (λ (f : Bool). Serves limits unbuilt words (status_of f) old.inputs new.inputs old.streams new.streams) is (serves_whole one means found e)
+  pub serves_as : OneAnswer → AnswersMean → (found so : Bool) → found ≡ so → Ends (needs_of request) (By true) (Ok found) old new → Serves limits texts words (status_of so) old.inputs new.inputs old.streams new.streams
+  serves_as one means found so is e = subst (λ (f : Bool). Serves limits texts words (status_of f) old.inputs new.inputs old.streams new.streams) is (serves_whole one means found e)
 
   unread_by : (unread : Option Input) → Cause (needs_of request) (Err stop.Unread) unread old new
       → ((world : World) → IsTold (needs_of request) old.inputs world → (parts : List Part) × By false world parts × Stands (By false) world (Err stop.Unread) unread parts old new
       × (NoneOfEvents parts → EventsStay old.inputs new.inputs))
-      → (input : Input) × IsRead words input × WasUnread input old.inputs new.inputs × NoWriteFailed old.streams new.streams × ((world : World) → Tells words old.inputs world → StandsUnread limits unbuilt words world stop.Unread input new.inputs.left old.streams new.streams)
+      → (input : Input) × IsRead words input × WasUnread input old.inputs new.inputs × NoWriteFailed old.streams new.streams × ((world : World) → Tells words old.inputs world → StandsUnread limits texts words world stop.Unread input new.inputs.left old.streams new.streams)
   unread_by None cause stands = absurd cause
   unread_by (Some input) cause stands = (
     input,
@@ -107,7 +107,7 @@ module _ (limits : Limits) (unbuilt : Unbuilt) (words : List (List ℕ)) (reques
     λ world tells. let s = stands world (tells request is_accepted) in (request, is_accepted, s.0, s.1, s.2),
   )
 
-  pub serves_unread : OneAnswer → Ends (needs_of request) (By false) (Err stop.Unread) old new → Serves limits unbuilt words ReadFault old.inputs new.inputs old.streams new.streams
+  pub serves_unread : OneAnswer → Ends (needs_of request) (By false) (Err stop.Unread) old new → Serves limits texts words ReadFault old.inputs new.inputs old.streams new.streams
   serves_unread one e = record {
     answer = λ is. absurd is;
     headline = λ is. absurd is;
@@ -133,13 +133,13 @@ module _ (limits : Limits) (unbuilt : Unbuilt) (words : List (List ℕ)) (reques
   unwritten_by (Some input) cause = (((request, is_accepted, cause.0), cause.1), cause.2)
 
   stands_after : (unread : Option Input) (world : World) (parts : List Part) → By false world parts
-      → Stands (By false) world (Err stop.Unwritten) unread parts old new → StandsAfter limits unbuilt words world unread new.inputs.left old.streams new.streams
+      → Stands (By false) world (Err stop.Unwritten) unread parts old new → StandsAfter limits texts words world unread new.inputs.left old.streams new.streams
   stands_after None world parts answers s =
       (answers.0, of_words false world answers.0 answers.1, status_of (share_of parts).refused, parts, accepted request is_accepted answers.2 refl, s)
   stands_after (Some input) world parts answers s = (request, is_accepted, parts, answers, s)
 
   pub serves_unwritten : OneAnswer → Ends (needs_of request) (By false) (Err stop.Unwritten) old new
-      → Serves limits unbuilt words WriteFault old.inputs new.inputs old.streams new.streams
+      → Serves limits texts words WriteFault old.inputs new.inputs old.streams new.streams
   serves_unwritten one e = record {
     answer = λ is. absurd is;
     headline = λ is. absurd is;
@@ -177,10 +177,10 @@ memory_unwritten : Memory ≡ WriteFault → ⊥
 memory_unwritten is = cc
 
 -- memory was missing: what stands is cut off
-pub serves_cut : (limits : Limits) (unbuilt : Unbuilt) (words : List (List ℕ)) (old new : State) → (ReadsNoEvents words → EventsStay old.inputs new.inputs)
-    → ((world : World) → Tells words old.inputs world → Unasked limits unbuilt words world old.inputs new.inputs)
-    → ((world : World) → Tells words old.inputs world → StandsCut limits unbuilt words world old.streams new.streams) → Serves limits unbuilt words Memory old.inputs new.inputs old.streams new.streams
-serves_cut limits unbuilt words old new quiet unasked cut = record {
+pub serves_cut : (limits : Limits) (texts : RefusedTexts) (words : List (List ℕ)) (old new : State) → (ReadsNoEvents words → EventsStay old.inputs new.inputs)
+    → ((world : World) → Tells words old.inputs world → Unasked limits texts words world old.inputs new.inputs)
+    → ((world : World) → Tells words old.inputs world → StandsCut limits texts words world old.streams new.streams) → Serves limits texts words Memory old.inputs new.inputs old.streams new.streams
+serves_cut limits texts words old new quiet unasked cut = record {
   answer = λ is. absurd is;
   headline = λ is. absurd is;
   usage = λ is. absurd is;
@@ -193,12 +193,12 @@ serves_cut limits unbuilt words old new quiet unasked cut = record {
   unasked = unasked;
 }
 
-pub serves_memory : (limits : Limits) (unbuilt : Unbuilt) (words : List (List ℕ)) (request : Request) → IsAccepted words request → (old new : State) → OneAnswer
-    → Ends (needs_of request) (Answers limits unbuilt.before unbuilt.after false request) (Err stop.Memory) old new → Serves limits unbuilt words Memory old.inputs new.inputs old.streams new.streams
-serves_memory limits unbuilt words request is_accepted old new one e =
-    serves_cut limits unbuilt words old new (λ quiet. e.apart (quiet request is_accepted)) (not_asked limits unbuilt words request is_accepted old new one false (Err stop.Memory) e)
+pub serves_memory : (limits : Limits) (texts : RefusedTexts) (words : List (List ℕ)) (request : Request) → IsAccepted words request → (old new : State) → OneAnswer
+    → Ends (needs_of request) (Answers limits texts.before texts.after false request) (Err stop.Memory) old new → Serves limits texts words Memory old.inputs new.inputs old.streams new.streams
+serves_memory limits texts words request is_accepted old new one e =
+    serves_cut limits texts words old new (λ quiet. e.apart (quiet request is_accepted)) (not_asked limits texts words request is_accepted old new one false (Err stop.Memory) e)
     (λ world tells. let s = e.stands world (tells request is_accepted) in
-    (s.1.0, of_words limits unbuilt words request is_accepted old new false world s.1.0 s.1.1, status_of (share_of s.0).refused, s.0, accepted request is_accepted s.1.2 refl, s.2))
+    (s.1.0, of_words limits texts words request is_accepted old new false world s.1.0 s.1.1, status_of (share_of s.0).refused, s.0, accepted request is_accepted s.1.2 refl, s.2))
 
 -- memory was missing for the words
 pub serves_nothing : EachAnswer → (limits : Limits) (refused : List (List ℕ)) (words : List (List ℕ)) (s : State)
@@ -218,8 +218,8 @@ serves_nothing each limits refused words s =
 abbrev IsUsage : Share → Type 0
 IsUsage share = share ≡ usage_share
 
-module _ (limits : Limits) (unbuilt : Unbuilt) (words : List (List ℕ)) (other : IsUnaccepted words) (old new : State) where
-  no_places : (ended : Bool) (world : World) → PlacesOf limits unbuilt ended words world nowhere
+module _ (limits : Limits) (texts : RefusedTexts) (words : List (List ℕ)) (other : IsUnaccepted words) (old new : State) where
+  no_places : (ended : Bool) (world : World) → PlacesOf limits texts ended words world nowhere
   no_places ended world request too = absurd (other request too)
 
   same_gains : (share : Share) → IsUsage share → Gains share old.streams new.streams → Gains (share_of (usage_part ∷ [])) old.streams new.streams
@@ -228,7 +228,7 @@ module _ (limits : Limits) (unbuilt : Unbuilt) (words : List (List ℕ)) (other 
   same_cut : (share : Share) → IsUsage share → Cut share old.streams new.streams → Cut (share_of (usage_part ∷ [])) old.streams new.streams
   same_cut share is cut = subst (λ (s : Share). Cut s old.streams new.streams) is cut
 
-  pub serves_usage : (found : Bool) → Writes IsUsage (Ok found) old new → Serves limits unbuilt words Usage old.inputs new.inputs old.streams new.streams
+  pub serves_usage : (found : Bool) → Writes IsUsage (Ok found) old new → Serves limits texts words Usage old.inputs new.inputs old.streams new.streams
   serves_usage found w = record {
     answer = λ _ world _. (nowhere, no_places true world, usage_part ∷ [], unaccepted other refl refl, same_gains w.share w.is w.outcome.1, λ none. (ap (λ (i : Inputs). i.left) w.inputs, ap (λ (i : Inputs). i.faults) w.inputs));
     headline = λ _ world _ backend schema rules too. absurd (other (Convert backend schema rules) too);
@@ -248,7 +248,7 @@ module _ (limits : Limits) (unbuilt : Unbuilt) (words : List (List ℕ)) (other 
       apart_too : Usage ≡ WriteFault → ⊥
       apart_too is = cc
 
-  pub usage_unwritten : Writes IsUsage (Err stop.Unwritten) old new → Serves limits unbuilt words WriteFault old.inputs new.inputs old.streams new.streams
+  pub usage_unwritten : Writes IsUsage (Err stop.Unwritten) old new → Serves limits texts words WriteFault old.inputs new.inputs old.streams new.streams
   usage_unwritten w = record {
     answer = λ is. absurd is;
     headline = λ is. absurd is;
@@ -265,9 +265,9 @@ module _ (limits : Limits) (unbuilt : Unbuilt) (words : List (List ℕ)) (other 
       apart : WriteFault ≡ ReadFault → ⊥
       apart is = cc
 
-  pub usage_memory : (s : Stop) → Writes IsUsage (Err s) old new → Serves limits unbuilt words Memory old.inputs new.inputs old.streams new.streams
+  pub usage_memory : (s : Stop) → Writes IsUsage (Err s) old new → Serves limits texts words Memory old.inputs new.inputs old.streams new.streams
   usage_memory s w =
-      serves_cut limits unbuilt words old new (λ _. (ap (λ (i : Inputs). i.left) w.inputs, ap (λ (i : Inputs). i.faults) w.inputs))
+      serves_cut limits texts words old new (λ _. (ap (λ (i : Inputs). i.left) w.inputs, ap (λ (i : Inputs). i.faults) w.inputs))
       (λ world tells. (nowhere, no_places false world, λ status parts answer none. (ap (λ (i : Inputs). i.left) w.inputs, ap (λ (i : Inputs). i.faults) w.inputs)))
       (λ world _. (nowhere, no_places false world, Usage, usage_part ∷ [], unaccepted other refl refl, same_cut w.share w.is (cut s w.outcome)))
     where

@@ -14,7 +14,7 @@ use Rattle.event_lines.specs.Lines.{lines_of}
 use Rattle.event_reading.specs.EventOf.{event_of}
 use Rattle.event_reading.specs.SchemaOf.{schema_of}
 use Rattle.event_schema.specs.Events.{IsEvent}
-use Rattle.event_schema.specs.Lists.{EachOf, SomeOf, HasElement}
+use Rattle.event_schema.specs.Lists.{EachOf, SomeOf}
 use Rattle.event_schema.specs.Occurrence.{Occurrence}
 use Rattle.event_schema.specs.declared.schema.Schema.{Schema}
 use Rattle.event_schema.specs.declared.value.Value.{Value}
@@ -22,7 +22,8 @@ use Rattle.languages.specs.RefusedPlaces.{PatternAt, IsAmong}
 use Rattle.query_files.specs.Ended.{with_line_feed, SameWithLineFeed, RefusedForPatterns}
 use Rattle.query_files.proofs.Text.{one_more}
 use Rattle.query_runs.specs.Asked.{too_large, unread, most_bytes}
-use Rattle.rule_building.specs.Unbuilt.{Unbuilt, none_unbuilt, unbuilt_refusal, ArePlacesOf}
+use Rattle.rule_building.proofs.Lists.{some_left, some_right, zip_some}
+use Rattle.rule_building.specs.Unbuilt.{Unbuilt, none_unbuilt, refused_texts, unbuilt_refusal, AreUnbuilt, ArePlacesOf, IsOneOf, IsOfItem}
 use Rattle.rule_items.specs.declared.expression.Expression.{Expression}
 use Rattle.rule_matching.specs.Matching.{Matches}
 use Rattle.rule_model.specs.AsBuilt.{IsRefusedAsBuilt}
@@ -35,7 +36,7 @@ use Rattle.rule_queries.specs.declared.backend_name.BackendName.{BackendName}
 use Rattle.rule_queries.specs.declared.backend_name.BackendName.TheVariants as backends
 use Rattle.rule_runs.specs.Files.{single_tree}
 use Rattle.rule_runs.specs.Laws as running
-use Rattle.rule_runs.specs.Runs.{AreDocuments, no_tree, no_rule, IsSingleRule, IsNoSingleRule, as_one, by_document, no_single, unfit, IsRun, IsNotRun, no_fit, not_built, AreOfSingle}
+use Rattle.rule_runs.specs.Runs.{AreDocuments, no_tree, no_rule, IsSingleRule, IsNoSingleRule, as_one, by_document, no_single, unfit, IsRun, IsNotRun, no_fit, not_built, AreOfTree, AreOfSingle}
 use Rattle.rule_schema.specs.Inferred.{unfit_refusal}
 use Rattle.selected_lines.proofs.Selected.{one_selected}
 use Rattle.selected_lines.specs.Selected.{Picking, EventGives, Selects}
@@ -49,13 +50,13 @@ use Rattle.sigma_app.proofs.Wording.{one_request}
 use Rattle.sigma_app.specs.Answers.{Places, AnswersAt}
 use Rattle.sigma_app.specs.Convert.{ConvertMeans, means_rule, means_none}
 use Rattle.sigma_app.specs.Converted.{RulesAt}
-use Rattle.sigma_app.specs.Languages.{patterns, refuses, AskedAt, AreUnbuilt}
+use Rattle.sigma_app.specs.Languages.{patterns, refuses, AskedAt, AreOfQuery}
 use Rattle.sigma_app.specs.Laws.{OneLone, AnswersMean}
 use Rattle.sigma_app.specs.Queried.{asks, doesnt_ask, IsOfBuilder}
 use Rattle.sigma_app.specs.Ran.{RunGives, RanUnder, runs, isnt_run}
 use Rattle.sigma_app.specs.Reports.{line_share, refusal_share}
 use Rattle.sigma_app.specs.RuleFiles.{ByUnbuilt, DocumentGives, FileGivesAt, as_one_at, by_document_at, RuleFileAt, contents, paired}
-use Rattle.sigma_app.specs.SameLines.{Call, AreOfRule, AnswersAlike, RefusesPattern, RefusesExpression, SameLines, SameWithoutRefusals, SameByLucene}
+use Rattle.sigma_app.specs.SameLines.{Call, AreOfRule, AnswersAlike, RefusesPattern, IsOfSingle, RefusesExpression, SameLines, SameWithoutRefusals, SameByLucene}
 use Rattle.sigma_app.specs.Served.{Answer, accepted, unaccepted, status_of}
 use Rattle.sigma_app.specs.UnderSchema.{BySchema, UnderSchema, without, under, refused, file_part}
 use Rattle.sigma_app.specs.Words.{IsAccepted}
@@ -300,31 +301,29 @@ IsUnbuilt = (unbuilt : List Place) (es : List Expression) (r : Refusal) → unbu
 abbrev pub IsAmongUnbuilt : Type 0
 IsAmongUnbuilt = (unbuilt : List Place) (es : List Expression) (r : Refusal) → unbuilt_refusal unbuilt es ≡ Some r → SomeOf (λ place. place ≡ r.place) unbuilt
 
-some_among : (text : List ℕ) (gained : List (List ℕ)) → IsAmong text gained → HasElement gained
-some_among text [] is = is
-some_among text (g ∷ gained) is = tt
+-- such a regular expression, and the builder refused its text, where 48 is at its place
+abbrev RefusedOf : (Expression → Type 0) → List (List ℕ) → Refusal → Type 0
+RefusedOf Is refused_so r = (e : Expression) × Is e × (r ≡ refusal_at 48 e.place) × IsAmong e.text refused_so
 
-some_of : (place : Place) (es : List Expression) (gained : List (List ℕ)) → SomeOf (λ (e : Expression). (e.place ≡ place) × IsAmong e.text gained) es → HasElement gained
-some_of place [] gained is = absurd is
-some_of place (e ∷ es) gained (inl is) = some_among e.text gained is.1
-some_of place (e ∷ es) gained (inr is) = some_of place es gained is
-
--- where there is such a place, the builder refused something
-some_gained : (es : List Expression) (gained : List (List ℕ)) (places : List Place) → ArePlacesOf es gained places → HasElement places → HasElement gained
-some_gained es gained [] are some = absurd some
-some_gained es gained (p ∷ places) are some = some_of p es gained are.0
-
-some_place : (P : Place → Type 0) (places : List Place) → SomeOf P places → HasElement places
-some_place P [] is = is
-some_place P (p ∷ places) is = tt
+refused_of : (Is : Expression → Type 0) (refused_so : List (List ℕ)) (places : List Place) (r : Refusal) → ArePlacesOf Is refused_so places → SomeOf (λ place. place ≡ r.place) places → r ≡ refusal_at 48 r.place
+    → RefusedOf Is refused_so r
+refused_of Is refused_so places r are some coded =
+    let one = zip_some (λ text place. Is (record { place = place; text = text })) refused_so places (λ place. place ≡ r.place) are some in
+    (record { place = one.1; text = one.0 }, one.3, coded ∙ ap (refusal_at 48) (sym one.4), one.2)
 
 module _ (never : yaml.NeverBoth) (list : yaml.OneList) (lone : OneLone) (as_built : AsBuilt) (is_unbuilt : IsUnbuilt) (among : IsAmongUnbuilt) (limits : Limits) (given : Schema) (bytes : List ℕ) (rule : PlainRule)
-    (single : IsSingleRule [] limits bytes rule) (fits : unfit_refusal (Some given) rule ≡ None) (gained : List (List ℕ)) (unbuilt : Unbuilt) (are : AreOfSingle limits bytes gained true unbuilt) where
+    (single : IsSingleRule [] limits bytes rule) (fits : unfit_refusal (Some given) rule ≡ None) (unbuilt : Unbuilt) (are : AreOfSingle limits bytes true unbuilt) where
   abbrev IsOfExpression : Refusal → Type 0
-  IsOfExpression r = (r.code ≡ 48) × HasElement gained
+  IsOfExpression r = RefusedOf (IsOfSingle limits bytes) (refused_texts unbuilt) r
 
-  coded : (r : Refusal) → r ≡ refusal_at 48 r.place → r.code ≡ 48
-  coded r is = ap (λ (x : Refusal). x.code) is
+  of_top : (ds : List Document) → AreDocuments limits bytes ds → (top : Tree) → single_tree ds ≡ Ok top → AreUnbuilt limits top true unbuilt
+  of_top ds taken top is = subst (λ (r : Result Tree Refusal). AreOfTree limits r true unbuilt) is (are.tree ds taken)
+
+  of_value : (ds : List Document) → AreDocuments limits bytes ds → (top : Tree) → single_tree ds ≡ Ok top → (r : Refusal) → RefusedOf (IsOneOf (document_expressions limits top)) unbuilt.refused_values r → IsOfExpression r
+  of_value ds taken top is r e = (e.0, (ds, taken, top, is, inl e.1), e.2, some_left (λ (t : List ℕ). t ≡ e.0.text) unbuilt.refused_values unbuilt.refused_items e.3)
+
+  of_item : (ds : List Document) → AreDocuments limits bytes ds → (top : Tree) → single_tree ds ≡ Ok top → (r : Refusal) → RefusedOf (IsOfItem top) unbuilt.refused_items r → IsOfExpression r
+  of_item ds taken top is r e = (e.0, (ds, taken, top, is, inr e.1), e.2, some_right (λ (t : List ℕ). t ≡ e.0.text) unbuilt.refused_values unbuilt.refused_items e.3)
 
   -- the document of these
   same_top : (ds : List Document) → AreDocuments limits bytes ds → (top : Tree) → single_tree ds ≡ Ok top → top ≡ single.only.top
@@ -342,7 +341,7 @@ module _ (never : yaml.NeverBoth) (list : yaml.OneList) (lone : OneLone) (as_bui
       absurd (no_top r single.only.top (sym is ∙ (ap single_tree (same_documents never list limits bytes ds single.documents taken single.taken) ∙ single.only.single)))
   no_single_of r (by_document ds taken (no_rule top is refused_so)) = elim ((as_built unbuilt.values limits top).refused r refused_so) as (λ _. IsOfExpression r) [
     | inl anyway ↦ absurd (none_some r (sym anyway ∙ subst (λ (t : Tree). lone_refusal [] limits t ≡ None) (sym (same_top ds taken top is)) single.only.lone.taken))
-    | inr of ↦ (coded r of.0, some_gained (document_expressions limits top) gained unbuilt.values (are ds taken top is).values (some_place (λ place. place ≡ r.place) unbuilt.values of.1))
+    | inr of ↦ of_value ds taken top is r (refused_of (IsOneOf (document_expressions limits top)) unbuilt.refused_values unbuilt.values r (of_top ds taken top is).values of.1 of.0)
   ]
 
   not_run_of : (r : Refusal) → IsNotRun unbuilt limits (Some given) bytes r → IsOfExpression r
@@ -350,10 +349,10 @@ module _ (never : yaml.NeverBoth) (list : yaml.OneList) (lone : OneLone) (as_bui
   not_run_of r (no_fit (unfit other too is)) =
       absurd (none_some r (sym is ∙ (ap (unfit_refusal (Some given)) (same_rule unbuilt.values other too) ∙ fits)))
   not_run_of r (not_built other fit is) =
-      let places = are fit.single.documents fit.single.taken fit.single.only.top fit.single.only.single in (
-        coded r (is_unbuilt unbuilt.items (rule_expressions other) r is),
-        some_gained (rule_expressions other) gained unbuilt.items (places.items other fit.single.only.lone.is) (some_place (λ place. place ≡ r.place) unbuilt.items (among unbuilt.items (rule_expressions other) r is)),
-      )
+      let ds : List Document = fit.single.documents in
+      let top : Tree = fit.single.only.top in
+      of_item ds fit.single.taken top fit.single.only.single r
+      (refused_of (IsOfItem top) unbuilt.refused_items unbuilt.items r (of_top ds fit.single.taken top fit.single.only.single).items (among unbuilt.items (rule_expressions other) r is) (is_unbuilt unbuilt.items (rule_expressions other) r is))
 
 -- ---- what `run` answered
 
@@ -372,16 +371,16 @@ module _ (limits : Limits) (call : Call limits) (schema file : List ℕ) (given 
       let w = call.serves.answer call.answered call.world call.told in
       let a = answered_as limits w.0 call.words call.world call.status w.2 (Run (Some schema) file) words w.3 in
       let u = under_given (RanUnder limits w.0.rule file) limits schema call.world w.2 given so a.0 in
-      let places = w.1 (Run (Some schema) file) words (given, so) in
-      of w.0.rule places.0 places.1 places.2 w.2 u.0 u.1 u.2 w.4 a.1
+      let places = (w.1 (Run (Some schema) file) words).0 (given, so) in
+      of w.0.rule places.0 places.1 w.2 u.0 u.1 u.2 w.4 a.1
     where
       is_run : IsRun none_unbuilt limits (Some given) (contents call.world.files file) rule
       is_run = record { fit = record { single = single; fits = fits }; built = built (rule_expressions rule) }
 
-      of : (unbuilt : Unbuilt) (gained : List (List ℕ)) → call.unbuilt.after ≡ call.unbuilt.before ++ gained → AreOfSingle limits (contents call.world.files file) gained true unbuilt → (parts others : List Part)
+      of : (unbuilt : Unbuilt) → call.texts.after ≡ call.texts.before ++ refused_texts unbuilt → AreOfSingle limits (contents call.world.files file) true unbuilt → (parts others : List Part)
           → RanUnder limits unbuilt file (Some given) call.world others → parts ≡ file_part schema no_share ∷ others → Gains (share_of parts) call.old call.new
           → call.status ≡ status_of (share_of parts).refused → Selected limits given (λ row. Matches given.fields row rule) call ⊎ RefusesExpression file call
-      of unbuilt gained follows are parts others (runs other is lines each same) whole gains ends =
+      of unbuilt follows are parts others (runs other is lines each same) whole gains ends =
           let here : other ≡ rule = one unbuilt none_unbuilt limits (Some given) (contents call.world.files file) other rule is is_run in
           let all : parts ≡ file_part schema no_share ∷ file_part file no_share ∷ lines = whole ∙ ap (λ (ps : List Part). file_part schema no_share ∷ ps) same in
           inl (record {
@@ -390,16 +389,17 @@ module _ (limits : Limits) (call : Call limits) (schema file : List ℕ) (given 
             gains = subst (λ (ps : List Part). Gains (share_of ps) call.old call.new) all gains;
             status = ends ∙ ap (λ (ps : List Part). status_of (share_of ps).refused) all;
           })
-      of unbuilt gained follows are parts others (isnt_run r is same) whole gains ends =
+      of unbuilt follows are parts others (isnt_run r is same) whole gains ends =
           let all : parts ≡ file_part schema no_share ∷ file_part file (refusal_share file r) ∷ [] = whole ∙ ap (λ (ps : List Part). file_part schema no_share ∷ ps) same in
-          let why = not_run_of never list lone as_built is_unbuilt among limits given (contents call.world.files file) rule single fits gained unbuilt are r is in
+          let why = not_run_of never list lone as_built is_unbuilt among limits given (contents call.world.files file) rule single fits unbuilt are r is in
+          let wrote : Gains (refusal_share file r) call.old call.new = subst (λ (ps : List Part). Gains (share_of ps) call.old call.new) all gains in
           inr (record {
-            refusal = r;
-            code = why.0;
-            gained = gained;
+            expression = why.0;
+            of = why.1;
+            gained = refused_texts unbuilt;
             follows = follows;
-            some = why.1;
-            wrote = subst (λ (ps : List Part). Gains (share_of ps) call.old call.new) all gains;
+            among = why.3;
+            wrote = subst (λ (x : Refusal). Gains (refusal_share file x) call.old call.new) why.2 wrote;
             status = ends ∙ ap (λ (ps : List Part). status_of (share_of ps).refused) all;
           })
 
@@ -414,9 +414,9 @@ module _ (limits : Limits) (call : Call limits) (schema file : List ℕ) (given 
         let w = call.serves.answer call.answered call.world call.told in
         let a = answered_as limits w.0 call.words call.world call.status w.2 (Query backend schema file) words w.3 in
         let u = under_given (AskedAt backend limits file w.0.query) limits schema call.world w.2 given so a.0 in
-        of w.0.query (w.1 (Query backend schema file) words given so) w.2 u.0 u.1 u.2 w.4 a.1
+        of w.0.query ((w.1 (Query backend schema file) words).0 given so) w.2 u.0 u.1 u.2 w.4 a.1
       where
-        of : (places : List CodeAt) → AreUnbuilt backend limits file call.unbuilt.before call.unbuilt.after true given call.world places → (parts others : List Part)
+        of : (places : List CodeAt) → AreOfQuery backend limits file call.texts.before call.texts.after true given call.world places → (parts others : List Part)
             → AskedAt backend limits file places (Some given) call.world others → parts ≡ file_part schema no_share ∷ others → Gains (share_of parts) call.old call.new
             → call.status ≡ status_of (share_of parts).refused → Selected limits given (picks backend q) call ⊎ RefusesPattern backend file call
         of places built parts others (asks other asked lines each same) whole gains ends =
@@ -497,15 +497,15 @@ none_of_builder (p ∷ all) r (inl is) = is.1
 none_of_builder (p ∷ all) r (inr is) = none_of_builder all r is
 
 -- where the builder refused nothing, `run` refuses no regular expression
-no_expression : {limits : Limits} (rule : List ℕ) (run : Call limits) → run.unbuilt.after ≡ run.unbuilt.before → RefusesExpression rule run → ⊥
-no_expression rule run none e = subst (λ (g : List (List ℕ)). HasElement g) (nothing_gained run.unbuilt.before e.gained (sym e.follows ∙ none)) e.some
+no_expression : {limits : Limits} (rule : List ℕ) (run : Call limits) → run.texts.after ≡ run.texts.before → RefusesExpression rule run → ⊥
+no_expression rule run none e = subst (λ (g : List (List ℕ)). IsAmong e.expression.text g) (nothing_gained run.texts.before e.gained (sym e.follows ∙ none)) e.among
 
 pub same_without_refusals : SameLines → SameWithoutRefusals
 same_without_refusals same limits backend convert run query calls none none_too = elim (same limits backend convert run query calls) [
   | inl alike ↦ alike
   | inr (inl p) ↦ absurd (none_of_builder (patterns backend (contents query.world.files calls.file)) p.refusal
       (subst (λ (g : List (List ℕ)). IsOfBuilder (patterns backend (contents query.world.files calls.file)) g p.refusal)
-      (nothing_gained query.unbuilt.before p.gained (sym p.follows ∙ none_too)) p.of))
+      (nothing_gained query.texts.before p.gained (sym p.follows ∙ none_too)) p.of))
   | inr (inr e) ↦ absurd (no_expression calls.rule run none e)
 ]
 

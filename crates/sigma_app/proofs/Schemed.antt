@@ -1,5 +1,5 @@
 -- What answering a command leaves that a schema's file may be named for, where one is named and where none is.
-use Rattle.std.proofs.Common.{◌≡◌, ℕ, suc, ◌+◌, ◌<◌, Bool, List, [], ◌∷◌, length, take, refl, ap, sym, ◌∙◌, subst, arith, Option, Some, None, Result, Ok, Err, inl, inr}
+use Rattle.std.proofs.Common.{◌≡◌, ℕ, suc, ◌+◌, ◌<◌, Bool, false, List, [], ◌∷◌, length, take, refl, ap, sym, ◌∙◌, subst, arith, Option, Some, None, Result, Ok, Err, inl, inr}
 use Rattle.std.specs.Prelude.{MatchOption, unwrap_or, Contains}
 use Rattle.std.proofs.lemmas.Bool.{cases_lt, lt-ltb}
 use Rattle.std.proofs.lemmas.List.{take_all, length-take-le}
@@ -27,7 +27,7 @@ use Rattle.sigma_app.specs.Answers.{names_with}
 use Rattle.sigma_app.specs.Laws.{EachUnder}
 use Rattle.sigma_app.specs.Reports.{refusal_share}
 use Rattle.sigma_app.specs.RuleFiles.{contents}
-use Rattle.sigma_app.specs.UnderSchema.{BySchema, UnderSchema, without, under, refused, file_part}
+use Rattle.sigma_app.specs.UnderSchema.{BySchema, ByBuilder, UnderSchema, without, under, refused, file_part, UnderBuilder, is_ended}
 
 -- ---- what a reader of schemas answers
 
@@ -73,7 +73,7 @@ each_schema by limits each (Some name) world = judged (schema_of limits (content
     judged (Ok given) is = let a = each (Some given) world in (file_part name no_share ∷ a.0, under name refl given is a.0 a.1 refl)
     judged (Err code) is = (file_part name (refusal_share name (refusal code file_start)) ∷ [], refused name refl code is refl)
 
-module _ (by : BySchema) (limits : Limits) (name : List ℕ) (names : List (List ℕ)) (events : Bool) where
+module _ (by : ByBuilder) (limits : Limits) (name : List ℕ) (names : List (List ℕ)) (events : Bool) where
   abbrev needs : Needs
   needs = record { names = name ∷ names; events = events }
 
@@ -89,24 +89,25 @@ module _ (by : BySchema) (limits : Limits) (name : List ℕ) (names : List (List
   not_none : Some name ≡ None → ⊥
   not_none is = cc
 
-  begins : (world : World) (parts : List Part) → UnderSchema by limits (Some name) world parts → Begins name parts
-  begins world parts (without is other) = absurd (not_none is)
-  begins world parts (under file is given so others other same) = (file_part file no_share, others, same, ap (λ (f : List ℕ). Some (File f)) (some_is file is))
-  begins world parts (refused file is code so same) =
+  begins : (under_it : BySchema) (world : World) (parts : List Part) → UnderSchema under_it limits (Some name) world parts → Begins name parts
+  begins under_it world parts (without is other) = absurd (not_none is)
+  begins under_it world parts (under file is given so others other same) = (file_part file no_share, others, same, ap (λ (f : List ℕ). Some (File f)) (some_is file is))
+  begins under_it world parts (refused file is code so same) =
       (file_part file (refusal_share file (refusal code file_start)), [], same, ap (λ (f : List ℕ). Some (File f)) (some_is file is))
 
   -- the schema's file couldn't be read
-  pub schema_unread : EachUnder by → (stop : Stop) (old new : State) → StopsBefore name stop old new → Ends needs (UnderSchema by limits (Some name)) (Err stop) old new
-  schema_unread each stop old new stops =
-      ends_unread needs (UnderSchema by limits (Some name)) name old new first_there stop
-      (λ world. let a = each_schema by limits each (Some name) world in (a.0, a.1, begins world a.0 a.1)) stops
+  pub schema_unread : (texts : List (List ℕ)) → EachUnder (by texts texts false) → (stop : Stop) (old new : State) → StopsBefore name stop old new
+      → Ends needs (UnderBuilder by limits (Some name) texts texts false) (Err stop) old new
+  schema_unread texts each stop old new stops =
+      ends_unread needs (UnderBuilder by limits (Some name) texts texts false) name old new first_there stop
+      (λ world. let a = each_schema (by texts texts false) limits each (Some name) world in (a.0, record { answer = a.1; still = λ _. refl }, begins (by texts texts false) world a.0 a.1)) stops
 
   -- memory was missing for the schema
-  pub schema_memory : EachUnder by → (s : State) → Ends needs (UnderSchema by limits (Some name)) (Err Memory) s s
-  schema_memory each s = record {
+  pub schema_memory : (texts : List (List ℕ)) → EachUnder (by texts texts false) → (s : State) → Ends needs (UnderBuilder by limits (Some name) texts texts false) (Err Memory) s s
+  schema_memory texts each s = record {
     unread = None;
     cause = refl;
-    stands = λ world told. let a = each_schema by limits each (Some name) world in (a.0, a.1, cut_nothing (share_of a.0) s.streams, λ _. (refl, refl));
+    stands = λ world told. let a = each_schema (by texts texts false) limits each (Some name) world in (a.0, record { answer = a.1; still = λ _. refl }, cut_nothing (share_of a.0) s.streams, λ _. (refl, refl));
     files = refl;
     apart = λ _. (refl, refl);
     kept = refl;
@@ -117,24 +118,35 @@ module _ (by : BySchema) (limits : Limits) (name : List ℕ) (names : List (List
     told_is world told = file_is limits name old.inputs.files world.files bytes told front
 
     -- the schema was refused
-    pub schema_refused : (r : Refusal) (result : Result Bool Stop) → Answers {X = Schema} file_start (schema_of limits bytes) (Err (Refused r))
-        → Writes (λ share. share ≡ refusal_share name r) result old new → Ends needs (UnderSchema by limits (Some name)) result old new
-    schema_refused r result answers wrote =
+    pub schema_refused : (texts : List (List ℕ)) (r : Refusal) (result : Result Bool Stop) → Answers {X = Schema} file_start (schema_of limits bytes) (Err (Refused r))
+        → Writes (λ share. share ≡ refusal_share name r) result old new → Ends needs (UnderBuilder by limits (Some name) texts texts (is_ended result)) result old new
+    schema_refused texts r result answers wrote =
         let cause = answered_refused file_start (schema_of limits bytes) r answers in
-        ends_written needs (UnderSchema by limits (Some name)) (λ share. share ≡ refusal_share name r) (Some (File name)) result old new
-        (λ world told share is. refused name refl cause.0 (told_is world (told.files name first_there) ∙ cause.1)
-        (ap (λ (s : Share). file_part name s ∷ []) (is ∙ ap (λ (x : Refusal). refusal_share name x) cause.2))) wrote
+        ends_written needs (UnderBuilder by limits (Some name) texts texts (is_ended result)) (λ share. share ≡ refusal_share name r) (Some (File name)) result old new
+        (λ world told share is. record {
+          answer = refused name refl cause.0 (told_is world (told.files name first_there) ∙ cause.1)
+              (ap (λ (s : Share). file_part name s ∷ []) (is ∙ ap (λ (x : Refusal). refusal_share name x) cause.2));
+          still = λ _. refl;
+        }) wrote
 
     -- and the command answered under it
-    pub schema_given : (given : Schema) (result : Result Bool Stop) → Answers file_start (schema_of limits bytes) (Ok given)
-        → Ends (record { names = names; events = events }) (by (Some given)) result old new → Ends needs (UnderSchema by limits (Some name)) result old new
-    schema_given given result answers e =
-        ends_behind needs (record { names = names; events = events }) (file_part name no_share ∷ []) refl later_there refl (by (Some given)) (UnderSchema by limits (Some name)) result old new
-        (λ world told ps other. under name refl given (told_is world (told.files name first_there) ∙ answered_ok file_start (schema_of limits bytes) given answers) ps other refl) e
+    pub schema_given : (before after : List (List ℕ)) (ended : Bool) (given : Schema) (result : Result Bool Stop) → Answers file_start (schema_of limits bytes) (Ok given)
+        → Ends (record { names = names; events = events }) (by before after ended (Some given)) result old new → Ends needs (UnderBuilder by limits (Some name) before after ended) result old new
+    schema_given before after ended given result answers e =
+        ends_behind needs (record { names = names; events = events }) (file_part name no_share ∷ []) refl later_there refl (by before after ended (Some given)) (UnderBuilder by limits (Some name) before after ended)
+        result old new
+        (λ world told ps other.
+        let taken : schema_of limits (contents world.files name) ≡ Ok given = told_is world (told.files name first_there) ∙ answered_ok file_start (schema_of limits bytes) given answers in
+        record { answer = under name refl given taken ps other refl; still = λ refused_so. absurd (not_both refused_so.0 (sym taken ∙ refused_so.1)) }) e
+      where
+        not_both : (code : ℕ) → Ok given ≡ Err code → ⊥
+        not_both code same = cc
 
 -- no schema is named
-pub none_named : (by : BySchema) (limits : Limits) (schema : Option (List ℕ)) (names : List (List ℕ)) (events : Bool) (result : Result Bool Stop) (old new : State) → schema ≡ None
-    → Ends (record { names = names; events = events }) (by None) result old new → Ends (record { names = names_with schema names; events = events }) (UnderSchema by limits schema) result old new
-none_named by limits None names events result old new is e =
-    ends_as (record { names = names; events = events }) (by None) (UnderSchema by limits None) result old new (λ w ps other. without refl other) e
-none_named by limits (Some name) names events result old new is e = absurd cc
+pub none_named : (by : ByBuilder) (limits : Limits) (schema : Option (List ℕ)) (before after : List (List ℕ)) (ended : Bool) (names : List (List ℕ)) (events : Bool) (result : Result Bool Stop) (old new : State) → schema ≡ None
+    → Ends (record { names = names; events = events }) (by before after ended None) result old new
+    → Ends (record { names = names_with schema names; events = events }) (UnderBuilder by limits schema before after ended) result old new
+none_named by limits None before after ended names events result old new is e =
+    ends_as (record { names = names; events = events }) (by before after ended None) (UnderBuilder by limits None before after ended) result old new
+    (λ w ps other. record { answer = without refl other; still = λ none. absurd none }) e
+none_named by limits (Some name) before after ended names events result old new is e = absurd cc

@@ -5,16 +5,16 @@ use Rattle.answer_parts.specs.Input.{World, Needs}
 use Rattle.answer_parts.specs.Parts.{Part}
 use Rattle.event_reading.specs.SchemaOf.{schema_of}
 use Rattle.event_schema.specs.declared.schema.Schema.{Schema}
-use Rattle.rule_building.specs.Unbuilt.{Unbuilt}
+use Rattle.rule_building.specs.Unbuilt.{Unbuilt, refused_texts}
 use Rattle.rule_runs.specs.Runs.{AreOfSingle}
 use Rattle.sig_base.specs.declared.limits.Limits.{Limits}
 use Rattle.sigma_app.specs.Check.{CheckGives}
 use Rattle.sigma_app.specs.Convert.{ConvertGives}
 use Rattle.sigma_app.specs.Converted.{Converted}
-use Rattle.sigma_app.specs.Languages.{AskedAt, AreUnbuilt}
+use Rattle.sigma_app.specs.Languages.{AskedAt, AreOfQuery}
 use Rattle.sigma_app.specs.Ran.{Ran}
-use Rattle.sigma_app.specs.RuleFiles.{RuleFileAt, AreOfFiles, contents, paired}
-use Rattle.sigma_app.specs.UnderSchema.{UnderSchema}
+use Rattle.sigma_app.specs.RuleFiles.{RuleFileAt, AreOfFiles, all_texts, contents, paired}
+use Rattle.sigma_app.specs.UnderSchema.{UnderSchema, IsUnschemed}
 use Rattle.sigma_app.specs.declared.request.Request.{Request}
 use Rattle.sigma_app.specs.declared.request.Request.TheVariants.{Check, Convert, Run, Query}
 use Rattle.text_places.specs.Places.{CodeAt}
@@ -50,25 +50,25 @@ abbrev pub IsSchemed : Limits → Option (List ℕ) → World → Type 0
 IsSchemed limits None world = ⊤
 IsSchemed limits (Some schema) world = (given : Schema) × (schema_of limits (contents world.files schema) ≡ Ok given)
 
--- The places of rule files that are checked, converted or run, where the builder had refused the texts `before` and then has refused the texts
--- `after`: places of what it refused meanwhile.
+-- What the places are of rule files that are checked or converted, and of the one that is run, where the builder had refused the texts `before`
+-- and then has refused the texts `after`: behind the former those of these places, document by document, and nothing else.
 abbrev pub AreChecked : Limits → List (List ℕ) → List (List ℕ) → Bool → List (List ℕ) → World → Places → Type 0
-AreChecked limits before after ended rules world places =
-    (gained : List (List ℕ)) × (after ≡ before ++ gained) × AreOfFiles limits gained ended world places.documents rules
+AreChecked limits before after ended rules world places = (after ≡ before ++ all_texts places.documents) × AreOfFiles limits ended world places.documents rules
 
 abbrev pub AreRun : Limits → List (List ℕ) → List (List ℕ) → Bool → List ℕ → World → Places → Type 0
-AreRun limits before after ended rule world places =
-    (gained : List (List ℕ)) × (after ≡ before ++ gained) × AreOfSingle limits (contents world.files rule) gained ended places.rule
+AreRun limits before after ended rule world places = (after ≡ before ++ refused_texts places.rule) × AreOfSingle limits (contents world.files rule) ended places.rule
 
 -- These are such places where the builder had refused the texts `before` when the run began, and the texts `after` when it ended or was
--- cut off. Where a schema's file is named, it's said unless that is refused, since else no other file is read.
+-- cut off. Where a schema's file is named that is refused, no other file is read, and the builder refused nothing.
 abbrev pub ArePlaces : Limits → List (List ℕ) → List (List ℕ) → Bool → Request → World → Places → Type 0
 ArePlaces limits before after ended (Check rules) world places = AreChecked limits before after ended rules world places
 ArePlaces limits before after ended (Convert backend schema rules) world places =
-    IsSchemed limits schema world → AreChecked limits before after ended rules world places
-ArePlaces limits before after ended (Run schema rule) world places = IsSchemed limits schema world → AreRun limits before after ended rule world places
+    (IsSchemed limits schema world → AreChecked limits before after ended rules world places) × (IsUnschemed limits schema world → after ≡ before)
+ArePlaces limits before after ended (Run schema rule) world places =
+    (IsSchemed limits schema world → AreRun limits before after ended rule world places) × (IsUnschemed limits schema world → after ≡ before)
 ArePlaces limits before after ended (Query backend schema query) world places =
-    (given : Schema) → schema_of limits (contents world.files schema) ≡ Ok given → AreUnbuilt backend limits query before after ended given world places.query
+    ((given : Schema) → schema_of limits (contents world.files schema) ≡ Ok given → AreOfQuery backend limits query before after ended given world places.query)
+    × (IsUnschemed limits (Some schema) world → after ≡ before)
 
 -- the answer for some such places
 abbrev pub Answers : Limits → List (List ℕ) → List (List ℕ) → Bool → Request → World → List Part → Type 0

@@ -36,5 +36,5 @@ abbrev pub AskedAt : BackendName → Limits → List ℕ → List CodeAt → ByS
 AskedAt backend = queried.AskedAt (is_query backend) (is_within backend) (picks backend) (patterns backend) (refuses backend)
 
 -- these places of the query are refused for their regular expressions
-abbrev pub AreUnbuilt : BackendName → Limits → List ℕ → List (List ℕ) → List (List ℕ) → Bool → Schema → World → List CodeAt → Type 0
-AreUnbuilt backend = queried.AreUnbuilt (is_query backend) (is_within backend) (picks backend) (patterns backend) (refuses backend)
+abbrev pub AreOfQuery : BackendName → Limits → List ℕ → List (List ℕ) → List (List ℕ) → Bool → Schema → World → List CodeAt → Type 0
+AreOfQuery backend = queried.AreOfQuery (is_query backend) (is_within backend) (picks backend) (patterns backend) (refuses backend)

@@ -22,7 +22,7 @@ use Rattle.sigma_app.specs.Convert.{ConvertGives, ConvertMeans}
 use Rattle.sigma_app.specs.Converted.{Converted, RulesAt}
 use Rattle.sigma_app.specs.Languages.{AskedBy, AskedAt}
 use Rattle.sigma_app.specs.Ran.{RunGives, RanUnder, Ran}
-use Rattle.sigma_app.specs.RuleFiles.{ByTree, ByUnbuilt, Grown, BySome, DocumentGives, FileGives, FileGivesAt, contents}
+use Rattle.sigma_app.specs.RuleFiles.{ByTree, ByUnbuilt, DocumentGives, FileGivesAt, contents}
 use Rattle.sigma_app.specs.UnderSchema.{BySchema}
 use Rattle.sigma_app.specs.declared.request.Request.{Request}
 use Rattle.text_places.specs.Places.{CodeAt}
@@ -37,10 +37,6 @@ EachDocument by = (unbuilt : Unbuilt) (name : List ℕ) (document : Answer) → 
 
 abbrev pub EachFile : ByUnbuilt → Type 0
 EachFile by = (limits : Limits) (unbuilt : List Unbuilt) (name bytes : List ℕ) → (share : Share) × FileGivesAt by limits unbuilt name bytes share
-
--- the same for some places, whatever the builder refused, of an answer that is cut off
-abbrev pub EachCut : ByUnbuilt → Limits → Type 0
-EachCut by limits = (before after : List (List ℕ)) → Grown before after → (name bytes : List ℕ) → (share : Share) × FileGives (BySome by limits before after false) limits name bytes share
 
 -- each world has an answer, under each schema and where none is given
 abbrev pub EachUnder : BySchema → Type 0

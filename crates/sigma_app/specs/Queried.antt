@@ -38,7 +38,7 @@ module _ {Query : Type 0} (is_query : Schema → List ℕ → Query → Type 0) 
   -- These places of the query are refused for their regular expressions, each with its cause, where the builder had refused the texts
   -- `before` and then has refused the texts `after`: those that it gained are those that it refused in this run. Where the run came to its
   -- end, a query is refused for a regular expression only if the builder refused this one.
-  pub record AreUnbuilt (limits : Limits) (file : List ℕ) (before after : List (List ℕ)) (ended : Bool) (given : Schema) (world : World) (places : List CodeAt) : Type 0 where
+  pub record AreOfQuery (limits : Limits) (file : List ℕ) (before after : List (List ℕ)) (ended : Bool) (given : Schema) (world : World) (places : List CodeAt) : Type 0 where
     pub gained : List (List ℕ)
     pub follows : after ≡ before ++ gained
     pub are : AreRefused (patterns (contents world.files file)) gained places
@@ -49,7 +49,7 @@ module _ {Query : Type 0} (is_query : Schema → List ℕ → Query → Type 0) 
   abbrev pub AskedBy : Limits → List ℕ → ByBuilder
   AskedBy limits file before after ended None world parts = parts ≡ []
   AskedBy limits file before after ended (Some given) world parts =
-      (places : List CodeAt) × AreUnbuilt limits file before after ended given world places × AskedUnder limits file given places world parts
+      (places : List CodeAt) × AreOfQuery limits file before after ended given world places × AskedUnder limits file given places world parts
 
   -- the answer for these places
   abbrev pub AskedAt : Limits → List ℕ → List CodeAt → BySchema

@@ -4,7 +4,7 @@ use Rattle.answer_parts.specs.EventLines.{ByLine, EventLines}
 use Rattle.answer_parts.specs.Input.{World}
 use Rattle.answer_parts.specs.Parts.{Part, no_share}
 use Rattle.event_schema.specs.declared.schema.Schema.{Schema}
-use Rattle.rule_building.specs.Unbuilt.{Unbuilt}
+use Rattle.rule_building.specs.Unbuilt.{Unbuilt, refused_texts}
 use Rattle.rule_matching.specs.Matching.{Matches}
 use Rattle.rule_model.specs.Plain.{PlainRule}
 use Rattle.rule_runs.specs.Runs.{IsRun, IsNotRun, AreOfSingle}
@@ -30,12 +30,12 @@ pub data RanUnder (limits : Limits) (unbuilt : Unbuilt) (file : List ℕ) (given
   isnt_run : (r : Refusal) → IsNotRun unbuilt limits given (contents world.files file) r → parts ≡ file_part file (refusal_share file r) ∷ []
       → RanUnder limits unbuilt file given world parts
 
--- for some such places, where the builder had refused these texts before and then has refused those after
+-- For some such places, where the builder had refused the texts `before`, and then has refused the texts `after`: behind the former those of
+-- these places, and nothing else.
 pub record RanBySome (limits : Limits) (file : List ℕ) (before after : List (List ℕ)) (ended : Bool) (given : Option Schema) (world : World) (parts : List Part) : Type 0 where
   pub unbuilt : Unbuilt
-  pub gained : List (List ℕ)
-  pub follows : after ≡ before ++ gained
-  pub are : AreOfSingle limits (contents world.files file) gained ended unbuilt
+  pub follows : after ≡ before ++ refused_texts unbuilt
+  pub are : AreOfSingle limits (contents world.files file) ended unbuilt
   pub ran : RanUnder limits unbuilt file given world parts
 
 -- the rule of a file is run under the schema that is named, or else under the one that is made of the rule

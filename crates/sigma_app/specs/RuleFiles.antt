@@ -1,11 +1,12 @@
 -- What a file of rules is answered, document by document.
-use Rattle.std.specs.Prelude.{◌≡◌, ⊤, ℕ, Bool, List, [], ◌∷◌, ◌++◌, Some, unwrap_or}
-use Rattle.answer_parts.specs.Each.{AllShares}
+use Rattle.std.specs.Prelude.{◌≡◌, ◌≤◌, ℕ, Bool, List, [], ◌∷◌, ◌++◌, length, map, Some, unwrap_or}
+use Rattle.std.specs.List.{flat_map}
+use Rattle.answer_parts.specs.Each.{AllShares, EachPart}
 use Rattle.answer_parts.specs.Input.{World, File}
 use Rattle.answer_parts.specs.Parts.{Share, Part}
 use Rattle.event_schema.specs.Lists.{EachOf}
 use Rattle.rule_building.specs.ForUnbuilt.{ForUnbuilt}
-use Rattle.rule_building.specs.Unbuilt.{Unbuilt, none_unbuilt, AreUnbuilt}
+use Rattle.rule_building.specs.Unbuilt.{Unbuilt, none_unbuilt, refused_texts, AreUnbuilt}
 use Rattle.sig_base.specs.Files.{file_at}
 use Rattle.sig_base.specs.declared.limits.Limits.{Limits}
 use Rattle.rule_runs.specs.Files.{yaml_refusal}
@@ -21,10 +22,6 @@ ByTree = List ℕ → Tree → Share → Type 0
 abbrev pub ByUnbuilt : Type 1
 ByUnbuilt = Unbuilt → ByTree
 
--- of the texts that the builder has refused, the first ones are those that it had refused before
-abbrev pub Grown : List (List ℕ) → List (List ℕ) → Type 0
-Grown before after = (gained : List (List ℕ)) × (after ≡ before ++ gained)
-
 -- for some such places, where the builder had refused these texts before and then has refused those after
 abbrev pub BySome : ByUnbuilt → Limits → List (List ℕ) → List (List ℕ) → Bool → ByTree
 BySome by limits before after ended name t share = ForUnbuilt limits t before after ended (λ unbuilt. by unbuilt name t share)
@@ -34,52 +31,76 @@ abbrev pub DocumentGives : ByTree → List ℕ → Answer → Share → Type 0
 DocumentGives by name (tree t) share = by name t share
 DocumentGives by name (refusal p) share = share ≡ refusal_share name (yaml_refusal p)
 
--- What a file is answered: one refusal where it is too large, no text, or has too many documents, and else an answer to
--- each of its documents with content, in their order.
-pub data FileGives (by : ByTree) (limits : Limits) (name bytes : List ℕ) (share : Share) : Type 0 where
-  as_one : (p : ℕ × At) → IsCallRefusal limits.file_bytes limits.documents bytes p → share ≡ refusal_share name (yaml_refusal p) → FileGives by limits name bytes share
-  by_document : (documents : List Answer) → IsTaken limits.file_bytes limits.documents limits.yaml_depth bytes documents
-      → AllShares (DocumentGives by name) documents share → FileGives by limits name bytes share
-
 -- the elements of the second list, each beside one of the first list, and behind its end beside this one
 abbrev pub paired : {A B : Type 0} → A → List A → List B → List (A × B)
 paired none firsts [] = []
 paired none [] (second ∷ seconds) = (none, second) ∷ paired none [] seconds
 paired none (first ∷ firsts) (second ∷ seconds) = (first, second) ∷ paired none firsts seconds
 
--- The same, where for each document in its order there are places at which its regular expressions aren't built; behind their end there
--- are none.
+-- What a file is answered: one refusal where it is too large, no text, or has too many documents, and else an answer to
+-- each of its documents with content, in their order. Beside each document are the places at which its regular expressions aren't built;
+-- behind their end there are none.
 pub data FileGivesAt (by : ByUnbuilt) (limits : Limits) (unbuilt : List Unbuilt) (name bytes : List ℕ) (share : Share) : Type 0 where
   as_one_at : (p : ℕ × At) → IsCallRefusal limits.file_bytes limits.documents bytes p → share ≡ refusal_share name (yaml_refusal p) → FileGivesAt by limits unbuilt name bytes share
   by_document_at : (documents : List Answer) → IsTaken limits.file_bytes limits.documents limits.yaml_depth bytes documents
       → AllShares (λ d. DocumentGives (by d.0) name d.1) (paired none_unbuilt unbuilt documents) share → FileGivesAt by limits unbuilt name bytes share
 
--- what the places are, of a document that is a tree
-abbrev pub AreOfDocument : Limits → List (List ℕ) → Bool → Unbuilt × Answer → Type 0
-AreOfDocument limits refused ended (unbuilt, tree t) = AreUnbuilt limits t refused ended unbuilt
-AreOfDocument limits refused ended (unbuilt, refusal p) = ⊤
-
--- and of each document of a file
-abbrev pub AreOfFile : Limits → List ℕ → List (List ℕ) → Bool → List Unbuilt → Type 0
-AreOfFile limits bytes refused ended unbuilt =
-    (documents : List Answer) → IsTaken limits.file_bytes limits.documents limits.yaml_depth bytes documents
-    → EachOf (AreOfDocument limits refused ended) (paired none_unbuilt unbuilt documents)
-
 -- the bytes of a file; one that isn't there counts as empty
 abbrev pub contents : List (List ℕ × List ℕ) → List ℕ → List ℕ
 contents files name = unwrap_or (file_at files name) []
 
--- the part of an answer that belongs to a rule file
-pub record RuleFile (by : ByTree) (limits : Limits) (name : List ℕ) (world : World) (part : Part) : Type 0 where
-  pub input : part.input ≡ Some (File name)
-  pub share : FileGives by limits name (contents world.files name) part.share
-
--- the same for each document's places
+-- the part of an answer that belongs to a rule file, with the places of its documents
 pub record RuleFileAt (by : ByUnbuilt) (limits : Limits) (file : List Unbuilt × List ℕ) (world : World) (part : Part) : Type 0 where
   pub input : part.input ≡ Some (File file.1)
   pub share : FileGivesAt by limits file.0 file.1 (contents world.files file.1) part.share
 
--- what the places are, of each of these files
-abbrev pub AreOfFiles : Limits → List (List ℕ) → Bool → World → List (List Unbuilt) → List (List ℕ) → Type 0
-AreOfFiles limits refused ended world unbuilt names =
-    EachOf (λ file. AreOfFile limits (contents world.files file.1) refused ended file.0) (paired [] unbuilt names)
+-- ---- what the places are
+
+-- of a document that is a tree; of one that YAML refuses there are none
+abbrev pub AreOfDocument : Limits → Bool → Unbuilt × Answer → Type 0
+AreOfDocument limits ended (unbuilt, tree t) = AreUnbuilt limits t ended unbuilt
+AreOfDocument limits ended (unbuilt, refusal p) = unbuilt ≡ none_unbuilt
+
+-- of each document of a file; there are no more, and none where the file is refused as one
+pub record AreOfFile (limits : Limits) (bytes : List ℕ) (ended : Bool) (unbuilt : List Unbuilt) : Type 0 where
+  pub each : (documents : List Answer) → IsTaken limits.file_bytes limits.documents limits.yaml_depth bytes documents
+      → EachOf (AreOfDocument limits ended) (paired none_unbuilt unbuilt documents) × (length unbuilt ≤ length documents)
+  pub whole : (p : ℕ × At) → IsCallRefusal limits.file_bytes limits.documents bytes p → unbuilt ≡ []
+
+-- of each of these files; there are no more
+abbrev pub AreOfFiles : Limits → Bool → World → List (List Unbuilt) → List (List ℕ) → Type 0
+AreOfFiles limits ended world unbuilt names =
+    EachOf (λ file. AreOfFile limits (contents world.files file.1) ended file.0) (paired [] unbuilt names) × (length unbuilt ≤ length names)
+
+-- the texts that the builder refused of a file's documents, in their order, and those of some files
+abbrev pub file_texts : List Unbuilt → List (List ℕ)
+file_texts unbuilt = flat_map refused_texts unbuilt
+
+abbrev pub all_texts : List (List Unbuilt) → List (List ℕ)
+all_texts unbuilt = flat_map file_texts unbuilt
+
+-- ---- answers for some such places, where the builder had refused the texts `before`, and then has refused the texts `after`: behind the
+-- former those of these places, and nothing else
+
+-- the share of some documents of a file, each with its places beside it
+pub record DocumentsBySome (by : ByUnbuilt) (limits : Limits) (before after : List (List ℕ)) (ended : Bool) (name : List ℕ) (documents : List Answer) (share : Share) : Type 0 where
+  pub placed : List (Unbuilt × Answer)
+  pub of : map (λ d. d.1) placed ≡ documents
+  pub follows : after ≡ before ++ file_texts (map (λ d. d.0) placed)
+  pub are : EachOf (AreOfDocument limits ended) placed
+  pub gives : AllShares (λ d. DocumentGives (by d.0) name d.1) placed share
+
+-- the share of a file
+pub record FileBySome (by : ByUnbuilt) (limits : Limits) (before after : List (List ℕ)) (ended : Bool) (name bytes : List ℕ) (share : Share) : Type 0 where
+  pub unbuilt : List Unbuilt
+  pub follows : after ≡ before ++ file_texts unbuilt
+  pub are : AreOfFile limits bytes ended unbuilt
+  pub gives : FileGivesAt by limits unbuilt name bytes share
+
+-- the parts of some files, each with its documents' places beside it
+pub record FilesBySome (by : ByUnbuilt) (limits : Limits) (before after : List (List ℕ)) (ended : Bool) (names : List (List ℕ)) (world : World) (parts : List Part) : Type 0 where
+  pub placed : List (List Unbuilt × List ℕ)
+  pub of : map (λ file. file.1) placed ≡ names
+  pub follows : after ≡ before ++ all_texts (map (λ file. file.0) placed)
+  pub are : EachOf (λ file. AreOfFile limits (contents world.files file.1) ended file.0) placed
+  pub each : EachPart (RuleFileAt by limits) placed world parts

@@ -65,18 +65,18 @@ ReadsNoEvents words = (request : Request) → IsAccepted words request → (need
 
 -- The texts of which the builder had refused to build regular expressions when the run began, and when it ended or was cut off: the later
 -- ones begin with the earlier ones.
-pub record Unbuilt : Type 0 where
+pub record RefusedTexts : Type 0 where
   pub before : List (List ℕ)
   pub after : List (List ℕ)
 
 -- regular expressions of the files of the words' request aren't built at these places in this run, which came to its end or didn't
-abbrev pub PlacesOf : Limits → Unbuilt → Bool → List (List ℕ) → World → Places → Type 0
-PlacesOf limits unbuilt ended words world places = (request : Request) → IsAccepted words request → ArePlaces limits unbuilt.before unbuilt.after ended request world places
+abbrev pub PlacesOf : Limits → RefusedTexts → Bool → List (List ℕ) → World → Places → Type 0
+PlacesOf limits texts ended words world places = (request : Request) → IsAccepted words request → ArePlaces limits texts.before texts.after ended request world places
 
 -- What a run that came to its end has written: its answer. And where that asks for no events, they stay as they are.
-abbrev pub Written : Limits → Unbuilt → List (List ℕ) → World → Status → Inputs → Inputs → Streams → Streams → Type 0
-Written limits unbuilt words world status before after old new =
-    (places : Places) × PlacesOf limits unbuilt true words world places × (parts : List Part) × Answer limits places words world status parts × Gains (share_of parts) old new
+abbrev pub Written : Limits → RefusedTexts → List (List ℕ) → World → Status → Inputs → Inputs → Streams → Streams → Type 0
+Written limits texts words world status before after old new =
+    (places : Places) × PlacesOf limits texts true words world places × (parts : List Part) × Answer limits places words world status parts × Gains (share_of parts) old new
     × (NoneOfEvents parts → EventsStay before after)
 
 -- The headline: what `convert` writes is, for each document that is a rule with a query, in order, the query and a line feed, and
@@ -84,35 +84,35 @@ Written limits unbuilt words world status before after old new =
 -- event of the given schema, or else of the one that is made of the rule, exactly where the rule matches it; and each other document
 -- has its one diagnostic, with the first cause for which it has no query, which is 48 only at a place of a regular expression that
 -- the builder refused in this run. Where the file that is named as the schema is none, its one diagnostic is all that is written.
-abbrev pub Headline : Limits → Unbuilt → List (List ℕ) → World → Streams → Streams → Type 0
-Headline limits unbuilt words world old new =
+abbrev pub Headline : Limits → RefusedTexts → List (List ℕ) → World → Streams → Streams → Type 0
+Headline limits texts words world old new =
     (backend : BackendName) (schema : Option (List ℕ)) (rules : List (List ℕ)) → IsAccepted words (Convert backend schema rules)
-    → (places : Places) × PlacesOf limits unbuilt true words world places
+    → (places : Places) × PlacesOf limits texts true words world places
     × (parts : List Part) × Converted (ConvertMeans backend limits) limits places.documents schema rules world parts × Gains (share_of parts) old new
 
 -- What stands where the run was cut off: a front of the answer's output, and of its diagnostics some whole ones and the beginning of at
 -- most one more.
-abbrev pub StandsCut : Limits → Unbuilt → List (List ℕ) → World → Streams → Streams → Type 0
-StandsCut limits unbuilt words world old new =
-    (places : Places) × PlacesOf limits unbuilt false words world places × (status : Status) × (parts : List Part) × Answer limits places words world status parts × Cut (share_of parts) old new
+abbrev pub StandsCut : Limits → RefusedTexts → List (List ℕ) → World → Streams → Streams → Type 0
+StandsCut limits texts words world old new =
+    (places : Places) × PlacesOf limits texts false words world places × (status : Status) × (parts : List Part) × Answer limits places words world status parts × Cut (share_of parts) old new
 
 -- What stands where an input couldn't be read: the answer's parts before the input, all of their output and all of their diagnostics, and
 -- then the diagnostic that names the input, or the beginning of it where it couldn't be written. The whole answer goes on behind those
 -- parts. (Of a file that the words name twice they're the parts before one of its places.) `left` is what is left of the events.
-abbrev pub StandsUnread : Limits → Unbuilt → List (List ℕ) → World → Stop → Input → Option (List ℕ) → Streams → Streams → Type 0
-StandsUnread limits unbuilt words world stop input left old new =
-    (request : Request) × IsAccepted words request × (parts : List Part) × Answers limits unbuilt.before unbuilt.after false request world parts
-    × StopsAt (Answers limits unbuilt.before unbuilt.after false request) world stop input parts left old new
+abbrev pub StandsUnread : Limits → RefusedTexts → List (List ℕ) → World → Stop → Input → Option (List ℕ) → Streams → Streams → Type 0
+StandsUnread limits texts words world stop input left old new =
+    (request : Request) × IsAccepted words request × (parts : List Part) × Answers limits texts.before texts.after false request world parts
+    × StopsAt (Answers limits texts.before texts.after false request) world stop input parts left old new
 
 -- what stands after a fault in writing, with or without an input that couldn't be read before it, or want of memory
-abbrev pub StandsAfter : Limits → Unbuilt → List (List ℕ) → World → Option Input → Option (List ℕ) → Streams → Streams → Type 0
-StandsAfter limits unbuilt words world None left old new = StandsCut limits unbuilt words world old new
-StandsAfter limits unbuilt words world (Some input) left old new = StandsUnread limits unbuilt words world Unwritten input left old new
+abbrev pub StandsAfter : Limits → RefusedTexts → List (List ℕ) → World → Option Input → Option (List ℕ) → Streams → Streams → Type 0
+StandsAfter limits texts words world None left old new = StandsCut limits texts words world old new
+StandsAfter limits texts words world (Some input) left old new = StandsUnread limits texts words world Unwritten input left old new
 
 -- Where the one answer asks for no events, these stay as they are, however the run ended.
-abbrev pub Unasked : Limits → Unbuilt → List (List ℕ) → World → Inputs → Inputs → Type 0
-Unasked limits unbuilt words world before after =
-    (places : Places) × PlacesOf limits unbuilt false words world places
+abbrev pub Unasked : Limits → RefusedTexts → List (List ℕ) → World → Inputs → Inputs → Type 0
+Unasked limits texts words world before after =
+    (places : Places) × PlacesOf limits texts false words world places
     × ((status : Status) (parts : List Part) → Answer limits places words world status parts → NoneOfEvents parts → EventsStay before after)
 
 -- An input of the words' request that couldn't be read in between, if there is one. Where there is none, writing failed and reading
@@ -122,19 +122,19 @@ MayBeUnread words status None before after = status ≡ WriteFault → NoReadFai
 MayBeUnread words status (Some input) before after = IsRead words input × WasUnread input before after
 
 -- all that is said of a run: what the inputs told before it and tell after it, and the streams
-pub record Serves (limits : Limits) (unbuilt : Unbuilt) (words : List (List ℕ)) (status : Status) (before after : Inputs) (old new : Streams) : Type 0 where
-  pub answer : IsAnswered status → (world : World) → Tells words before world → Written limits unbuilt words world status before after old new
-  pub headline : IsAnswered status → (world : World) → Tells words before world → Headline limits unbuilt words world old new
+pub record Serves (limits : Limits) (texts : RefusedTexts) (words : List (List ℕ)) (status : Status) (before after : Inputs) (old new : Streams) : Type 0 where
+  pub answer : IsAnswered status → (world : World) → Tells words before world → Written limits texts words world status before after old new
+  pub headline : IsAnswered status → (world : World) → Tells words before world → Headline limits texts words world old new
   pub usage : IsAnswered status → IsUnaccepted words → status ≡ Usage
   pub unaccepted : status ≡ Usage → IsUnaccepted words
   pub still : IsAnswered status → NoReadFailed before after × NoWriteFailed old new
   pub read_fault : status ≡ ReadFault → (input : Input) × IsRead words input × WasUnread input before after × NoWriteFailed old new
-      × ((world : World) → Tells words before world → StandsUnread limits unbuilt words world Unread input after.left old new)
+      × ((world : World) → Tells words before world → StandsUnread limits texts words world Unread input after.left old new)
   pub write_fault : status ≡ WriteFault → SomeWriteFailed old new
   pub after_fault : IsCutOff status → (unread : Option Input) × (status ≡ Memory → unread ≡ None) × MayBeUnread words status unread before after
-      × ((world : World) → Tells words before world → StandsAfter limits unbuilt words world unread after.left old new)
+      × ((world : World) → Tells words before world → StandsAfter limits texts words world unread after.left old new)
   pub apart : ReadsNoEvents words → EventsStay before after
-  pub unasked : (world : World) → Tells words before world → Unasked limits unbuilt words world before after
+  pub unasked : (world : World) → Tells words before world → Unasked limits texts words world before after
 
 -- what a shelf and a source tell
 abbrev pub inputs_of : {F S : Type 0} → (F → Option (List (List ℕ × List ℕ))) → (F → List (List ℕ)) → (S → Option (List ℕ)) → (S → ℕ) → F → S → Inputs

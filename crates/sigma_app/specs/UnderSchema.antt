@@ -37,3 +37,13 @@ pub data UnderSchema (by : BySchema) (limits : Limits) (schema : Option (List �
       → (others : List Part) → by (Some given) world others → parts ≡ file_part file no_share ∷ others → UnderSchema by limits schema world parts
   refused : (file : List ℕ) → schema ≡ Some file → (code : ℕ) → schema_of limits (contents world.files file) ≡ Err code
       → parts ≡ file_part file (refusal_share file (refusal code file_start)) ∷ [] → UnderSchema by limits schema world parts
+
+-- the schema's file is refused
+abbrev pub IsUnschemed : Limits → Option (List ℕ) → World → Type 0
+IsUnschemed limits None world = ⊥
+IsUnschemed limits (Some schema) world = (code : ℕ) × (schema_of limits (contents world.files schema) ≡ Err code)
+
+-- The same, where the builder had refused these texts before and has refused those after: none more where the schema is refused.
+pub record UnderBuilder (by : ByBuilder) (limits : Limits) (schema : Option (List ℕ)) (before after : List (List ℕ)) (ended : Bool) (world : World) (parts : List Part) : Type 0 where
+  pub answer : UnderSchema (by before after ended) limits schema world parts
+  pub still : IsUnschemed limits schema world → after ≡ before

@@ -1,16 +1,15 @@
 //! Answering rule files, document by document.
 
-ghost use Rattle.std.specs.Prelude.{◌≡◌, ◌||◌};
+ghost use Rattle.std.specs.Prelude.{◌≡◌, ◌||◌, ◌∷◌, []};
 ghost use Rattle.std.specs.List.{All};
-ghost use Rattle.answer_parts.specs.Each.{AllShares};
 ghost use Rattle.answer_parts.specs.Stands.{Writes};
 ghost use Rattle.rule_building.specs.Unbuilt.{Unbuilt};
 ghost use Rattle.sig_base.specs.declared.limits.Limits.{Limits as LimitsData};
 ghost use Rattle.sigma_app.specs.Reports.{refusal_share};
-ghost use Rattle.sigma_app.specs.RuleFiles.{ByUnbuilt, Grown, BySome, DocumentGives, FileGives};
-ghost use Rattle.sigma_app.specs.Laws.{EachTree, EachCut};
+ghost use Rattle.sigma_app.specs.RuleFiles.{ByUnbuilt, BySome, DocumentsBySome, FileBySome};
+ghost use Rattle.sigma_app.specs.Laws.{EachTree, EachFile};
 ghost use Rattle.sigma_app.specs.UnderSchema.{is_ended};
-ghost use Rattle.yaml_documents.specs.Given.{IsPlain};
+ghost use Rattle.yaml_documents.specs.Given.{IsPlain, answers_view};
 ghost use Rattle.yaml_tree.specs.View.{node_view, document_view};
 
 use crate::report::refusal_text;
@@ -52,10 +51,11 @@ pub(super) fn answer_bytes<T: TreeCommand, W: Outside, B: Builder>(
     outside: &mut W,
     builder: &mut B,
 ) -> Result<bool, Stop>
-    ensures writes { Writes (FileGives (BySome (T.gives command.now limits.now) limits.now (B.refused builder.old) (B.refused builder.new) (is_ended result)) limits.now name.now bytes.now) result (W.state outside.old) (W.state outside.new) }
-    ensures grown { Grown (B.refused builder.old) (B.refused builder.new) }
+    ensures { Writes (FileBySome (T.gives command.now limits.now) limits.now (B.refused builder.old) (B.refused builder.new) (is_ended result) name.now bytes.now) result (W.state outside.old) (W.state outside.new) }
 {
     each_file(command);
+    yaml_documents::laws::verdicts();
+    yaml_documents::laws::one_verdict();
     match read_documents(alloc, limits, bytes) {
         Ok(documents) => answer_documents(
             alloc,
@@ -71,9 +71,9 @@ pub(super) fn answer_bytes<T: TreeCommand, W: Outside, B: Builder>(
     }
 }
 
-/// Each file has an answer that is cut off.
+/// Each file has an answer, for any places.
 pub(super) fn each_file<T: TreeCommand>(command: &T)
-    ensures { (limits : LimitsData) → EachCut (T.gives command.now limits) limits }
+    ensures { (limits : LimitsData) → EachFile (T.gives command.now limits) }
 {
     command.each_tree();
     yaml_documents::laws::verdicts();
@@ -89,8 +89,7 @@ fn answer_documents<T: TreeCommand, W: Outside, B: Builder>(
     builder: &mut B,
 ) -> Result<bool, Stop>
     requires { All IsPlain documents.now }
-    ensures writes { Writes (AllShares (λ d. DocumentGives (BySome (T.gives command.now limits.now) limits.now (B.refused builder.old) (B.refused builder.new) (is_ended result)) name.now (document_view d)) documents.now) result (W.state outside.old) (W.state outside.new) }
-    ensures grown { Grown (B.refused builder.old) (B.refused builder.new) }
+    ensures { Writes (DocumentsBySome (T.gives command.now limits.now) limits.now (B.refused builder.old) (B.refused builder.new) (is_ended result) name.now (answers_view documents.now)) result (W.state outside.old) (W.state outside.new) }
 {
     command.each_tree();
     let mut found = false;
@@ -119,8 +118,7 @@ fn answer_document<T: TreeCommand, W: Outside, B: Builder>(
     builder: &mut B,
 ) -> Result<bool, Stop>
     requires { IsPlain document.now }
-    ensures writes { Writes (DocumentGives (BySome (T.gives command.now limits.now) limits.now (B.refused builder.old) (B.refused builder.new) (is_ended result)) name.now (document_view document.now)) result (W.state outside.old) (W.state outside.new) }
-    ensures grown { Grown (B.refused builder.old) (B.refused builder.new) }
+    ensures { Writes (DocumentsBySome (T.gives command.now limits.now) limits.now (B.refused builder.old) (B.refused builder.new) (is_ended result) name.now (document_view document.now ∷ [])) result (W.state outside.old) (W.state outside.new) }
 {
     match document {
         Document::Tree(node) => command.answer(alloc, limits, name, node, outside, builder),

@@ -1,10 +1,9 @@
 //! Going through rule files.
 
 ghost use Rattle.std.specs.Prelude.{◌≡◌, ◌∷◌, [], false, Contains};
-ghost use Rattle.answer_parts.specs.Each.{EachPart};
 ghost use Rattle.answer_parts.specs.Stands.{Ends};
 ghost use Rattle.answer_parts.specs.Input.{Needs};
-ghost use Rattle.sigma_app.specs.RuleFiles.{Grown, BySome, RuleFile};
+ghost use Rattle.sigma_app.specs.RuleFiles.{FilesBySome};
 ghost use Rattle.sigma_app.specs.UnderSchema.{is_ended};
 
 use crate::documents::{TreeCommand, answer_bytes, each_file, either};
@@ -22,8 +21,7 @@ pub(super) fn answer_files<T: TreeCommand, W: Outside, B: Builder>(
     outside: &mut W,
     builder: &mut B,
 ) -> Result<bool, Stop>
-    ensures ends { Ends (record { names = names.now; events = false }) (EachPart (RuleFile (BySome (T.gives command.now limits.now) limits.now (B.refused builder.old) (B.refused builder.new) (is_ended result)) limits.now) names.now) result (W.state outside.old) (W.state outside.new) }
-    ensures grown { Grown (B.refused builder.old) (B.refused builder.new) }
+    ensures { Ends (record { names = names.now; events = false }) (FilesBySome (T.gives command.now limits.now) limits.now (B.refused builder.old) (B.refused builder.new) (is_ended result) names.now) result (W.state outside.old) (W.state outside.new) }
 {
     each_file(command);
     let mut found = false;
@@ -45,8 +43,7 @@ fn answer_file<T: TreeCommand, W: Outside, B: Builder>(
     outside: &mut W,
     builder: &mut B,
 ) -> Result<bool, Stop>
-    ensures ends { (needs : Needs) → Contains needs.names name.now → Ends (record { names = needs.names; events = false }) (EachPart (RuleFile (BySome (T.gives command.now limits.now) limits.now (B.refused builder.old) (B.refused builder.new) (is_ended result)) limits.now) (name.now ∷ [])) result (W.state outside.old) (W.state outside.new) }
-    ensures grown { Grown (B.refused builder.old) (B.refused builder.new) }
+    ensures { (needs : Needs) → Contains needs.names name.now → Ends (record { names = needs.names; events = false }) (FilesBySome (T.gives command.now limits.now) limits.now (B.refused builder.old) (B.refused builder.new) (is_ended result) (name.now ∷ [])) result (W.state outside.old) (W.state outside.new) }
 {
     each_file(command);
     match read_file(alloc, name, limits.file_bytes + 1, outside) {

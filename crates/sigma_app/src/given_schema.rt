@@ -5,7 +5,7 @@ ghost use Rattle.answer_parts.specs.Stands.{Ends};
 ghost use Rattle.sig_base.specs.Files.{IsFront};
 ghost use Rattle.sigma_app.specs.Answers.{names_with};
 ghost use Rattle.sigma_app.specs.Laws.{EachUnder};
-ghost use Rattle.sigma_app.specs.UnderSchema.{ByBuilder, UnderSchema, is_ended};
+ghost use Rattle.sigma_app.specs.UnderSchema.{ByBuilder, UnderBuilder, is_ended};
 
 use crate::documents::put_refusal;
 use answer_parts::{Outside, Stop, read_file};
@@ -47,7 +47,7 @@ pub(crate) fn answer_schema<T: SchemaCommand, W: Outside, B: Builder>(
     outside: &mut W,
     builder: &mut B,
 ) -> Result<bool, Stop>
-    ensures { Ends (record { names = names_with schema.now (T.names command.now); events = T.events command.now }) (UnderSchema (T.by command.now (B.refused builder.old) (B.refused builder.new) (is_ended result)) limits.now schema.now) result (W.state outside.old) (W.state outside.new) }
+    ensures { Ends (record { names = names_with schema.now (T.names command.now); events = T.events command.now }) (UnderBuilder (T.by command.now) limits.now schema.now (B.refused builder.old) (B.refused builder.new) (is_ended result)) result (W.state outside.old) (W.state outside.new) }
 {
     match schema {
         Some(name) => answer_under(alloc, limits, command, name, outside, builder),
@@ -64,7 +64,7 @@ pub(crate) fn answer_under<T: SchemaCommand, W: Outside, B: Builder>(
     outside: &mut W,
     builder: &mut B,
 ) -> Result<bool, Stop>
-    ensures { Ends (record { names = name.now ∷ T.names command.now; events = T.events command.now }) (UnderSchema (T.by command.now (B.refused builder.old) (B.refused builder.new) (is_ended result)) limits.now (Some name.now)) result (W.state outside.old) (W.state outside.new) }
+    ensures { Ends (record { names = name.now ∷ T.names command.now; events = T.events command.now }) (UnderBuilder (T.by command.now) limits.now (Some name.now) (B.refused builder.old) (B.refused builder.new) (is_ended result)) result (W.state outside.old) (W.state outside.new) }
 {
     command.each_under();
     match read_file(alloc, name, limits.file_bytes + 1, outside) {
@@ -92,7 +92,7 @@ fn answer_read<T: SchemaCommand, W: Outside, B: Builder>(
     builder: &mut B,
 ) -> Result<bool, Stop>
     ensures { IsFront (W.state outside.old).inputs.files name.now (limits.now.file_bytes + 1) bytes.now
-        → Ends (record { names = name.now ∷ T.names command.now; events = T.events command.now }) (UnderSchema (T.by command.now (B.refused builder.old) (B.refused builder.new) (is_ended result)) limits.now (Some name.now)) result (W.state outside.old) (W.state outside.new) }
+        → Ends (record { names = name.now ∷ T.names command.now; events = T.events command.now }) (UnderBuilder (T.by command.now) limits.now (Some name.now) (B.refused builder.old) (B.refused builder.new) (is_ended result)) result (W.state outside.old) (W.state outside.new) }
 {
     command.each_under();
     match read_schema(alloc, limits, bytes) {

@@ -6,7 +6,7 @@ ghost use Rattle.answer_parts.specs.Stands.{Ends};
 ghost use Rattle.answer_parts.specs.State.{NoWriteFailed, SomeWriteFailed, NoReadFailed};
 ghost use Rattle.answer_parts.specs.declared.stop.Stop.TheVariants.{Unread};
 ghost use Rattle.sigma_app.specs.Answers.{Answers, needs_of};
-ghost use Rattle.sigma_app.specs.Served.{Unbuilt, Serves, IsAnswered, IsCutOff, Tells, IsRead, MayBeUnread, ReadsNoEvents, Written, Headline, StandsAfter, StandsUnread, Unasked, inputs_of, streams_of};
+ghost use Rattle.sigma_app.specs.Served.{RefusedTexts, Serves, IsAnswered, IsCutOff, Tells, IsRead, MayBeUnread, ReadsNoEvents, Written, Headline, StandsAfter, StandsUnread, Unasked, inputs_of, streams_of};
 ghost use Rattle.sigma_app.specs.UnderSchema.{is_ended};
 ghost use Rattle.sigma_app.specs.Words.{IsUnaccepted};
 
@@ -131,8 +131,8 @@ fn answer_words<W: Outside, B: Builder>(
 
 /// Tells that the words aren't accepted.
 fn refuse_words<W: Outside>(outside: &mut W) -> Status
-    ensures serves { (limits : Limits) (unbuilt : Unbuilt) (words : List (List ℕ)) → IsUnaccepted words
-        → Serves limits unbuilt words result (W.state outside.old).inputs (W.state outside.new).inputs (W.state outside.old).streams (W.state outside.new).streams }
+    ensures serves { (limits : Limits) (texts : RefusedTexts) (words : List (List ℕ)) → IsUnaccepted words
+        → Serves limits texts words result (W.state outside.old).inputs (W.state outside.new).inputs (W.state outside.old).streams (W.state outside.new).streams }
     ensures kept { (W.state outside.new).references ≡ (W.state outside.old).references }
 {
     match tell_diagnostic(b"sigma: bad usage\n", outside) {
@@ -152,8 +152,6 @@ fn answer_request<W: Outside, B: Builder>(
 ) -> Result<bool, Stop>
     ensures { Ends (needs_of request.now) (Answers limits.now (B.refused builder.old) (B.refused builder.new) (is_ended result) request.now) result (W.state outside.old) (W.state outside.new) }
 {
-    yaml_documents::laws::verdicts();
-    yaml_documents::laws::one_verdict();
     match request {
         Request::Check { rules } => {
             answer_files(alloc, &Check, limits, rules.as_slice(), outside, builder)

@@ -9,7 +9,7 @@ ghost use Rattle.sigma_app.specs.Convert.{ConvertGives};
 ghost use Rattle.sigma_app.specs.Converted.{RulesBySome};
 ghost use Rattle.sigma_app.specs.Laws.{EachTree, EachUnder};
 ghost use Rattle.sigma_app.specs.RuleFiles.{BySome};
-ghost use Rattle.sigma_app.specs.UnderSchema.{UnderSchema, is_ended};
+ghost use Rattle.sigma_app.specs.UnderSchema.{UnderBuilder, is_ended};
 ghost use Rattle.yaml_tree.specs.View.{node_view};
 
 use crate::documents::{TreeCommand, put_refusal};
@@ -79,8 +79,6 @@ impl SchemaCommand for ConvertFiles<'_, '_> {
         outside: &mut W,
         builder: &mut B,
     ) -> Result<bool, Stop> {
-        yaml_documents::laws::verdicts();
-        yaml_documents::laws::one_verdict();
         let command = Convert {
             backend: self.backend,
             schema: given,
@@ -103,7 +101,7 @@ pub(crate) fn answer_convert<W: Outside, B: Builder>(
     outside: &mut W,
     builder: &mut B,
 ) -> Result<bool, Stop>
-    ensures { Ends (record { names = names_with schema.now rules.now; events = false }) (UnderSchema (RulesBySome (ConvertGives backend limits.now) limits.now rules.now (B.refused builder.old) (B.refused builder.new) (is_ended result)) limits.now schema.now) result (W.state outside.old) (W.state outside.new) }
+    ensures { Ends (record { names = names_with schema.now rules.now; events = false }) (UnderBuilder (RulesBySome (ConvertGives backend limits.now) limits.now rules.now) limits.now schema.now (B.refused builder.old) (B.refused builder.new) (is_ended result)) result (W.state outside.old) (W.state outside.new) }
 {
     answer_schema(
         alloc,

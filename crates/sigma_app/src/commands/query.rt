@@ -6,7 +6,7 @@ ghost use Rattle.query_runs.specs.Asked.{most_bytes};
 ghost use Rattle.sig_base.specs.Files.{IsFront};
 ghost use Rattle.sigma_app.specs.Languages as named;
 ghost use Rattle.sigma_app.specs.Queried.{AskedBy};
-ghost use Rattle.sigma_app.specs.UnderSchema.{UnderSchema, is_ended};
+ghost use Rattle.sigma_app.specs.UnderSchema.{UnderBuilder, is_ended};
 
 use crate::documents::put_refusal;
 use crate::given_schema::{SchemaCommand, answer_under};
@@ -132,7 +132,7 @@ pub(crate) fn answer_query<W: Outside, B: Builder>(
     builder: &mut B,
 ) -> Result<bool, Stop>
     ensures { Ends (record { names = schema.now ∷ query.now ∷ []; events = true })
-        (UnderSchema (named.AskedBy backend limits.now query.now (B.refused builder.old) (B.refused builder.new) (is_ended result)) limits.now (Some schema.now))
+        (UnderBuilder (named.AskedBy backend limits.now query.now) limits.now (Some schema.now) (B.refused builder.old) (B.refused builder.new) (is_ended result))
         result (W.state outside.old) (W.state outside.new) }
 {
     let command = QueryFile {

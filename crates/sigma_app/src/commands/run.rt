@@ -12,7 +12,7 @@ ghost use Rattle.rule_schema.specs.Inferred.{schema_for};
 ghost use Rattle.sig_base.specs.Files.{IsFront};
 ghost use Rattle.sigma_app.specs.Answers.{names_with};
 ghost use Rattle.sigma_app.specs.Ran.{RunGives, RanBySome};
-ghost use Rattle.sigma_app.specs.UnderSchema.{UnderSchema, is_ended};
+ghost use Rattle.sigma_app.specs.UnderSchema.{UnderBuilder, is_ended};
 
 use crate::documents::put_refusal;
 use crate::given_schema::{SchemaCommand, answer_schema};
@@ -22,12 +22,12 @@ use detection_eval::{Judge, Ready};
 use event_reading::read_event;
 use event_schema::Schema;
 use languages::Builder;
-use rule_model::{Rule, one_rule};
+use rule_model::Rule;
 use rule_runs::{rule_alone, rule_under};
 use selected_lines::put_picked;
 use sig_base::{Bytes, Fault, Limits, Text};
 use std::alloc::Global;
-use yaml_documents::laws::one_verdict;
+use yaml_documents::laws::{one_verdict, verdicts};
 
 /// Runs the rule of a file.
 #[derive(Drop)]
@@ -154,7 +154,7 @@ fn run_rule<W: Outside, B: Builder>(
         → Ends (record { names = file.now ∷ []; events = true }) (RanBySome limits.now file.now before (B.refused builder.new) (is_ended result) given) result (W.state outside.old) (W.state outside.new) }
 {
     each_answer();
-    one_rule();
+    verdicts();
     one_verdict();
     match Ready::make(alloc, schema, rule, builder) {
         Ok(ready) => answer_events(alloc, limits, schema, rule, &ready, outside),
@@ -233,7 +233,7 @@ pub(crate) fn answer_run<W: Outside, B: Builder>(
     outside: &mut W,
     builder: &mut B,
 ) -> Result<bool, Stop>
-    ensures { Ends (record { names = names_with schema.now (rule.now ∷ []); events = true }) (UnderSchema (RanBySome limits.now rule.now (B.refused builder.old) (B.refused builder.new) (is_ended result)) limits.now schema.now) result (W.state outside.old) (W.state outside.new) }
+    ensures { Ends (record { names = names_with schema.now (rule.now ∷ []); events = true }) (UnderBuilder (RanBySome limits.now rule.now) limits.now schema.now (B.refused builder.old) (B.refused builder.new) (is_ended result)) result (W.state outside.old) (W.state outside.new) }
 {
     answer_schema(
         alloc,

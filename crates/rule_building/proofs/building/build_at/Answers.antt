@@ -1,27 +1,23 @@
-use Rattle.std.proofs.Common.{◌≡◌, refl}
+use Rattle.std.proofs.Common.{◌≡◌}
 use Rattle.languages.specs.declared.search.Search.{Search}
 use Rattle.rule_items.specs.declared.expression.Expression.{Expression}
-use Rattle.rule_building.proofs.BuiltRows.{none_reached, told_built, told_unbuilt}
+use Rattle.rule_building.proofs.BuiltRows.{is_refused}
 use Rattle.rule_building.proofs.building.build_at.Goals as goal
 
 pub returns-in-Ok : goal.returns-in-Ok
-returns-in-Ok g c =
-    let e : Expression = record { place = c.args.place; text = c.args.text } in
-    told_built (λ (search : Search). search.text ≡ c.args.text) e _ _ c.in-Ok.search c.in-Ok.ensures.refused c.in-Ok.ensures.text
+returns-in-Ok g c = (c.in-Ok.ensures.refused, c.in-Ok.ensures.text)
 
 pub returns-in-Err-Memory : goal.returns-in-Err-Memory
-returns-in-Err-Memory g c =
-    let told = rw c.in-Err-Memory.field-0-is at c.in-Err-Memory.ensures in
-    none_reached (λ (search : Search). search.text ≡ c.args.text) _ _ _ _ told.refused refl
+returns-in-Err-Memory g c = let told = rw c.in-Err-Memory.field-0-is at c.in-Err-Memory.ensures in told.refused
 
 pub returns-in-Err-Syntax : goal.returns-in-Err-Syntax
 returns-in-Err-Syntax g c =
     let e : Expression = record { place = c.args.place; text = c.args.text } in
     let told = rw c.in-Err-Syntax.field-0-is at c.in-Err-Syntax.ensures in
-    told_unbuilt (λ (search : Search). search.text ≡ c.args.text) e _ _ c.refused.result told.refused.0 c.refused.ensures
+    is_refused (λ (search : Search). search.text ≡ c.args.text) e _ _ c.refused.result c.refused.ensures told.refused.0
 
 pub returns-in-Err-Refused : goal.returns-in-Err-Refused
 returns-in-Err-Refused g c =
     let e : Expression = record { place = c.args.place; text = c.args.text } in
     let told = rw c.in-Err-Refused.field-0-is at c.in-Err-Refused.ensures in
-    told_unbuilt (λ (search : Search). search.text ≡ c.args.text) e _ _ c.refused-in-Err-Refused.result told.refused c.refused-in-Err-Refused.ensures
+    is_refused (λ (search : Search). search.text ≡ c.args.text) e _ _ c.refused-in-Err-Refused.result c.refused-in-Err-Refused.ensures told.refused

@@ -1,12 +1,13 @@
 use Rattle.std.proofs.Common.{ℕ, ◌≡◌, ◌<◌, ◌+◌, ◌∙◌, ◌∷◌, ◌++◌, [], List, Vec, Global, length, get_or, take, map, ap, refl, subst, sym}
-use Rattle.std.specs.Prelude.{Result, Ok, Err}
+use Rattle.std.specs.Prelude.{Result, Err}
 use Rattle.std.proofs.lemmas.List.{map-append}
 use Rattle.languages.specs.declared.search.Search.{Search}
 use Rattle.rule_building.specs.Building.{Builds}
 use Rattle.rule_items.specs.declared.expression.Expression.{Expression}
 use Rattle.sig_base.proofs.Firsts.{from_error}
 use Rattle.sig_base.specs.declared.refusal.Fault.{Fault}
-use Rattle.rule_building.proofs.BuiltRows.{taken, built_none, built_more, built_stop, builds_no_memory, none_reached}
+use Rattle.rule_building.proofs.BuiltRows.{stops_at, no_memory}
+use Rattle.rule_building.proofs.Lists.{taken}
 use Rattle.rule_building.proofs.building.build_searches.Goals as goal
 
 abbrev Searches : List Expression → Vec Search Global → Type 0
@@ -43,13 +44,7 @@ returns-in_err-searches g c =
     let before = g.B.Builder.refused c.args.builder.now in
     let es = c.args.expressions.now in
     from_error (Answered es before before) c.from_residual.result _ _ c.from_residual.ensures.1 (λ y p. p)
-    (none_reached (Searches es) es before before _ refl refl)
-
-pub loop-expression-init : goal.loop-expression-init
-loop-expression-init g c = record {
-  built = built_none (g.B.Builder.refused c.args.builder.now);
-  texts = ap (map (λ (search : Search). search.text)) c.in_ok-searches.ensures.items;
-}
+    (no_memory (Searches es) es before before _ refl refl)
 
 pub returns-in_err-text : goal.returns-in_err-text
 returns-in_err-text g c =
@@ -58,7 +53,7 @@ returns-in_err-text g c =
     let now = g.B.Builder.refused at.builder in
     let es = c.args.expressions.now in
     from_error (Answered es before now) c.from_residual-in_err-text.result c.in_err-text.field-0.0 _ c.from_residual-in_err-text.ensures.1 (λ y p. p)
-    (builds_no_memory (λ (done : Unit {0}). Unit {0}) (Searches es) _ es before now _ _ at.invariant.built c.in_err-text.ensures.err)
+    (no_memory (Searches es) es before now _ c.in_err-text.ensures.err at.invariant.built)
 
 pub returns-in_err-search : goal.returns-in_err-search
 returns-in_err-search g c =
@@ -68,9 +63,9 @@ returns-in_err-search g c =
     let es = c.args.expressions.now in
     let e = c.expression-item.result in
     from_error (Answered es before after) c.from_residual-in_err-search.result c.in_err-search.field-0.0 _ c.from_residual-in_err-search.ensures.1 (λ y p. p)
-    (built_stop (IsSearch e) (Searches es) es at.expression-index e before (g.B.Builder.refused at.builder) after c.in_err-search.field-0.0
+    (stops_at (IsSearch e) (Searches es) es at.expression-index e before (g.B.Builder.refused at.builder) after c.in_err-search.field-0.0
     c.loop-expression-test.true c.expression-item.is at.invariant.built
-    (of_copy e c.in_ok-text.text _ after _ (c.in_ok-text.ensures.ok ∙ c.as_str.ensures.chars) c.in_err-search.ensures))
+    (of_copy e c.in_ok-text.text _ after (Err c.in_err-search.field-0.0) (c.in_ok-text.ensures.ok ∙ c.as_str.ensures.chars) c.in_err-search.ensures))
 
 pub returns-in_err-push : goal.returns-in_err-push
 returns-in_err-push g c =
@@ -78,25 +73,18 @@ returns-in_err-push g c =
     let before = g.B.Builder.refused c.args.builder.now in
     let after = g.B.Builder.refused c.build_at.new.builder in
     let es = c.args.expressions.now in
-    let e = c.expression-item.result in
     from_error (Answered es before after) c.from_residual-in_err-push.result _ _ c.from_residual-in_err-push.ensures.1 (λ y p. p)
-    (builds_no_memory (λ (done : Unit {0}). Unit {0}) (Searches es) (take (at.expression-index + 1) es) es before after _ _
-    (built_more (IsSearch e) es at.expression-index e before (g.B.Builder.refused at.builder) after c.in_ok-search.search c.loop-expression-test.true c.expression-item.is at.invariant.built
-    (of_copy e c.in_ok-text.text _ after _ (c.in_ok-text.ensures.ok ∙ c.as_str.ensures.chars) c.in_ok-search.ensures)) refl)
+    (no_memory (Searches es) es before after _ refl (c.in_ok-search.ensures.0 ∙ at.invariant.built))
 
 pub loop-expression-preserved : goal.loop-expression-preserved
 loop-expression-preserved g c =
     let at = c.loop-expression in
-    let before = g.B.Builder.refused c.args.builder.now in
-    let now = g.B.Builder.refused at.builder in
-    let after = g.B.Builder.refused c.build_at.new.builder in
     let es = c.args.expressions.now in
     let e = c.expression-item.result in
     let search = c.in_ok-search.search in
-    let one : Builds (IsSearch e) (e ∷ []) now after (Ok search) =
-    of_copy e c.in_ok-text.text now after (Ok search) (c.in_ok-text.ensures.ok ∙ c.as_str.ensures.chars) c.in_ok-search.ensures in
     record {
-      built = built_more (IsSearch e) es at.expression-index e before now after search c.loop-expression-test.true c.expression-item.is at.invariant.built one;
+      built = c.in_ok-search.ensures.0 ∙ at.invariant.built;
       texts = ap (map text_of) c.in_ok-push.ensures.items
-          ∙ texts_more at.searches.items search es e at.expression-index c.loop-expression-test.true c.expression-item.is at.invariant.texts one.judged.1;
+          ∙ texts_more at.searches.items search es e at.expression-index c.loop-expression-test.true c.expression-item.is at.invariant.texts
+          (c.in_ok-search.ensures.1 ∙ (c.in_ok-text.ensures.ok ∙ c.as_str.ensures.chars));
     }

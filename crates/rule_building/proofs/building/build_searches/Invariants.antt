@@ -1,9 +1,8 @@
 use Rattle.std.proofs.Common.{◌≡◌, map, take}
-use Rattle.rule_building.proofs.BuiltRows.{Built}
 use Rattle.rule_building.proofs.building.build_searches.Given as goal
 
 abbrev pub invariant-loop-expression : goal.invariant-loop-expression
 invariant-loop-expression g l = record {
-  built : Built (take l.expression-index l.expressions) (g.B.Builder.refused l.initial.builder) (g.B.Builder.refused l.builder);
+  built : g.B.Builder.refused l.builder ≡ g.B.Builder.refused l.initial.builder;
   texts : map (λ search. search.text) l.searches.items ≡ map (λ e. e.text) (take l.expression-index l.expressions);
 }

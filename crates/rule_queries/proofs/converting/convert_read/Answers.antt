@@ -10,7 +10,7 @@ use Rattle.rule_queries.proofs.converting.convert_read.Goals as goal
 pub returns-in-Ok : goal.returns-in-Ok
 returns-in-Ok g c =
     let t = node_view c.args.node.now in
-    one_read g.B.Lacking.missing g.B.Backend.text g.B.Backend.too_deep c.one_rule.ensures c.args.limits.now (option_map (λ s. s.now) c.args.given) t (rest_of t) (rule_view c.in-Ok.rule)
+    one_read g.B.Lacking.missing g.B.Backend.text g.B.Backend.too_deep c.args.limits.now (option_map (λ s. s.now) c.args.given) t (rest_of t) (rule_view c.in-Ok.rule)
     c.args.unbuilt.now _ _ c.convert_rule.result c.in-Ok.ensures.judged c.convert_rule.ensures
 
 pub returns-in-Err : goal.returns-in-Err

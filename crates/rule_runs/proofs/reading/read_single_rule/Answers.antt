@@ -3,7 +3,7 @@ use Rattle.rule_runs.proofs.reading.read_single_rule.Goals as goal
 
 pub returns-in-Ok : goal.returns-in-Ok
 returns-in-Ok g c =
-    of_slice c.args.limits.now c.args.bytes.now _ _ c.one_verdict.ensures.list c.in-Ok.documents.items c.as_slice.result.now c.read_only.result c.as_slice.ensures.value c.in-Ok.ensures.taken
+    of_slice c.args.limits.now c.args.bytes.now _ _ c.verdicts.ensures.never_both c.one_verdict.ensures.list c.in-Ok.documents.items c.as_slice.result.now c.read_only.result c.as_slice.ensures.value c.in-Ok.ensures.taken
     c.read_only.ensures
 
 pub returns-in-Err : goal.returns-in-Err

@@ -1,14 +1,8 @@
 use Rattle.std.proofs.Common.{List, subst}
-use Rattle.answer_parts.proofs.Rows.{shares_of}
-use Rattle.answer_parts.proofs.Wrote.{writes_as}
-use Rattle.answer_parts.specs.Each.{AllShares}
 use Rattle.answer_parts.specs.Stands.{Writes}
-use Rattle.sigma_app.proofs.Documented.{Gives, file_answered, file_refused, file_memory}
-use Rattle.sigma_app.proofs.Grown.{grown_nothing}
-use Rattle.sigma_app.specs.RuleFiles.{BySome, DocumentGives}
+use Rattle.sigma_app.proofs.Documented.{Documents, file_answered, file_refused, file_memory}
 use Rattle.sigma_app.specs.UnderSchema.{is_ended}
 use Rattle.yaml_documents.specs.Given.{answers_view}
-use Rattle.yaml_tree.specs.View.{document_view}
 use Rattle.yaml_tree.specs.declared.tree.Document.{Document}
 use Rattle.sigma_app.proofs.documents.answer_bytes.Goals as goal
 
@@ -20,33 +14,19 @@ returns-in-Ok g c =
     let after = g.B.Builder.refused c.answer_documents.new.builder in
     let ended = is_ended c.answer_documents.result in
     let gives = g.T.TreeCommand.gives c.args.command.now limits in
-    let by = BySome gives limits before after ended in
     let old = g.W.Outside.state c.args.outside.now in
     let new = g.W.Outside.state c.answer_documents.new.outside in
-    record {
-      writes = file_answered by limits name c.args.bytes.now (answers_view c.in-Ok.documents.items) c.answer_documents.result old new c.in-Ok.ensures.taken
-          (writes_as (AllShares (Gives gives limits name before after ended) c.in-Ok.documents.items) (AllShares (DocumentGives by name) (answers_view c.in-Ok.documents.items)) c.answer_documents.result old new
-          (shares_of document_view (DocumentGives by name) c.in-Ok.documents.items)
-          (subst (λ (ds : List Document). Writes (AllShares (Gives gives limits name before after ended) ds) c.answer_documents.result old new) c.as_slice.ensures.value c.answer_documents.ensures.writes));
-      grown = c.answer_documents.ensures.grown;
-    }
+    file_answered gives limits name c.args.bytes.now c.verdicts.ensures.never_both c.one_verdict.ensures.list before after ended (answers_view c.in-Ok.documents.items) c.answer_documents.result old new c.in-Ok.ensures.taken
+    (subst (λ (ds : List Document). Writes (Documents gives limits name before after ended (answers_view ds)) c.answer_documents.result old new) c.as_slice.ensures.value c.answer_documents.ensures)
 
 pub returns-in-Err-Refused : goal.returns-in-Err-Refused
 returns-in-Err-Refused g c =
     let limits = c.args.limits.now in
-    let refused = g.B.Builder.refused c.args.builder.now in
     let refused_so = rw c.in-Err-Refused.field-0-is at c.in-Err-Refused.ensures.refused in
-    record {
-      writes = file_refused (BySome (g.T.TreeCommand.gives c.args.command.now limits) limits refused refused (is_ended c.put_refusal.result)) limits c.args.name.now c.args.bytes.now
-          c.in-Err-Refused.refusal c.put_refusal.result (g.W.Outside.state c.args.outside.now) (g.W.Outside.state c.put_refusal.new.outside) refused_so c.put_refusal.ensures;
-      grown = grown_nothing refused;
-    }
+    file_refused (g.T.TreeCommand.gives c.args.command.now limits) limits c.args.name.now c.args.bytes.now c.verdicts.ensures.never_both (g.B.Builder.refused c.args.builder.now) (is_ended c.put_refusal.result)
+    c.in-Err-Refused.refusal c.put_refusal.result (g.W.Outside.state c.args.outside.now) (g.W.Outside.state c.put_refusal.new.outside) refused_so c.put_refusal.ensures
 
 pub returns-in-Err-Memory : goal.returns-in-Err-Memory
 returns-in-Err-Memory g c =
     let limits = c.args.limits.now in
-    let refused = g.B.Builder.refused c.args.builder.now in
-    record {
-      writes = file_memory (g.T.TreeCommand.gives c.args.command.now limits) limits (c.each_file.ensures limits) c.args.name.now c.args.bytes.now refused (g.W.Outside.state c.args.outside.now);
-      grown = grown_nothing refused;
-    }
+    file_memory (g.T.TreeCommand.gives c.args.command.now limits) limits c.args.name.now c.args.bytes.now (c.each_file.ensures limits) (g.B.Builder.refused c.args.builder.now) (g.W.Outside.state c.args.outside.now)

@@ -1,12 +1,10 @@
 use Rattle.std.proofs.Common.{take, Ok, true}
-use Rattle.answer_parts.specs.Each.{AllShares}
 use Rattle.answer_parts.specs.Stands.{Writes}
-use Rattle.sigma_app.proofs.Documented.{Gives}
-use Rattle.sigma_app.specs.RuleFiles.{Grown}
+use Rattle.sigma_app.proofs.Documented.{Documents}
+use Rattle.yaml_documents.specs.Given.{answers_view}
 use Rattle.sigma_app.proofs.documents.answer_documents.Given as goal
 
 abbrev pub invariant-loop-document : goal.invariant-loop-document
 invariant-loop-document g l =
-    Writes (AllShares (Gives (g.T.TreeCommand.gives l.command l.limits) l.limits l.name (g.B.Builder.refused l.fn.builder) (g.B.Builder.refused l.builder) true) (take l.document-index l.documents)) (Ok l.found)
+    Writes (Documents (g.T.TreeCommand.gives l.command l.limits) l.limits l.name (g.B.Builder.refused l.fn.builder) (g.B.Builder.refused l.builder) true (answers_view (take l.document-index l.documents))) (Ok l.found)
     (g.W.Outside.state l.fn.outside) (g.W.Outside.state l.outside)
-    × Grown (g.B.Builder.refused l.fn.builder) (g.B.Builder.refused l.builder)

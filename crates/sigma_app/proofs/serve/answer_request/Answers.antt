@@ -4,9 +4,9 @@ use Rattle.sigma_app.proofs.serve.answer_request.Goals as goal
 
 pub returns-in-Check : goal.returns-in-Check
 returns-in-Check g c =
-    let e = rw c.as_slice.ensures at c.answer_files.ensures.ends in
-    rw c.in-Check.is (check_answers c.verdicts.ensures.never_both c.one_verdict.ensures.list c.args.limits.now _ (g.B.Builder.refused c.args.builder.now) (g.B.Builder.refused c.answer_files.new.builder)
-    c.answer_files.ensures.grown (is_ended c.answer_files.result) _ c.answer_files.result (g.W.Outside.state c.args.outside.now) (g.W.Outside.state c.answer_files.new.outside) e)
+    let e = rw c.as_slice.ensures at c.answer_files.ensures in
+    rw c.in-Check.is (check_answers c.args.limits.now _ (g.B.Builder.refused c.args.builder.now) (g.B.Builder.refused c.answer_files.new.builder)
+    (is_ended c.answer_files.result) _ c.answer_files.result (g.W.Outside.state c.args.outside.now) (g.W.Outside.state c.answer_files.new.outside) e)
 
 pub returns-in-Convert : goal.returns-in-Convert
 returns-in-Convert g c =

@@ -1,4 +1,4 @@
-use Rattle.std.proofs.Common.{◌≡◌, ◌∙◌, ℕ, Bool, List, length, map, ap, drop, subst, arith}
+use Rattle.std.proofs.Common.{◌≡◌, ◌∙◌, ℕ, Bool, List, length, ap, drop, subst, arith}
 use Rattle.sig_conditions.specs.Formulas.{forms_of, forms_view, some_true}
 use Rattle.sig_conditions.specs.declared.formula.Formula.{Formula}
 use Rattle.detection_eval.specs.Ready.{AreTruths, ready_view, searches_view}

@@ -1,7 +1,7 @@
-use Rattle.std.proofs.Common.{◌≡◌, ◌∙◌, ℕ, List, [], Err, Ok, Vec, Global, ap, append-nil, refl, subst}
+use Rattle.std.proofs.Common.{◌≡◌, ◌∙◌, ℕ, List, Err, Ok, Vec, Global, ap, refl, subst}
 use Rattle.std.proofs.lemmas.Result.{IfOk-weaker}
 use Rattle.languages.specs.declared.search.Search.{Search}
-use Rattle.rule_building.proofs.BuiltRows.{builds_stop, none_reached}
+use Rattle.rule_building.proofs.BuiltRows.{fault_so, no_memory}
 use Rattle.rule_building.specs.Building.{Builds}
 use Rattle.rule_items.specs.declared.expression.Expression.{Expression}
 use Rattle.rule_model.specs.Expressions.{rule_expressions}
@@ -23,7 +23,7 @@ returns-in_err-expressions g c =
     let Stands : Ready → Type 0 = StandsFor c.args.schema.now.fields rule in
     record {
       answers = from_error (Builds Stands es refused refused) c.from_residual.result c.in_err-expressions.field-0.0 _ c.from_residual.ensures.1 (λ e p. p)
-          (none_reached Stands es refused refused _ refl c.in_err-expressions.ensures.err);
+          (no_memory Stands es refused refused _ c.in_err-expressions.ensures.err refl);
     }
 
 pub returns-in_err-searches : goal.returns-in_err-searches
@@ -37,7 +37,7 @@ returns-in_err-searches g c =
     let builds = subst (λ (xs : List Expression). Builds (AreBuilt xs) xs before after (Err fault)) (c.as_slice.ensures ∙ c.in_ok-expressions.ensures.ok) c.in_err-searches.ensures in
     record {
       answers = from_error (Builds Stands es before after) c.from_residual-in_err-searches.result fault _ c.from_residual-in_err-searches.ensures.1 (λ e p. p)
-          (subst (λ (xs : List Expression). Builds Stands xs before after (Err fault)) (append-nil es) (builds_stop (AreBuilt es) Stands es [] before after fault builds));
+          (fault_so (AreBuilt es) Stands es before after fault builds);
     }
 
 pub returns : goal.returns

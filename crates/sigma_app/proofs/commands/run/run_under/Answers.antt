@@ -1,6 +1,7 @@
 use Rattle.std.specs.Prelude.{Some}
-use Rattle.std.proofs.Common.{refl}
-use Rattle.sigma_app.proofs.Ran.{each_ran_cut, run_unfit, run_memory}
+use Rattle.std.proofs.Common.{refl, false}
+use Rattle.rule_building.specs.Unbuilt.{of_values}
+use Rattle.sigma_app.proofs.Ran.{run_unfit, run_memory, values_follow}
 use Rattle.sigma_app.proofs.commands.run.run_under.Goals as goal
 
 pub returns-in-Ok : goal.returns-in-Ok
@@ -19,5 +20,5 @@ returns-in-Err-Memory g c front =
     let found = rw c.in-Err-Memory.field-0-is at c.in-Err-Memory.ensures in
     let before = g.B.Builder.refused c.args.builder.now in
     let after = g.B.Builder.refused c.rule_under.new.builder in
-    run_memory c.args.limits.now c.args.file.now (Some c.args.schema.now) before after (each_ran_cut c.each_answer.ensures.ran c.args.limits.now c.args.file.now before after (found.gained, found.follows))
-    (g.W.Outside.state c.args.outside.now)
+    run_memory c.args.limits.now c.args.file.now (Some c.args.schema.now) c.each_answer.ensures.ran before after c.args.bytes.now (g.W.Outside.state c.args.outside.now) front (of_values found.values found.refused)
+    (values_follow c.args.limits.now c.args.file.now (Some c.args.schema.now) before after found.values found.refused found.follows) false found.are

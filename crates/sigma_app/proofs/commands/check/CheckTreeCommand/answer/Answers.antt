@@ -1,10 +1,10 @@
-use Rattle.std.proofs.Common.{◌≡◌, ◌∙◌, ap, Ok, Err}
+use Rattle.std.proofs.Common.{◌≡◌, ◌∙◌, ap, true, false, Ok, Err}
 use Rattle.answer_parts.specs.Lines.{ended}
 use Rattle.answer_parts.specs.Parts.{text_share}
 use Rattle.rule_queries.specs.Verdicts.{CheckAnswers}
-use Rattle.sig_base.specs.declared.refusal.Fault.TheVariants.{Refused}
+use Rattle.sig_base.specs.declared.refusal.Fault.TheVariants.{Memory, Refused}
 use Rattle.sig_base.specs.declared.refusal.Place.{Place}
-use Rattle.sigma_app.proofs.Grown.{tree_wrote, tree_memory}
+use Rattle.sigma_app.proofs.Trees.{tree_wrote, tree_memory}
 use Rattle.sigma_app.specs.Check.{CheckGives, is_rule, no_rule}
 use Rattle.sigma_app.specs.Reports.{ok_line, refusal_share}
 use Rattle.yaml_tree.specs.View.{node_view}
@@ -21,15 +21,17 @@ returns-in-Ok-ok_text g c =
 pub returns-in-Err : goal.returns-in-Err
 returns-in-Err g c =
     let limits = c.args.limits.now in
-    tree_memory (CheckGives limits) limits c.args.name.now (node_view c.args.node.now) (c.each_tree.ensures limits) (g.B.Builder.refused c.args.builder.now) (g.B.Builder.refused c.check_node.new.builder)
-    (c.in-Ok.ensures.gained, c.in-Ok.ensures.follows) (g.W.Outside.state c.args.outside.now)
+    let t = node_view c.args.node.now in
+    tree_memory (CheckGives limits) limits c.args.name.now t (λ unbuilt. CheckAnswers unbuilt limits t (Ok c.in-Ok.place)) (c.each_tree.ensures limits) (g.B.Builder.refused c.args.builder.now)
+    (g.B.Builder.refused c.check_node.new.builder) true c.in-Ok.ensures (g.W.Outside.state c.args.outside.now)
 
 pub returns-in-Err-Memory : goal.returns-in-Err-Memory
 returns-in-Err-Memory g c =
     let limits = c.args.limits.now in
     let found = rw c.in-Err-Memory.field-0-is at c.in-Err-Memory.ensures in
-    tree_memory (CheckGives limits) limits c.args.name.now (node_view c.args.node.now) (c.each_tree.ensures limits) (g.B.Builder.refused c.args.builder.now) (g.B.Builder.refused c.check_node.new.builder)
-    (found.gained, found.follows) (g.W.Outside.state c.args.outside.now)
+    let t = node_view c.args.node.now in
+    tree_memory (CheckGives limits) limits c.args.name.now t (λ unbuilt. CheckAnswers unbuilt limits t (Err Memory)) (c.each_tree.ensures limits) (g.B.Builder.refused c.args.builder.now)
+    (g.B.Builder.refused c.check_node.new.builder) false found (g.W.Outside.state c.args.outside.now)
 
 pub returns-in-Err-Refused : goal.returns-in-Err-Refused
 returns-in-Err-Refused g c =

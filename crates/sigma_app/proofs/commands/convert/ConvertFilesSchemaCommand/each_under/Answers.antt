@@ -1,6 +1,5 @@
-use Rattle.sigma_app.proofs.Grown.{grown_nothing}
 use Rattle.sigma_app.proofs.Laws.{each_converted_cut}
 use Rattle.sigma_app.proofs.commands.convert.ConvertFilesSchemaCommand.each_under.Goals as goal
 
 pub returns : goal.returns
-returns c = λ refused. each_converted_cut c.each_answer.ensures.converted c.args.self.now.backend c.args.self.now.limits.now c.args.self.now.rules.now refused refused (grown_nothing refused)
+returns c = λ refused. each_converted_cut c.each_answer.ensures.file c.args.self.now.backend c.args.self.now.limits.now c.args.self.now.rules.now refused

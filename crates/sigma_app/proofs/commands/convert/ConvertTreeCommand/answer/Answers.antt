@@ -1,8 +1,9 @@
-use Rattle.std.proofs.Common.{◌≡◌, ◌∙◌, ap}
+use Rattle.std.proofs.Common.{◌≡◌, ◌∙◌, ap, false, Err}
 use Rattle.std.specs.Prelude.{option_map}
-use Rattle.rule_queries.specs.NamedQueries.{query_of, IsConverted, IsRefused}
+use Rattle.rule_queries.specs.NamedQueries.{query_of, ConvertAnswers, IsConverted, IsRefused}
 use Rattle.rule_model.specs.Plain.{PlainRule}
-use Rattle.sigma_app.proofs.Grown.{tree_wrote, tree_memory}
+use Rattle.sigma_app.proofs.Trees.{tree_wrote, tree_memory}
+use Rattle.sig_base.specs.declared.refusal.Fault.TheVariants.{Memory}
 use Rattle.sigma_app.specs.Convert.{ConvertGives, has_query, no_query}
 use Rattle.sigma_app.specs.Reports.{line_share, refusal_share}
 use Rattle.yaml_tree.specs.View.{node_view}
@@ -22,8 +23,11 @@ pub returns-in-Err-Memory : goal.returns-in-Err-Memory
 returns-in-Err-Memory g c =
     let limits = c.args.limits.now in
     let found = rw c.in-Err-Memory.field-0-is at c.in-Err-Memory.ensures in
-    tree_memory (ConvertGives c.args.self.now.backend limits (option_map (λ s. s.now) c.args.self.now.schema)) limits c.args.name.now (node_view c.args.node.now) (c.each_tree.ensures limits)
-    (g.B.Builder.refused c.args.builder.now) (g.B.Builder.refused c.convert_node.new.builder) (found.gained, found.follows) (g.W.Outside.state c.args.outside.now)
+    let backend = c.args.self.now.backend in
+    let given = option_map (λ s. s.now) c.args.self.now.schema in
+    let t = node_view c.args.node.now in
+    tree_memory (ConvertGives backend limits given) limits c.args.name.now t (λ unbuilt. ConvertAnswers backend unbuilt limits given t (Err Memory)) (c.each_tree.ensures limits)
+    (g.B.Builder.refused c.args.builder.now) (g.B.Builder.refused c.convert_node.new.builder) false found (g.W.Outside.state c.args.outside.now)
 
 pub returns-in-Err-Refused : goal.returns-in-Err-Refused
 returns-in-Err-Refused g c =

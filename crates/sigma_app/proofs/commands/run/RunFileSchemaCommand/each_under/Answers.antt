@@ -1,6 +1,5 @@
-use Rattle.sigma_app.proofs.Grown.{grown_nothing}
 use Rattle.sigma_app.proofs.Ran.{each_ran_cut}
 use Rattle.sigma_app.proofs.commands.run.RunFileSchemaCommand.each_under.Goals as goal
 
 pub returns : goal.returns
-returns c = λ refused. each_ran_cut c.each_answer.ensures.ran c.args.self.now.limits.now c.args.self.now.rule.now refused refused (grown_nothing refused)
+returns c = λ refused. each_ran_cut c.each_answer.ensures.ran c.args.self.now.limits.now c.args.self.now.rule.now refused
