@@ -1,10 +1,11 @@
 -- Building regular expressions that follow one another.
-use Rattle.std.proofs.Common.{ℕ, ◌≡◌, ◌<◌, ◌∙◌, Bool, true, false, not, ◌||◌, ◌==◌, List, [], ◌∷◌, ◌++◌, length, get_or, map, inl, inr, refl, sym, ap, subst, append-nil}
+use Rattle.std.proofs.Common.{ℕ, ◌≡◌, ◌<◌, ◌∙◌, Bool, true, false, not, ◌||◌, ◌==◌, List, [], ◌∷◌, ◌++◌, length, get_or, map, inl, inr, refl, sym, ap, subst, append-nil, ◌+◌, take}
 use Rattle.std.specs.Prelude.{Some, None, Result, Ok, Err}
 use Rattle.std.specs.List.{list_any}
 use Rattle.std.proofs.lemmas.Bool.{and_from, eq-eqb}
 use Rattle.event_schema.specs.Lists.{SomeOf}
-use Rattle.rule_building.specs.Building.{Builds}
+use Rattle.languages.specs.Patterns.{is_pattern}
+use Rattle.rule_building.specs.Building.{ArePatterns, Builds}
 use Rattle.rule_building.specs.Unbuilt.{unbuilt_refusal, ArePlacesOf, IsOneOf}
 use Rattle.rule_items.specs.declared.expression.Expression.{Expression}
 use Rattle.rule_model.proofs.Places.{same_place, among}
@@ -14,7 +15,7 @@ use Rattle.sig_base.specs.declared.refusal.Fault.TheVariants.{Memory, Refused}
 use Rattle.sig_base.specs.declared.refusal.Place.{Place}
 use Rattle.sig_base.specs.declared.refusal.Refusal.{Refusal}
 use Rattle.value_patterns.specs.Expressions.{is_same_place}
-use Rattle.rule_building.proofs.Lists.{of_one, some_at, some_map, some_one}
+use Rattle.rule_building.proofs.Lists.{each_joined, of_one, some_at, some_map, some_one, taken}
 
 some_is : (x y : Refusal) → Some x ≡ Some y → x ≡ y
 some_is x y e = cc
@@ -86,6 +87,11 @@ pub is_refused : {X : Type 0} (Is : X → Type 0) (e : Expression) (before after
     → Builds Is (e ∷ []) before after (Err f)
 is_refused Is e before after f is more = subst (λ (g : Fault). Builds Is (e ∷ []) before after (Err g)) (sym is) (inl (refl, more))
 
+-- what is built is read by the grammar, one after the other
+pub patterns_more : (es : List Expression) (i : ℕ) (e : Expression) → i < length es → e ≡ get_or es i e → ArePatterns (take i es) → is_pattern e.text ≡ true → ArePatterns (take (i + 1) es)
+patterns_more es i e below is so_far one =
+    subst ArePatterns (sym (taken es i e below is)) (each_joined (λ (x : Expression). is_pattern x.text ≡ true) (take i es) (e ∷ []) so_far (one, tt))
+
 -- ---- the places at which none is built
 
 -- what is answered, as the refusal for these places decides, which are those of the texts that the builder refused
@@ -99,7 +105,7 @@ pub record BuiltAt {X : Type 0} (Is : X → Type 0) (es : List Expression) (befo
 pub built_at : {X : Type 0} (Is : X → Type 0) (es : List Expression) (before after : List (List ℕ)) (result : Result X Fault) → Builds Is es before after result
     → BuiltAt Is es before after result
 built_at Is es before after (Ok x) built =
-    record { items = []; refused = []; follows = built.0 ∙ sym (append-nil before); places = tt; judged = (none_refused es, built.1) }
+    record { items = []; refused = []; follows = built.0 ∙ sym (append-nil before); places = tt; judged = (none_refused es, built.2) }
 built_at Is es before after (Err Memory) built = record { items = []; refused = []; follows = built ∙ sym (append-nil before); places = tt; judged = tt }
 built_at Is es before after (Err (Refused r)) built =
     let (e, there, is) = some_one (IsRefused before after r) es built in

@@ -2,7 +2,7 @@
 use Rattle.std.specs.Prelude.{◌≡◌, ℕ, Bool, true, false, List, [], ◌∷◌, ◌++◌, Result, Ok, Err}
 use Rattle.std.specs.declared.alloc.Global.{Global}
 use Rattle.std.specs.declared.vec.Vec.{Vec}
-use Rattle.event_schema.specs.Lists.{SomeOf}
+use Rattle.event_schema.specs.Lists.{EachOf, SomeOf}
 use Rattle.languages.specs.Patterns.{is_pattern}
 use Rattle.rule_items.specs.declared.expression.Expression.{Expression}
 use Rattle.sig_base.specs.Judged.{refusal}
@@ -33,9 +33,12 @@ pub record FoundUnbuilt (expressions : List Expression) (before after : List (Li
   pub follows : after ≡ before ++ refused
   pub finds : FindsUnbuilt expressions refused result
 
--- All are built, and what is answered is so. Or memory was missing, and the builder refused none. Or it refused one, and no other: 48 is
--- answered at the place of this one.
+abbrev pub ArePatterns : List Expression → Type 0
+ArePatterns expressions = EachOf (λ e. is_pattern e.text ≡ true) expressions
+
+-- All are built, so that the grammar reads each, and what is answered is so. Or memory was missing, and the builder refused none. Or it
+-- refused one, and no other: 48 is answered at the place of this one.
 abbrev pub Builds : {X : Type 0} → (X → Type 0) → List Expression → List (List ℕ) → List (List ℕ) → Result X Fault → Type 0
-Builds Is expressions before after (Ok x) = (after ≡ before) × Is x
+Builds Is expressions before after (Ok x) = (after ≡ before) × ArePatterns expressions × Is x
 Builds Is expressions before after (Err Memory) = after ≡ before
 Builds Is expressions before after (Err (Refused r)) = SomeOf (λ e. (r ≡ refusal 48 e.place) × (after ≡ before ++ e.text ∷ [])) expressions

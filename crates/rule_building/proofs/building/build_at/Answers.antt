@@ -1,11 +1,16 @@
-use Rattle.std.proofs.Common.{◌≡◌}
+use Rattle.std.proofs.Common.{ℕ, ◌≡◌, List, true, subst}
+use Rattle.languages.specs.Patterns.{is_pattern}
 use Rattle.languages.specs.declared.search.Search.{Search}
 use Rattle.rule_items.specs.declared.expression.Expression.{Expression}
 use Rattle.rule_building.proofs.BuiltRows.{is_refused}
 use Rattle.rule_building.proofs.building.build_at.Goals as goal
 
 pub returns-in-Ok : goal.returns-in-Ok
-returns-in-Ok g c = (c.in-Ok.ensures.refused, c.in-Ok.ensures.text)
+returns-in-Ok g c = (
+  c.in-Ok.ensures.refused,
+  (subst (λ (t : List ℕ). is_pattern t ≡ true) c.in-Ok.ensures.text c.in-Ok.ensures.pattern, tt),
+  c.in-Ok.ensures.text,
+)
 
 pub returns-in-Err-Memory : goal.returns-in-Err-Memory
 returns-in-Err-Memory g c = let told = rw c.in-Err-Memory.field-0-is at c.in-Err-Memory.ensures in told.refused

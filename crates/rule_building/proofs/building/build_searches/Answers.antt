@@ -1,12 +1,13 @@
-use Rattle.std.proofs.Common.{ℕ, ◌≡◌, ◌<◌, ◌+◌, ◌∙◌, ◌∷◌, ◌++◌, [], List, Vec, Global, length, get_or, take, map, ap, refl, subst, sym}
+use Rattle.std.proofs.Common.{ℕ, ◌≡◌, ◌<◌, ◌+◌, ◌∙◌, ◌∷◌, ◌++◌, [], List, Vec, Global, length, get_or, take, map, ap, refl, subst, sym, true}
 use Rattle.std.specs.Prelude.{Result, Err}
-use Rattle.std.proofs.lemmas.List.{map-append}
+use Rattle.std.proofs.lemmas.List.{map-append, take_all}
 use Rattle.languages.specs.declared.search.Search.{Search}
-use Rattle.rule_building.specs.Building.{Builds}
+use Rattle.languages.specs.Patterns.{is_pattern}
+use Rattle.rule_building.specs.Building.{ArePatterns, Builds}
 use Rattle.rule_items.specs.declared.expression.Expression.{Expression}
 use Rattle.sig_base.proofs.Firsts.{from_error}
 use Rattle.sig_base.specs.declared.refusal.Fault.{Fault}
-use Rattle.rule_building.proofs.BuiltRows.{stops_at, no_memory}
+use Rattle.rule_building.proofs.BuiltRows.{stops_at, no_memory, patterns_more}
 use Rattle.rule_building.proofs.Lists.{taken}
 use Rattle.rule_building.proofs.building.build_searches.Goals as goal
 
@@ -84,7 +85,19 @@ loop-expression-preserved g c =
     let search = c.in_ok-search.search in
     record {
       built = c.in_ok-search.ensures.0 ∙ at.invariant.built;
+      patterns = patterns_more es at.expression-index e c.loop-expression-test.true c.expression-item.is at.invariant.patterns
+          (subst (λ (t : List ℕ). is_pattern t ≡ true) (c.in_ok-text.ensures.ok ∙ c.as_str.ensures.chars) c.in_ok-search.ensures.1.0);
       texts = ap (map text_of) c.in_ok-push.ensures.items
           ∙ texts_more at.searches.items search es e at.expression-index c.loop-expression-test.true c.expression-item.is at.invariant.texts
-          (c.in_ok-search.ensures.1 ∙ (c.in_ok-text.ensures.ok ∙ c.as_str.ensures.chars));
+          (c.in_ok-search.ensures.2 ∙ (c.in_ok-text.ensures.ok ∙ c.as_str.ensures.chars));
     }
+
+pub returns : goal.returns
+returns g c =
+    let at = c.loop-expression in
+    let es = c.args.expressions.now in
+    let all = take_all at.expression-index es c.loop-expression-test.false in (
+      at.invariant.built,
+      subst ArePatterns all at.invariant.patterns,
+      subst (λ (xs : List Expression). map text_of at.searches.items ≡ map expression_text xs) all at.invariant.texts,
+    )
