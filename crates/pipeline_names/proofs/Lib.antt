@@ -1,0 +1,8 @@
+mod NameLists
+mod Legality
+mod Once
+mod Totals
+mod Fronts
+mod Knowing
+mod ViewLaw
+mod WholeNames

@@ -1,0 +1,7 @@
+pub mod Known
+pub mod Names
+pub mod Renamed
+pub mod Sizes
+pub mod Made
+pub mod View
+pub mod Kept

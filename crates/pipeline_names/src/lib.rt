@@ -1,0 +1,19 @@
+//! The steps of pipelines that change the names of a rule's fields.
+#![tactic(auto)]
+
+pub use law::{names_are_read, names_stay_whole};
+pub use renaming::rename;
+
+mod concerned;
+mod items;
+mod law;
+mod legal;
+mod list;
+mod made;
+mod mapping;
+mod names;
+mod references;
+mod renaming;
+mod room;
+#[cfg(test)]
+mod tests;

@@ -1,0 +1,147 @@
+//! Names in order, each once.
+
+ghost use Rattle.std.specs.Prelude.{◌≡◌, ◌++◌, ◌∷◌, [], IfOk, IfErr, OnOk};
+ghost use Rattle.pipeline_model.specs.Concerned as conditions;
+ghost use Rattle.pipeline_names.specs.Known.{AreKnown};
+ghost use Rattle.pipeline_names.specs.Made.{texts_made, AreUnfit};
+ghost use Rattle.pipeline_names.specs.Names as spec;
+
+use crate::made::{Made, joined};
+use crate::room::grown;
+use event_schema::is_legal;
+use sig_base::{Fault, Place, Text};
+use std::alloc::Global;
+use std::collections::BTreeSet;
+
+/// How many names may be there, and where it's refused if there are more.
+#[derive(Clone, Copy)]
+pub struct Most {
+    pub names: usize,
+    pub place: Place,
+}
+
+/// Names in order, and the set of them, in which each is found without a search through all.
+#[derive(Drop)]
+pub struct NameList {
+    pub names: Vec<Text>,
+    pub known: BTreeSet<String>,
+}
+
+impl NameList {
+    pub fn new(alloc: Global) -> NameList
+        ensures names { result.names.items ≡ [] }
+        ensures known { AreKnown result.names.items result.known }
+    {
+        NameList {
+            names: Vec::new(alloc),
+            known: BTreeSet::new(alloc),
+        }
+    }
+
+    fn contains(&self, name: &Text) -> bool
+        requires { AreKnown self.now.names.items self.now.known }
+        ensures { result ≡ conditions.is_among self.now.names.items name.now }
+    {
+        self.known.contains(name.as_str())
+    }
+
+    fn push(&mut self, alloc: Global, name: Text) -> Result<(), Fault>
+        requires { AreKnown self.old.names.items self.old.known }
+        ensures names { OnOk result (self.new.names.items ≡ self.old.names.items ++ name ∷ []) }
+        ensures known { OnOk result (AreKnown self.new.names.items self.new.known) }
+        ensures err { IfErr result (λ e. e ≡ Fault.Memory) }
+    {
+        let key = String::from_str(alloc, name.as_str())?;
+        self.known.insert(key)?;
+        self.names.push(name)?;
+        Ok(())
+    }
+
+    /// Refuses a name for which there is no room, or which isn't legal.
+    #[tactic(auto, using(crate::proofs::NameLists::no_room, crate::proofs::NameLists::not_legal))]
+    fn judge(&self, most: Most, name: &Text) -> Result<(), Fault>
+        ensures unfit { IfErr result (AreUnfit most.place most.names (self.now.names.items ++ name.now ∷ [])) }
+    {
+        if self.names.len() >= most.names {
+            return Err(grown(most.place));
+        }
+        if !is_legal(name) {
+            return Err(grown(most.place));
+        }
+        Ok(())
+    }
+
+    /// Adds the name behind the others, unless it is one of them.
+    #[tactic(auto, using(crate::proofs::NameLists::unfit_new))]
+    fn add(&mut self, alloc: Global, most: Most, name: Text) -> Result<(), Fault>
+        requires { AreKnown self.old.names.items self.old.known }
+        ensures ok { OnOk result (self.new.names.items ≡ spec.with_name self.old.names.items name) }
+        ensures known { OnOk result (AreKnown self.new.names.items self.new.known) }
+        ensures unfit { IfErr result (AreUnfit most.place most.names (spec.with_name self.old.names.items name)) }
+    {
+        if self.contains(&name) {
+            return Ok(());
+        }
+        self.judge(most, &name)?;
+        self.push(alloc, name)
+    }
+
+    /// Adds a copy of the text behind the others, unless it is one of them, however many there are.
+    fn put(&mut self, alloc: Global, text: &Text) -> Result<(), Fault>
+        requires { AreKnown self.old.names.items self.old.known }
+        ensures ok { OnOk result (self.new.names.items ≡ spec.with_name self.old.names.items text.now) }
+        ensures known { OnOk result (AreKnown self.new.names.items self.new.known) }
+        ensures err { IfErr result (λ e. e ≡ Fault.Memory) }
+    {
+        if self.contains(text) {
+            return Ok(());
+        }
+        self.push(alloc, Text::copy(alloc, text.as_str())?)
+    }
+
+    #[tactic(auto, using(crate::proofs::NameLists::more_added, crate::proofs::NameLists::unfit_with))]
+    fn add_each(
+        &mut self,
+        alloc: Global,
+        most: Most,
+        fronts: &[Text],
+        back: &Text,
+    ) -> Result<(), Fault>
+        requires { AreKnown self.old.names.items self.old.known }
+        ensures ok { OnOk result (self.new.names.items ≡ spec.with_names self.old.names.items (spec.each_before fronts.now back.now)) }
+        ensures known { OnOk result (AreKnown self.new.names.items self.new.known) }
+        ensures unfit { IfErr result (AreUnfit most.place most.names (spec.with_names self.old.names.items (spec.each_before fronts.now back.now))) }
+    {
+        for front in fronts {
+            self.add(alloc, most, joined(alloc, front, back)?)?;
+        }
+        Ok(())
+    }
+
+    /// Adds what is made of a name.
+    pub fn add_made(&mut self, alloc: Global, most: Most, made: Made) -> Result<(), Fault>
+        requires { AreKnown self.old.names.items self.old.known }
+        ensures ok { OnOk result (self.new.names.items ≡ spec.with_names self.old.names.items (texts_made made.entry)) }
+        ensures known { OnOk result (AreKnown self.new.names.items self.new.known) }
+        ensures unfit { IfErr result (AreUnfit most.place most.names (spec.with_names self.old.names.items (texts_made made.entry))) }
+    {
+        match made {
+            Made::One(text) => self.add(alloc, most, text),
+            Made::Each { fronts, back } => self.add_each(alloc, most, fronts, &back),
+        }
+    }
+}
+
+/// The texts without those that stand there before.
+#[tactic(auto, using(crate::proofs::NameLists::name_turn))]
+pub fn distinct(alloc: Global, texts: &[Text]) -> Result<Vec<Text>, Fault>
+    ensures ok { IfOk result (λ all. all.items ≡ spec.with_names [] texts.now) }
+    ensures err { IfErr result (λ e. e ≡ Fault.Memory) }
+{
+    let mut list = NameList::new(alloc);
+    for text in texts {
+        list.put(alloc, text)?;
+    }
+    let NameList { names, known: _ } = list;
+    Ok(names)
+}
