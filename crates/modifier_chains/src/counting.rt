@@ -32,12 +32,6 @@ fn is_windash(modifier: &Modifier) -> bool
     matches!(modifier, Modifier::Windash)
 }
 
-pub fn is_expand(modifier: &Modifier) -> bool
-    ensures { result ≡ kinds.is_expand modifier.now }
-{
-    matches!(modifier, Modifier::Expand)
-}
-
 fn is_units(modifier: &Modifier) -> bool
     ensures { result ≡ kinds.is_units modifier.now }
 {
@@ -167,7 +161,6 @@ fn is_text_word(modifier: &Modifier) -> bool
         || is_all(modifier)
         || is_cased(modifier)
         || is_windash(modifier)
-        || is_expand(modifier)
         || is_encoding(modifier)
         || is_units(modifier)
 }
@@ -190,17 +183,11 @@ fn has_windash(modifiers: &[Modifier]) -> bool
     modifiers.iter().any(is_windash)
 }
 
-fn has_expand(modifiers: &[Modifier]) -> bool
-    ensures { result ≡ list_any kinds.is_expand modifiers.now }
-{
-    modifiers.iter().any(is_expand)
-}
-
 /// Whether a modifier is there that no encoding stands together with.
 fn has_unencoded(modifiers: &[Modifier]) -> bool
     ensures { result ≡ chains.has_some_of kinds.unencoded_kinds modifiers.now }
 {
-    has_windash(modifiers) || has_expand(modifiers)
+    has_windash(modifiers)
 }
 
 fn one_position(modifiers: &[Modifier]) -> bool
@@ -227,12 +214,6 @@ fn one_windash(modifiers: &[Modifier]) -> bool
     modifiers.iter().filter(|m| is_windash(m)).count() <= 1
 }
 
-fn one_expand(modifiers: &[Modifier]) -> bool
-    ensures { result ≡ chains.at_most_one kinds.is_expand modifiers.now }
-{
-    modifiers.iter().filter(|m| is_expand(m)).count() <= 1
-}
-
 fn one_encoding(modifiers: &[Modifier]) -> bool
     ensures { result ≡ chains.at_most_one kinds.is_encoding modifiers.now }
 {
@@ -247,7 +228,6 @@ fn one_of_each(modifiers: &[Modifier]) -> bool
         && one_all(modifiers)
         && one_cased(modifiers)
         && one_windash(modifiers)
-        && one_expand(modifiers)
         && one_encoding(modifiers)
 }
 

@@ -9,7 +9,6 @@ pub use test::{Test, Tests};
 mod checks;
 mod copying;
 mod expressions;
-mod filling;
 mod holding;
 #[cfg(test)]
 mod holding_checks;

@@ -1,4 +1,0 @@
-mod Sizing
-mod Acting
-mod WholeSteps
-mod AddedLaw
