@@ -1,4 +1,4 @@
--- Chains without encodings, dashes, networks, orders, references and regular expressions.
+-- Chains without encodings, dashes, placeholders, networks, orders, references and regular expressions.
 use Rattle.std.specs.Prelude.{Bool, ◌&&◌, ◌||◌, not, List}
 use Rattle.std.specs.List.{list_all}
 use Rattle.modifier_chains.specs.Chains.{is_empty, is_presence, at_most_one}

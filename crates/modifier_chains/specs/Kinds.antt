@@ -3,7 +3,7 @@ use Rattle.std.specs.Prelude.{Bool, true, false, List, [], ◌∷◌, ◌||◌, 
 use Rattle.std.specs.List.{list_any}
 use Rattle.modifier_chains.specs.declared.modifier.Flag.TheVariants.{IgnoreCase, MultiLine, DotAll}
 use Rattle.modifier_chains.specs.declared.modifier.Modifier.{Modifier}
-use Rattle.modifier_chains.specs.declared.modifier.Modifier.TheVariants.{Position, All, Cased, Windash, Units, Encoding, Exists, Cidr, Order, Fieldref, Re, Flag}
+use Rattle.modifier_chains.specs.declared.modifier.Modifier.TheVariants.{Position, All, Cased, Windash, Expand, Units, Encoding, Exists, Cidr, Order, Fieldref, Re, Flag}
 use Rattle.modifier_chains.specs.declared.modifier.Op.{Op}
 
 -- says where in a text the pattern is looked for
@@ -25,6 +25,11 @@ is_cased _ = false
 abbrev pub is_windash : Modifier → Bool
 is_windash Windash = true
 is_windash _ = false
+
+-- takes `%name%` in a text for a placeholder
+abbrev pub is_expand : Modifier → Bool
+is_expand Expand = true
+is_expand _ = false
 
 -- says in which units of 16 bits a text is encoded
 abbrev pub is_units : Modifier → Bool
@@ -86,11 +91,11 @@ is_expression_word modifier = list_any (λ is_kind. is_kind modifier) expression
 
 -- the kinds of which a text chain has at most one modifier each
 abbrev pub text_kinds : List (Modifier → Bool)
-text_kinds = is_position ∷ is_all ∷ is_cased ∷ is_windash ∷ is_encoding ∷ []
+text_kinds = is_position ∷ is_all ∷ is_cased ∷ is_windash ∷ is_expand ∷ is_encoding ∷ []
 
 -- the kinds that no encoding stands together with
 abbrev pub unencoded_kinds : List (Modifier → Bool)
-unencoded_kinds = is_windash ∷ []
+unencoded_kinds = is_windash ∷ is_expand ∷ []
 
 -- stands in text chains: those kinds, and the units of an encoding
 abbrev pub is_text_word : Modifier → Bool

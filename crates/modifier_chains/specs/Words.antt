@@ -8,7 +8,7 @@ use Rattle.sig_encode.specs.declared.utf16.Form.TheVariants.{Le, Be, Marked}
 use Rattle.modifier_chains.specs.declared.modifier.Encoding.TheVariants.{Base64, Base64Offset}
 use Rattle.modifier_chains.specs.declared.modifier.Flag.TheVariants.{IgnoreCase, MultiLine, DotAll}
 use Rattle.modifier_chains.specs.declared.modifier.Modifier.{Modifier}
-use Rattle.modifier_chains.specs.declared.modifier.Modifier.TheVariants.{Position, All, Cased, Windash, Units, Encoding, Exists, Cidr, Order, Fieldref, Re, Flag}
+use Rattle.modifier_chains.specs.declared.modifier.Modifier.TheVariants.{Position, All, Cased, Windash, Expand, Units, Encoding, Exists, Cidr, Order, Fieldref, Re, Flag}
 use Rattle.modifier_chains.specs.declared.modifier.Op.TheVariants.{Lt, Lte, Gt, Gte}
 use Rattle.modifier_chains.specs.declared.modifier.Position.TheVariants.{Around, After, Before}
 
@@ -21,6 +21,7 @@ modifier_words =
     ∷ (codes "all", All)
     ∷ (codes "cased", Cased)
     ∷ (codes "windash", Windash)
+    ∷ (codes "expand", Expand)
     ∷ (codes "utf16le", Units Le)
     ∷ (codes "wide", Units Le)
     ∷ (codes "utf16be", Units Be)

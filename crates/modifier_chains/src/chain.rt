@@ -6,8 +6,8 @@ ghost use Rattle.modifier_chains.specs.Chains as chains;
 ghost use Rattle.modifier_chains.specs.Kinds as kinds;
 
 use crate::counting::{
-    flags_of, is_all, is_cased, is_empty, is_expression_chain, is_network_chain, is_position,
-    is_presence, is_reference, order_of, takes_null,
+    flags_of, is_all, is_cased, is_empty, is_expand, is_expression_chain, is_network_chain,
+    is_position, is_presence, is_reference, order_of, takes_null,
 };
 use crate::form::ChainForm;
 use crate::modifier::{Joined, Modifier};
@@ -75,6 +75,13 @@ impl Chain {
         ensures { result ≡ list_any kinds.is_position self.now.modifiers }
     {
         self.modifiers().iter().any(is_position)
+    }
+
+    /// Whether `%name%` in a value is a placeholder.
+    pub fn expands(&self) -> bool
+        ensures { result ≡ list_any kinds.is_expand self.now.modifiers }
+    {
+        self.modifiers().iter().any(is_expand)
     }
 
     /// Whether all values of the item have to be satisfied.

@@ -32,6 +32,12 @@ fn is_windash(modifier: &Modifier) -> bool
     matches!(modifier, Modifier::Windash)
 }
 
+pub fn is_expand(modifier: &Modifier) -> bool
+    ensures { result ≡ kinds.is_expand modifier.now }
+{
+    matches!(modifier, Modifier::Expand)
+}
+
 fn is_units(modifier: &Modifier) -> bool
     ensures { result ≡ kinds.is_units modifier.now }
 {
@@ -161,6 +167,7 @@ fn is_text_word(modifier: &Modifier) -> bool
         || is_all(modifier)
         || is_cased(modifier)
         || is_windash(modifier)
+        || is_expand(modifier)
         || is_encoding(modifier)
         || is_units(modifier)
 }
@@ -183,11 +190,17 @@ fn has_windash(modifiers: &[Modifier]) -> bool
     modifiers.iter().any(is_windash)
 }
 
+fn has_expand(modifiers: &[Modifier]) -> bool
+    ensures { result ≡ list_any kinds.is_expand modifiers.now }
+{
+    modifiers.iter().any(is_expand)
+}
+
 /// Whether a modifier is there that no encoding stands together with.
 fn has_unencoded(modifiers: &[Modifier]) -> bool
     ensures { result ≡ chains.has_some_of kinds.unencoded_kinds modifiers.now }
 {
-    has_windash(modifiers)
+    has_windash(modifiers) || has_expand(modifiers)
 }
 
 fn one_position(modifiers: &[Modifier]) -> bool
@@ -214,6 +227,12 @@ fn one_windash(modifiers: &[Modifier]) -> bool
     modifiers.iter().filter(|m| is_windash(m)).count() <= 1
 }
 
+fn one_expand(modifiers: &[Modifier]) -> bool
+    ensures { result ≡ chains.at_most_one kinds.is_expand modifiers.now }
+{
+    modifiers.iter().filter(|m| is_expand(m)).count() <= 1
+}
+
 fn one_encoding(modifiers: &[Modifier]) -> bool
     ensures { result ≡ chains.at_most_one kinds.is_encoding modifiers.now }
 {
@@ -228,6 +247,7 @@ fn one_of_each(modifiers: &[Modifier]) -> bool
         && one_all(modifiers)
         && one_cased(modifiers)
         && one_windash(modifiers)
+        && one_expand(modifiers)
         && one_encoding(modifiers)
 }
 

@@ -3,7 +3,7 @@
 
 pub use chain::Chain;
 pub use form::{ChainForm, Flags};
-pub use law::{common_chains, encodings_without_dashes};
+pub use law::{common_chains, encodings_stand_apart};
 pub use modifier::{Encoding, Flag, Joined, Modifier, Op, Position};
 
 mod chain;

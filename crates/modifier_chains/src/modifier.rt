@@ -61,6 +61,8 @@ pub enum Modifier {
     Cased,
     /// that any dash may stand where a value has one before a word
     Windash,
+    /// that `%name%` in a value is a placeholder, which a pipeline fills
+    Expand,
     /// that the text is encoded in units of 16 bits
     Units(Form),
     /// that the text is looked for as it's encoded
@@ -87,13 +89,14 @@ pub enum Joined {
 }
 
 /// Each word, and what it asks for.
-const WORDS: [(&str, Modifier); 23] = [
+const WORDS: [(&str, Modifier); 24] = [
     ("contains", Modifier::Position(Position::Around)),
     ("startswith", Modifier::Position(Position::After)),
     ("endswith", Modifier::Position(Position::Before)),
     ("all", Modifier::All),
     ("cased", Modifier::Cased),
     ("windash", Modifier::Windash),
+    ("expand", Modifier::Expand),
     ("utf16le", Modifier::Units(Form::Le)),
     ("wide", Modifier::Units(Form::Le)),
     ("utf16be", Modifier::Units(Form::Be)),

@@ -58,12 +58,18 @@ windash~texts any~texts any
 windash|contains|all~texts all~texts all
 contains|windash~texts any~texts any
 windash|cased|windash~41~41
+expand~texts any~texts any
+expand|contains|all~texts all~texts all
+contains|windash|expand|cased~texts any~texts any
+expand|contains|expand~41~41
 base64~texts any~texts any
 base64offset|contains~texts any~texts any
 contains|base64offset~41~41
 base64|base64offset~41~41
 base64|base64~41~41
 base64|windash~41~41
+base64|expand~41~41
+expand|wide|base64offset~41~41
 windash|cased|base64~41~41
 wide~41~41
 wide|base64~texts any~texts any
@@ -99,6 +105,8 @@ re|cased~41~41
 cased|re~41~41
 re|base64~41~41
 re|i|windash~41~41
+re|expand~41~41
+expand|exists~41~41
 cidr|i~41~41
 gt|m~41~41
 re|I~40 I~40 I
@@ -196,6 +204,6 @@ fn words_make_chains(rt: HostRuntime) -> Result<(), Fail> {
             "{row}"
         );
     }
-    assert_eq!(rt; ROWS.lines().count(), 94);
+    assert_eq!(rt; ROWS.lines().count(), 102);
     Ok(())
 }

@@ -8,7 +8,7 @@ use Rattle.std.proofs.lemmas.Bool.{ltb-true, ltb-false, lt-ltb, le-ltb}
 use Rattle.std.proofs.lemmas.List.{length-map}
 use Rattle.pipeline_model.specs.declared.step.Pair.{Pair}
 use Rattle.pipeline_names.specs.Names.{begins, each_before, mapped, prefixed}
-use Rattle.pipeline_names.specs.Made.{froms_of, sooner}
+use Rattle.pipeline_names.specs.Made.{keys_of, sooner}
 
 -- ---- the first place at which a test passes
 
@@ -26,45 +26,45 @@ module _ (p : List ℕ → Bool) (made : Pair → List (List ℕ)) (other : List
   decided [] = other
   decided (pair ∷ pairs) = if p pair.from then made pair else decided pairs
 
-  decided_at : (pairs : List Pair) (d : Pair) → position_or_len p (froms_of pairs) < length pairs → decided pairs ≡ made (get_or pairs (position_or_len p (froms_of pairs)) d)
+  decided_at : (pairs : List Pair) (d : Pair) → position_or_len p (keys_of pairs) < length pairs → decided pairs ≡ made (get_or pairs (position_or_len p (keys_of pairs)) d)
   decided_at [] d inside = absurd (let h : 0 < 0 = inside in omega arith)
   decided_at (pair ∷ pairs) d inside = by (p pair.from) (decided_at pairs d) inside
     where
-      by : (b : Bool) → (position_or_len p (froms_of pairs) < length pairs → decided pairs ≡ made (get_or pairs (position_or_len p (froms_of pairs)) d))
-          → cond (not b) (1 + position_or_len p (froms_of pairs)) 0 < suc (length pairs)
-          → (if b then made pair else decided pairs) ≡ made (get_or (pair ∷ pairs) (cond (not b) (1 + position_or_len p (froms_of pairs)) 0) d)
+      by : (b : Bool) → (position_or_len p (keys_of pairs) < length pairs → decided pairs ≡ made (get_or pairs (position_or_len p (keys_of pairs)) d))
+          → cond (not b) (1 + position_or_len p (keys_of pairs)) 0 < suc (length pairs)
+          → (if b then made pair else decided pairs) ≡ made (get_or (pair ∷ pairs) (cond (not b) (1 + position_or_len p (keys_of pairs)) 0) d)
       by true rest inside = refl
       by false rest inside =
-          let e : 1 + position_or_len p (froms_of pairs) ≡ suc (position_or_len p (froms_of pairs)) = omega arith in
+          let e : 1 + position_or_len p (keys_of pairs) ≡ suc (position_or_len p (keys_of pairs)) = omega arith in
           rest (omega (arith, inside)) ∙ ap (λ (m : ℕ). made (get_or (pair ∷ pairs) m d)) (sym e)
 
-  undecided : (pairs : List Pair) → length pairs ≤ position_or_len p (froms_of pairs) → decided pairs ≡ other
+  undecided : (pairs : List Pair) → length pairs ≤ position_or_len p (keys_of pairs) → decided pairs ≡ other
   undecided [] long = refl
   undecided (pair ∷ pairs) long = by (p pair.from) (undecided pairs) long
     where
-      by : (b : Bool) → (length pairs ≤ position_or_len p (froms_of pairs) → decided pairs ≡ other)
-          → suc (length pairs) ≤ cond (not b) (1 + position_or_len p (froms_of pairs)) 0 → (if b then made pair else decided pairs) ≡ other
+      by : (b : Bool) → (length pairs ≤ position_or_len p (keys_of pairs) → decided pairs ≡ other)
+          → suc (length pairs) ≤ cond (not b) (1 + position_or_len p (keys_of pairs)) 0 → (if b then made pair else decided pairs) ≡ other
       by true rest long = absurd (let h : suc (length pairs) ≤ 0 = long in omega arith)
       by false rest long = rest (omega (arith, long))
 
-  within : (pairs : List Pair) (texts : List (List ℕ)) (n : ℕ) → texts ≡ froms_of pairs → Some n ≡ position p texts
-      → (n < length pairs) × (n ≡ position_or_len p (froms_of pairs))
+  within : (pairs : List Pair) (texts : List (List ℕ)) (n : ℕ) → texts ≡ keys_of pairs → Some n ≡ position p texts
+      → (n < length pairs) × (n ≡ position_or_len p (keys_of pairs))
   within pairs texts n same is =
-      let at : Some n ≡ position p (froms_of pairs) = is ∙ ap (position p) same in
-      let found = number_of (nat_lt (position_or_len p (froms_of pairs)) (length (froms_of pairs))) n (position_or_len p (froms_of pairs)) (length (froms_of pairs)) refl at in
-      let long : length (froms_of pairs) ≡ length pairs = length-map pairs (λ pair. pair.from) in
+      let at : Some n ≡ position p (keys_of pairs) = is ∙ ap (position p) same in
+      let found = number_of (nat_lt (position_or_len p (keys_of pairs)) (length (keys_of pairs))) n (position_or_len p (keys_of pairs)) (length (keys_of pairs)) refl at in
+      let long : length (keys_of pairs) ≡ length pairs = length-map pairs (λ pair. pair.from) in
       (omega (arith, found.0, found.1, long), found.1)
 
-  found_entry : (pairs : List Pair) (texts : List (List ℕ)) (n : ℕ) (d : Pair) → texts ≡ froms_of pairs → Some n ≡ position p texts → decided pairs ≡ made (get_or pairs n d)
+  found_entry : (pairs : List Pair) (texts : List (List ℕ)) (n : ℕ) (d : Pair) → texts ≡ keys_of pairs → Some n ≡ position p texts → decided pairs ≡ made (get_or pairs n d)
   found_entry pairs texts n d same is =
       let found = within pairs texts n same is in
       decided_at pairs d (subst (λ (m : ℕ). m < length pairs) found.1 found.0) ∙ ap (λ (m : ℕ). made (get_or pairs m d)) (sym found.1)
 
-  no_entry : (pairs : List Pair) (texts : List (List ℕ)) → texts ≡ froms_of pairs → None ≡ position p texts → decided pairs ≡ other
+  no_entry : (pairs : List Pair) (texts : List (List ℕ)) → texts ≡ keys_of pairs → None ≡ position p texts → decided pairs ≡ other
   no_entry pairs texts same is =
-      let at : None ≡ position p (froms_of pairs) = is ∙ ap (position p) same in
-      let long : length (froms_of pairs) ≡ length pairs = length-map pairs (λ pair. pair.from) in
-      undecided pairs (omega (arith, long, no_number (nat_lt (position_or_len p (froms_of pairs)) (length (froms_of pairs))) (position_or_len p (froms_of pairs)) (length (froms_of pairs)) refl at))
+      let at : None ≡ position p (keys_of pairs) = is ∙ ap (position p) same in
+      let long : length (keys_of pairs) ≡ length pairs = length-map pairs (λ pair. pair.from) in
+      undecided pairs (omega (arith, long, no_number (nat_lt (position_or_len p (keys_of pairs)) (length (keys_of pairs))) (position_or_len p (keys_of pairs)) (length (keys_of pairs)) refl at))
 
 -- ---- a name with an entry
 
@@ -75,14 +75,14 @@ mapped_decided : (pairs : List Pair) (name : List ℕ) → mapped pairs name ≡
 mapped_decided [] name = refl
 mapped_decided (pair ∷ pairs) name = ap (λ (rest : List (List ℕ)). if bytes_eq pair.from name then pair.to else rest) (mapped_decided pairs name)
 
-pub mapped_within : (pairs : List Pair) (texts : List (List ℕ)) (name : List ℕ) (n : ℕ) → texts ≡ froms_of pairs → Some n ≡ position (λ t. bytes_eq t name) texts → n < length pairs
+pub mapped_within : (pairs : List Pair) (texts : List (List ℕ)) (name : List ℕ) (n : ℕ) → texts ≡ keys_of pairs → Some n ≡ position (λ t. bytes_eq t name) texts → n < length pairs
 mapped_within pairs texts name n same is = (within (λ from. bytes_eq from name) targets_of (name ∷ []) pairs texts n same is).0
 
-pub mapped_found : (pairs : List Pair) (texts : List (List ℕ)) (name : List ℕ) (n : ℕ) (d : Pair) → texts ≡ froms_of pairs → Some n ≡ position (λ t. bytes_eq t name) texts
+pub mapped_found : (pairs : List Pair) (texts : List (List ℕ)) (name : List ℕ) (n : ℕ) (d : Pair) → texts ≡ keys_of pairs → Some n ≡ position (λ t. bytes_eq t name) texts
     → mapped pairs name ≡ (get_or pairs n d).to
 mapped_found pairs texts name n d same is = mapped_decided pairs name ∙ found_entry (λ from. bytes_eq from name) targets_of (name ∷ []) pairs texts n d same is
 
-pub mapped_missing : (pairs : List Pair) (texts : List (List ℕ)) (name : List ℕ) → texts ≡ froms_of pairs → None ≡ position (λ t. bytes_eq t name) texts → mapped pairs name ≡ name ∷ []
+pub mapped_missing : (pairs : List Pair) (texts : List (List ℕ)) (name : List ℕ) → texts ≡ keys_of pairs → None ≡ position (λ t. bytes_eq t name) texts → mapped pairs name ≡ name ∷ []
 mapped_missing pairs texts name same is = mapped_decided pairs name ∙ no_entry (λ from. bytes_eq from name) targets_of (name ∷ []) pairs texts same is
 
 -- ---- a name that an entry begins
@@ -94,23 +94,23 @@ prefixed_decided : (pairs : List Pair) (name : List ℕ) → prefixed pairs name
 prefixed_decided [] name = refl
 prefixed_decided (pair ∷ pairs) name = ap (λ (rest : List (List ℕ)). if begins pair.from name then fronts_of name pair else rest) (prefixed_decided pairs name)
 
-pub prefixed_within : (pairs : List Pair) (texts : List (List ℕ)) (name : List ℕ) (n : ℕ) → texts ≡ froms_of pairs → Some n ≡ position (λ from. begins from name) texts → n < length pairs
+pub prefixed_within : (pairs : List Pair) (texts : List (List ℕ)) (name : List ℕ) (n : ℕ) → texts ≡ keys_of pairs → Some n ≡ position (λ from. begins from name) texts → n < length pairs
 prefixed_within pairs texts name n same is = (within (λ from. begins from name) (fronts_of name) (name ∷ []) pairs texts n same is).0
 
-pub prefixed_found : (pairs : List Pair) (texts : List (List ℕ)) (name : List ℕ) (n : ℕ) (pair : Pair) → texts ≡ froms_of pairs → Some n ≡ position (λ from. begins from name) texts
+pub prefixed_found : (pairs : List Pair) (texts : List (List ℕ)) (name : List ℕ) (n : ℕ) (pair : Pair) → texts ≡ keys_of pairs → Some n ≡ position (λ from. begins from name) texts
     → pair ≡ get_or pairs n pair → prefixed pairs name ≡ each_before pair.to (drop (length pair.from) name)
 prefixed_found pairs texts name n pair same is at =
     prefixed_decided pairs name ∙ (found_entry (λ from. begins from name) (fronts_of name) (name ∷ []) pairs texts n pair same is ∙ ap (fronts_of name) (sym at))
 
-pub prefixed_missing : (pairs : List Pair) (texts : List (List ℕ)) (name : List ℕ) → texts ≡ froms_of pairs → None ≡ position (λ from. begins from name) texts → prefixed pairs name ≡ name ∷ []
+pub prefixed_missing : (pairs : List Pair) (texts : List (List ℕ)) (name : List ℕ) → texts ≡ keys_of pairs → None ≡ position (λ from. begins from name) texts → prefixed pairs name ≡ name ∷ []
 prefixed_missing pairs texts name same is = prefixed_decided pairs name ∙ no_entry (λ from. begins from name) (fronts_of name) (name ∷ []) pairs texts same is
 
 -- nothing behind a text is that text
-pub each_alone : (fronts : List (List ℕ)) → each_before fronts [] ≡ fronts
+pub each_alone : (prefixes : List (List ℕ)) → each_before prefixes [] ≡ prefixes
 each_alone [] = refl
 each_alone (f ∷ fs) = ap (λ (x : List ℕ). x ∷ each_before fs []) (append-nil f) ∙ ap (λ (xs : List (List ℕ)). f ∷ xs) (each_alone fs)
 
--- ---- the fronts of a name, one after another
+-- ---- the prefixes of a name, one after another
 
 -- the smaller place of two tests is that of either
 either_place : (p q : List ℕ → Bool) (xs : List (List ℕ)) → position_or_len (λ x. p x || q x) xs ≡ min (position_or_len p xs) (position_or_len q xs)

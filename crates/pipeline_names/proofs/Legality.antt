@@ -15,21 +15,21 @@ use Rattle.pipeline_names.proofs.NameLists.{no_second}
 
 -- ---- what is so of one of them is so of all together
 
-each_legal : (fronts : List (List ℕ)) (back : List ℕ)
-    → list_all compares_legally (map tests.SameAs (each_before fronts back)) ≡ list_all (λ (front : List ℕ). is_legal (front ++ back)) fronts
-each_legal fronts back =
-    list_all-map compares_legally tests.SameAs (each_before fronts back) ∙ list_all-map is_legal (λ (front : List ℕ). front ++ back) fronts
+each_legal : (prefixes : List (List ℕ)) (back : List ℕ)
+    → list_all compares_legally (map tests.SameAs (each_before prefixes back)) ≡ list_all (λ (front : List ℕ). is_legal (front ++ back)) prefixes
+each_legal prefixes back =
+    list_all-map compares_legally tests.SameAs (each_before prefixes back) ∙ list_all-map is_legal (λ (front : List ℕ). front ++ back) prefixes
 
-illegal_at : (fronts : List (List ℕ)) (back : List ℕ) (i : ℕ) (x : List ℕ) → i < length fronts → x ≡ get_or fronts i x → is_legal (x ++ back) ≡ false
-    → list_all compares_legally (map tests.SameAs (each_before fronts back)) ≡ false
-illegal_at fronts back i x inside is h =
-    each_legal fronts back
-    ∙ list_all_at (λ (front : List ℕ). is_legal (front ++ back)) fronts i x inside (ap (λ (y : List ℕ). is_legal (y ++ back)) (sym is) ∙ h)
+illegal_at : (prefixes : List (List ℕ)) (back : List ℕ) (i : ℕ) (x : List ℕ) → i < length prefixes → x ≡ get_or prefixes i x → is_legal (x ++ back) ≡ false
+    → list_all compares_legally (map tests.SameAs (each_before prefixes back)) ≡ false
+illegal_at prefixes back i x inside is h =
+    each_legal prefixes back
+    ∙ list_all_at (λ (front : List ℕ). is_legal (front ++ back)) prefixes i x inside (ap (λ (y : List ℕ). is_legal (y ++ back)) (sym is) ∙ h)
 
-pub illegal_front : (place : Place) (fronts : List (List ℕ)) (back : List ℕ) (i : ℕ) (x : List ℕ) (e : Fault) → i < length fronts → x ≡ get_or fronts i x
-    → IsIllegal place (is_legal (x ++ back)) e → IsIllegal place (list_all compares_legally (map tests.SameAs (each_before fronts back))) e
-illegal_front place fronts back i x Memory inside is h = tt
-illegal_front place fronts back i x (Refused r) inside is h = (h.0, illegal_at fronts back i x inside is h.1)
+pub illegal_front : (place : Place) (prefixes : List (List ℕ)) (back : List ℕ) (i : ℕ) (x : List ℕ) (e : Fault) → i < length prefixes → x ≡ get_or prefixes i x
+    → IsIllegal place (is_legal (x ++ back)) e → IsIllegal place (list_all compares_legally (map tests.SameAs (each_before prefixes back))) e
+illegal_front place prefixes back i x Memory inside is h = tt
+illegal_front place prefixes back i x (Refused r) inside is h = (h.0, illegal_at prefixes back i x inside is h.1)
 
 pub illegal_one : (place : Place) (b : Bool) (e : Fault) → IsIllegal place b e → IsIllegal place (b && true) e
 illegal_one place b Memory h = tt

@@ -9,7 +9,7 @@ use Rattle.pipeline_model.specs.declared.step.Action.{Action}
 use Rattle.pipeline_model.specs.declared.step.Action.TheVariants.{MapNames, MapPrefixes}
 use Rattle.pipeline_model.specs.declared.step.Pair.{Pair}
 use Rattle.pipeline_names.specs.Names.{begins, each_before, mapped, prefixed, targets, with_name, with_names}
-use Rattle.pipeline_names.specs.Made.{pairs_in, froms_of, once_of, once_if, AddsAs}
+use Rattle.pipeline_names.specs.Made.{pairs_in, keys_of, once_of, once_if, AddsAs}
 use Rattle.pipeline_names.proofs.Knowing.{among_more}
 use Rattle.pipeline_names.proofs.NameLists.{with_append}
 use Rattle.pipeline_names.proofs.Fronts.{each_alone}
@@ -77,9 +77,9 @@ adds_once : (xs : List (List ℕ)) → AddsAs (with_names [] xs) xs
 adds_once xs = λ names.
     ap (with_names names) (sym (each_alone (with_names [] xs))) ∙ (adds_each [] xs names ∙ ap (with_names names) (each_alone xs))
 
-pub same_froms : (pairs : List Pair) → froms_of (once_of pairs) ≡ froms_of pairs
-same_froms [] = refl
-same_froms (pair ∷ pairs) = ap (λ (ts : List (List ℕ)). pair.from ∷ ts) (same_froms pairs)
+pub same_keys : (pairs : List Pair) → keys_of (once_of pairs) ≡ keys_of pairs
+same_keys [] = refl
+same_keys (pair ∷ pairs) = ap (λ (ts : List (List ℕ)). pair.from ∷ ts) (same_keys pairs)
 
 pub adds_mapped : (pairs : List Pair) (name : List ℕ) → AddsAs (mapped (once_of pairs) name) (mapped pairs name)
 adds_mapped [] name = λ names. refl
@@ -121,5 +121,5 @@ prefixed_adds action slice pairs name is same =
 pub once_used : (b : Bool) (slice pairs : List Pair) → b ≡ true → slice ≡ once_if b pairs → slice ≡ once_of pairs
 once_used b slice pairs used is = is ∙ ap (λ (c : Bool). once_if c pairs) used
 
-pub froms_are : (froms : List (List ℕ)) (slice pairs : List Pair) → froms ≡ froms_of pairs → slice ≡ once_of pairs → froms ≡ froms_of slice
-froms_are froms slice pairs is same = is ∙ (sym (same_froms pairs) ∙ ap froms_of (sym same))
+pub keys_are : (keys : List (List ℕ)) (slice pairs : List Pair) → keys ≡ keys_of pairs → slice ≡ once_of pairs → keys ≡ keys_of slice
+keys_are keys slice pairs is same = is ∙ (sym (same_keys pairs) ∙ ap keys_of (sym same))

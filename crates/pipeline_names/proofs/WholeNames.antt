@@ -81,11 +81,11 @@ record Makes (names : List (List ℕ)) : Type 0 where
 makes_one : (name : List ℕ) → all_scalars name ≡ true → Makes (name ∷ [])
 makes_one name h = record { some = tt; scalars = (h, tt) }
 
-each_before_scalars : (fronts : List (List ℕ)) (back : List ℕ) → EachOf IsScalarText fronts → all_scalars back ≡ true → EachOf IsScalarText (each_before fronts back)
+each_before_scalars : (prefixes : List (List ℕ)) (back : List ℕ) → EachOf IsScalarText prefixes → all_scalars back ≡ true → EachOf IsScalarText (each_before prefixes back)
 each_before_scalars [] back all h = tt
 each_before_scalars (f ∷ fs) back all h = (scalars_append f back all.0 h, each_before_scalars fs back all.1 h)
 
-some_before : (fronts : List (List ℕ)) (back : List ℕ) → HasElement fronts → HasElement (each_before fronts back)
+some_before : (prefixes : List (List ℕ)) (back : List ℕ) → HasElement prefixes → HasElement (each_before prefixes back)
 some_before [] back h = absurd h
 some_before (f ∷ fs) back h = tt
 

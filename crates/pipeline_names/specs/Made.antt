@@ -19,7 +19,7 @@ use Rattle.pipeline_names.specs.Sizes.{compares_legally, values_count}
 -- the texts that are to be made
 abbrev pub texts_made : Made → List (List ℕ)
 texts_made (One text) = text ∷ []
-texts_made (Each fronts back) = each_before fronts.now back
+texts_made (Each prefixes back) = each_before prefixes.now back
 
 -- the entries of a mapping
 abbrev pub pairs_in : Action → List Pair
@@ -36,8 +36,8 @@ pairs_in (WildHoles choice) = []
 pairs_in (FailRule message) = []
 pairs_in (FailItem message) = []
 
-abbrev pub froms_of : List Pair → List (List ℕ)
-froms_of pairs = map (λ pair. pair.from) pairs
+abbrev pub keys_of : List Pair → List (List ℕ)
+keys_of pairs = map (λ pair. pair.from) pairs
 
 -- an entry with each of its targets once
 abbrev pub once_in : Pair → Pair

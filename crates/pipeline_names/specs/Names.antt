@@ -15,7 +15,7 @@ begins (c ∷ cs) (d ∷ ds) = (c == d) && begins cs ds
 
 -- these texts, each with this one behind it
 abbrev pub each_before : List (List ℕ) → List ℕ → List (List ℕ)
-each_before fronts back = map (λ front. front ++ back) fronts
+each_before prefixes back = map (λ front. front ++ back) prefixes
 
 -- a name with an entry becomes the targets of the first one
 abbrev pub mapped : List Pair → List ℕ → List (List ℕ)

@@ -7,7 +7,7 @@ ghost use Rattle.pipeline_names.specs.Names as spec;
 ghost use Rattle.pipeline_names.specs.Renamed as renamed;
 ghost use Rattle.pipeline_names.specs.Sizes.{total, names_in, name_count, test_count, values_count, in_detection, of_items, has_legal_names, in_every, every_item};
 
-use crate::list::Most;
+use crate::list::NameLimit;
 use crate::mapping::Renaming;
 use crate::names::rename_names;
 use crate::references::rename_values;
@@ -32,11 +32,11 @@ fn rename_fields(
     match fields {
         Fields::Keyword => Ok(Fields::Keyword),
         Fields::Names(names) => {
-            let most = Most {
+            let limit = NameLimit {
                 names: *left,
                 place,
             };
-            let renamed = rename_names(alloc, most, renaming, names.as_slice())?;
+            let renamed = rename_names(alloc, limit, renaming, names.as_slice())?;
             *left = pay(place, *left, renamed.len())?;
             Ok(Fields::Names(Texts::from_vec(renamed)))
         }

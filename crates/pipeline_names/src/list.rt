@@ -15,7 +15,7 @@ use std::collections::BTreeSet;
 
 /// How many names may be there, and where it's refused if there are more.
 #[derive(Clone, Copy)]
-pub struct Most {
+pub struct NameLimit {
     pub names: usize,
     pub place: Place,
 }
@@ -59,30 +59,30 @@ impl NameList {
 
     /// Refuses a name for which there is no room, or which isn't legal.
     #[tactic(auto, using(crate::proofs::NameLists::no_room, crate::proofs::NameLists::not_legal))]
-    fn judge(&self, most: Most, name: &Text) -> Result<(), Fault>
-        ensures unfit { IfErr result (AreUnfit most.place most.names (self.now.names.items ++ name.now ∷ [])) }
+    fn judge(&self, limit: NameLimit, name: &Text) -> Result<(), Fault>
+        ensures unfit { IfErr result (AreUnfit limit.place limit.names (self.now.names.items ++ name.now ∷ [])) }
     {
-        if self.names.len() >= most.names {
-            return Err(grown(most.place));
+        if self.names.len() >= limit.names {
+            return Err(grown(limit.place));
         }
         if !is_legal(name) {
-            return Err(grown(most.place));
+            return Err(grown(limit.place));
         }
         Ok(())
     }
 
     /// Adds the name behind the others, unless it is one of them.
     #[tactic(auto, using(crate::proofs::NameLists::unfit_new))]
-    fn add(&mut self, alloc: Global, most: Most, name: Text) -> Result<(), Fault>
+    fn add(&mut self, alloc: Global, limit: NameLimit, name: Text) -> Result<(), Fault>
         requires { AreKnown self.old.names.items self.old.known }
         ensures ok { OnOk result (self.new.names.items ≡ spec.with_name self.old.names.items name) }
         ensures known { OnOk result (AreKnown self.new.names.items self.new.known) }
-        ensures unfit { IfErr result (AreUnfit most.place most.names (spec.with_name self.old.names.items name)) }
+        ensures unfit { IfErr result (AreUnfit limit.place limit.names (spec.with_name self.old.names.items name)) }
     {
         if self.contains(&name) {
             return Ok(());
         }
-        self.judge(most, &name)?;
+        self.judge(limit, &name)?;
         self.push(alloc, name)
     }
 
@@ -103,31 +103,31 @@ impl NameList {
     fn add_each(
         &mut self,
         alloc: Global,
-        most: Most,
-        fronts: &[Text],
+        limit: NameLimit,
+        prefixes: &[Text],
         back: &Text,
     ) -> Result<(), Fault>
         requires { AreKnown self.old.names.items self.old.known }
-        ensures ok { OnOk result (self.new.names.items ≡ spec.with_names self.old.names.items (spec.each_before fronts.now back.now)) }
+        ensures ok { OnOk result (self.new.names.items ≡ spec.with_names self.old.names.items (spec.each_before prefixes.now back.now)) }
         ensures known { OnOk result (AreKnown self.new.names.items self.new.known) }
-        ensures unfit { IfErr result (AreUnfit most.place most.names (spec.with_names self.old.names.items (spec.each_before fronts.now back.now))) }
+        ensures unfit { IfErr result (AreUnfit limit.place limit.names (spec.with_names self.old.names.items (spec.each_before prefixes.now back.now))) }
     {
-        for front in fronts {
-            self.add(alloc, most, joined(alloc, front, back)?)?;
+        for front in prefixes {
+            self.add(alloc, limit, joined(alloc, front, back)?)?;
         }
         Ok(())
     }
 
     /// Adds what is made of a name.
-    pub fn add_made(&mut self, alloc: Global, most: Most, made: Made) -> Result<(), Fault>
+    pub fn add_made(&mut self, alloc: Global, limit: NameLimit, made: Made) -> Result<(), Fault>
         requires { AreKnown self.old.names.items self.old.known }
         ensures ok { OnOk result (self.new.names.items ≡ spec.with_names self.old.names.items (texts_made made.entry)) }
         ensures known { OnOk result (AreKnown self.new.names.items self.new.known) }
-        ensures unfit { IfErr result (AreUnfit most.place most.names (spec.with_names self.old.names.items (texts_made made.entry))) }
+        ensures unfit { IfErr result (AreUnfit limit.place limit.names (spec.with_names self.old.names.items (texts_made made.entry))) }
     {
         match made {
-            Made::One(text) => self.add(alloc, most, text),
-            Made::Each { fronts, back } => self.add_each(alloc, most, fronts, &back),
+            Made::One(text) => self.add(alloc, limit, text),
+            Made::Each { prefixes, back } => self.add_each(alloc, limit, prefixes, &back),
         }
     }
 }

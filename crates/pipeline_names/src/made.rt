@@ -6,11 +6,11 @@ ghost use Rattle.pipeline_names.specs.Made.{texts_made};
 use sig_base::{Fault, Text};
 use std::alloc::Global;
 
-/// Texts that are to be made: one, or each of these fronts with this back behind it.
+/// Texts that are to be made: one, or each of these prefixes with this back behind it.
 #[derive(Drop)]
 pub enum Made<'m> {
     One(Text),
-    Each { fronts: &'m [Text], back: Text },
+    Each { prefixes: &'m [Text], back: Text },
 }
 
 /// The first text, and behind it the second.
@@ -38,7 +38,7 @@ impl<'m> Made<'m> {
     {
         match self {
             Made::One(_) => 1,
-            Made::Each { fronts, back: _ } => fronts.len(),
+            Made::Each { prefixes, back: _ } => prefixes.len(),
         }
     }
 }

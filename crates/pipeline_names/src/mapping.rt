@@ -3,7 +3,7 @@
 ghost use Rattle.std.specs.Prelude.{◌≡◌, true, drop, length, IfOk, IfErr};
 ghost use Rattle.std.specs.List.{position};
 ghost use Rattle.std.specs.Str.{chars};
-ghost use Rattle.pipeline_names.specs.Made.{texts_made, pairs_in, froms_of, targets_or, once_in as once_in_of, once_of as once_of_all, once_if, AddsAs};
+ghost use Rattle.pipeline_names.specs.Made.{texts_made, pairs_in, keys_of, targets_or, once_in as once_in_of, once_of as once_of_all, once_if, AddsAs};
 ghost use Rattle.pipeline_names.specs.Made.{sooner as sooner_of};
 ghost use Rattle.pipeline_names.specs.Names as spec;
 
@@ -21,11 +21,11 @@ use text_index::TextIndex;
 #[derive(Drop)]
 pub struct Renaming<'s> {
     pub step: &'s Step,
-    pub froms: TextIndex,
-    pub once: Vec<Pair>,
+    pub keys: TextIndex,
+    pub distinct_targets: Vec<Pair>,
     pub used: bool,
-    pub ghost indexed: { froms ≡ froms_of (pairs_in step.now.action) },
-    pub ghost distinct: { once.items ≡ once_if used (pairs_in step.now.action) },
+    pub ghost indexed: { keys ≡ keys_of (pairs_in step.now.action) },
+    pub ghost distinct: { distinct_targets.items ≡ once_if used (pairs_in step.now.action) },
 }
 
 /// The entry with each of its targets once.
@@ -83,23 +83,23 @@ fn pairs_of(action: &Action) -> &[Pair]
     }
 }
 
-fn copy_froms(alloc: Global, pairs: &[Pair]) -> Result<Texts, Fault>
-    ensures ok { IfOk result (λ texts. texts ≡ froms_of pairs.now) }
+fn copy_keys(alloc: Global, pairs: &[Pair]) -> Result<Texts, Fault>
+    ensures ok { IfOk result (λ texts. texts ≡ keys_of pairs.now) }
     ensures err { IfErr result (λ e. e ≡ Fault.Memory) }
 {
-    let mut froms = Texts::with_capacity(alloc, pairs.len())?;
+    let mut keys = Texts::with_capacity(alloc, pairs.len())?;
     for pair in pairs {
-        froms.push(Text::copy(alloc, pair.from.as_str())?)?;
+        keys.push(Text::copy(alloc, pair.from.as_str())?)?;
     }
-    Ok(froms)
+    Ok(keys)
 }
 
 /// The targets of the first entry of the name.
-fn targets_of<'s>(froms: &TextIndex, pairs: &'s [Pair], name: &Text) -> Option<&'s [Text]>
-    requires { froms.now ≡ froms_of pairs.now }
+fn targets_of<'s>(keys: &TextIndex, pairs: &'s [Pair], name: &Text) -> Option<&'s [Text]>
+    requires { keys.now ≡ keys_of pairs.now }
     ensures { spec.mapped pairs.now name.now ≡ targets_or name.now result }
 {
-    match froms.find(name) {
+    match keys.find(name) {
         Some(number) => Some(pairs[number as usize].to.as_slice()),
         None => None,
     }
@@ -108,17 +108,17 @@ fn targets_of<'s>(froms: &TextIndex, pairs: &'s [Pair], name: &Text) -> Option<&
 /// The targets of the first entry of the name, or the name itself.
 fn mapped<'s>(
     alloc: Global,
-    froms: &TextIndex,
+    keys: &TextIndex,
     pairs: &'s [Pair],
     name: &Text,
 ) -> Result<Made<'s>, Fault>
-    requires { froms.now ≡ froms_of pairs.now }
+    requires { keys.now ≡ keys_of pairs.now }
     ensures ok { IfOk result (λ made. texts_made made ≡ spec.mapped pairs.now name.now) }
     ensures err { IfErr result (λ e. e ≡ Fault.Memory) }
 {
-    match targets_of(froms, pairs, name) {
-        Some(fronts) => Ok(Made::Each {
-            fronts,
+    match targets_of(keys, pairs, name) {
+        Some(prefixes) => Ok(Made::Each {
+            prefixes,
             back: Text::new(alloc),
         }),
         None => itself(alloc, name),
@@ -138,16 +138,16 @@ fn sooner(one: Option<u32>, other: Option<u32>) -> Option<u32>
 
 /// The number of the first entry that begins the name: each front of the name is looked up.
 #[tactic(auto, using(crate::proofs::Fronts::begun_more))]
-fn find_front(alloc: Global, froms: &TextIndex, name: &Text) -> Result<Option<u32>, Fault>
-    ensures ok { IfOk result (λ number. number ≡ position (λ from. spec.begins from name.now) froms.now) }
+fn find_front(alloc: Global, keys: &TextIndex, name: &Text) -> Result<Option<u32>, Fault>
+    ensures ok { IfOk result (λ number. number ≡ position (λ from. spec.begins from name.now) keys.now) }
     ensures err { IfErr result (λ e. e ≡ Fault.Memory) }
 {
     let mut left = name.as_str();
     let mut front = Text::with_capacity(alloc, left.len())?;
-    let mut number = froms.find(&front);
+    let mut number = keys.find(&front);
     while let Some((c, rest)) = first_char(left) {
         front.push(c)?;
-        number = sooner(number, froms.find(&front));
+        number = sooner(number, keys.find(&front));
         left = rest;
     }
     Ok(number)
@@ -176,7 +176,7 @@ fn each_front<'s>(alloc: Global, pair: &'s Pair, name: &Text) -> Result<Made<'s>
 {
     let back = Text::copy(alloc, behind(pair.from.as_str(), name.as_str()))?;
     Ok(Made::Each {
-        fronts: pair.to.as_slice(),
+        prefixes: pair.to.as_slice(),
         back,
     })
 }
@@ -184,15 +184,15 @@ fn each_front<'s>(alloc: Global, pair: &'s Pair, name: &Text) -> Result<Made<'s>
 /// The name with another prefix by the first entry that begins it, or the name itself.
 fn prefixed<'s>(
     alloc: Global,
-    froms: &TextIndex,
+    keys: &TextIndex,
     pairs: &'s [Pair],
     name: &Text,
 ) -> Result<Made<'s>, Fault>
-    requires { froms.now ≡ froms_of pairs.now }
+    requires { keys.now ≡ keys_of pairs.now }
     ensures ok { IfOk result (λ made. texts_made made ≡ spec.prefixed pairs.now name.now) }
     ensures err { IfErr result (λ e. e ≡ Fault.Memory) }
 {
-    match find_front(alloc, froms, name)? {
+    match find_front(alloc, keys, name)? {
         Some(number) => each_front(alloc, &pairs[number as usize], name),
         None => itself(alloc, name),
     }
@@ -209,13 +209,13 @@ impl<'s> Renaming<'s> {
         ensures err { IfErr result (λ e. e ≡ Fault.Memory) }
     {
         let pairs = pairs_of(&step.action);
-        let froms = TextIndex::number(alloc, copy_froms(alloc, pairs)?)?;
+        let keys = TextIndex::number(alloc, copy_keys(alloc, pairs)?)?;
         let used = concerns_some(step, detections);
-        let once = once_if_used(alloc, used, pairs)?;
+        let distinct_targets = once_if_used(alloc, used, pairs)?;
         Ok(Renaming {
             step,
-            froms,
-            once,
+            keys,
+            distinct_targets,
             used,
         })
     }
@@ -226,8 +226,8 @@ impl<'s> Renaming<'s> {
         ensures err { IfErr result (λ e. e ≡ Fault.Memory) }
     {
         match &self.step.action {
-            Action::MapNames(pairs) => mapped(alloc, &self.froms, pairs.as_slice(), name),
-            Action::MapPrefixes(pairs) => prefixed(alloc, &self.froms, pairs.as_slice(), name),
+            Action::MapNames(pairs) => mapped(alloc, &self.keys, pairs.as_slice(), name),
+            Action::MapPrefixes(pairs) => prefixed(alloc, &self.keys, pairs.as_slice(), name),
             Action::Prefix(front) => Ok(Made::One(joined(alloc, front, name)?)),
             Action::Suffix(back) => Ok(Made::One(joined(alloc, name, back)?)),
             Action::Drop
@@ -259,8 +259,18 @@ impl<'s> Renaming<'s> {
         ensures err { IfErr result (λ e. e ≡ Fault.Memory) }
     {
         match &self.step.action {
-            Action::MapNames(_) => mapped(alloc, &self.froms, self.once.as_slice(), name),
-            Action::MapPrefixes(_) => prefixed(alloc, &self.froms, self.once.as_slice(), name),
+            Action::MapNames(_) => mapped(
+                alloc,
+                &self.keys,
+                self.distinct_targets.as_slice(),
+                name,
+            ),
+            Action::MapPrefixes(_) => prefixed(
+                alloc,
+                &self.keys,
+                self.distinct_targets.as_slice(),
+                name,
+            ),
             Action::Prefix(_)
             | Action::Suffix(_)
             | Action::Drop

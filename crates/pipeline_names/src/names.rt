@@ -6,7 +6,7 @@ ghost use Rattle.pipeline_names.specs.Made.{AreUnfit};
 ghost use Rattle.pipeline_names.specs.Names as spec;
 ghost use Rattle.pipeline_names.specs.Renamed as renamed;
 
-use crate::list::{Most, NameList};
+use crate::list::{NameLimit, NameList};
 use crate::mapping::Renaming;
 use sig_base::{Fault, Text};
 use std::alloc::Global;
@@ -14,7 +14,7 @@ use std::alloc::Global;
 /// Adds what the step makes of the name.
 fn add_for(
     alloc: Global,
-    most: Most,
+    limit: NameLimit,
     list: &mut NameList,
     renaming: &Renaming,
     name: &Text,
@@ -22,26 +22,26 @@ fn add_for(
     requires { AreKnown list.old.names.items list.old.known }
     ensures ok { OnOk result (list.new.names.items ≡ spec.with_names list.old.names.items (spec.names_for renaming.now.step.now name.now)) }
     ensures known { OnOk result (AreKnown list.new.names.items list.new.known) }
-    ensures unfit { IfErr result (AreUnfit most.place most.names (spec.with_names list.old.names.items (spec.names_for renaming.now.step.now name.now))) }
+    ensures unfit { IfErr result (AreUnfit limit.place limit.names (spec.with_names list.old.names.items (spec.names_for renaming.now.step.now name.now))) }
 {
     let made = renaming.made_once(alloc, name)?;
-    list.add_made(alloc, most, made)
+    list.add_made(alloc, limit, made)
 }
 
 /// The names that the step makes of these, each once.
 #[tactic(auto, using(crate::proofs::NameLists::turn_at, crate::proofs::NameLists::unfit_there))]
 pub fn rename_names(
     alloc: Global,
-    most: Most,
+    limit: NameLimit,
     renaming: &Renaming,
     names: &[Text],
 ) -> Result<Vec<Text>, Fault>
     ensures ok { IfOk result (λ v. v.items ≡ renamed.renamed_names (spec.names_for renaming.now.step.now) names.now) }
-    ensures unfit { IfErr result (AreUnfit most.place most.names (renamed.renamed_names (spec.names_for renaming.now.step.now) names.now)) }
+    ensures unfit { IfErr result (AreUnfit limit.place limit.names (renamed.renamed_names (spec.names_for renaming.now.step.now) names.now)) }
 {
     let mut list = NameList::new(alloc);
     for name in names {
-        add_for(alloc, most, &mut list, renaming, name)?;
+        add_for(alloc, limit, &mut list, renaming, name)?;
     }
     let NameList { names, known: _ } = list;
     Ok(names)

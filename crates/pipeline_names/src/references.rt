@@ -35,13 +35,13 @@ fn push_each(
     alloc: Global,
     place: Place,
     all: &mut Vec<Test>,
-    fronts: &[Text],
+    prefixes: &[Text],
     back: &Text,
 ) -> Result<(), Fault>
-    ensures ok { OnOk result (all.new.items ≡ all.old.items ++ map tests.SameAs (spec.each_before fronts.now back.now)) }
-    ensures illegal { IfErr result (IsIllegal place (list_all compares_legally (map tests.SameAs (spec.each_before fronts.now back.now)))) }
+    ensures ok { OnOk result (all.new.items ≡ all.old.items ++ map tests.SameAs (spec.each_before prefixes.now back.now)) }
+    ensures illegal { IfErr result (IsIllegal place (list_all compares_legally (map tests.SameAs (spec.each_before prefixes.now back.now)))) }
 {
-    for front in fronts {
+    for front in prefixes {
         push_one(place, all, joined(alloc, front, back)?)?;
     }
     Ok(())
@@ -58,7 +58,7 @@ fn push_made(alloc: Global, place: Place, all: &mut Vec<Test>, made: Made) -> Re
             push_one(place, all, text)?;
             Ok(())
         }
-        Made::Each { fronts, back } => push_each(alloc, place, all, fronts, &back),
+        Made::Each { prefixes, back } => push_each(alloc, place, all, prefixes, &back),
     }
 }
 

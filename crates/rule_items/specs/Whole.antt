@@ -1,5 +1,5 @@
 -- What the detections of every rule that is read keep: nothing in them is empty, their names are legal, and their patterns have no
--- placeholder and no U+0000.
+-- U+0000.
 use Rattle.std.specs.Prelude.{List}
 use Rattle.event_schema.specs.Lists.{EachOf, HasElement}
 use Rattle.sig_modifiers.specs.PlainTests.{ArePlainTests, IsPatternTest}

@@ -22,7 +22,7 @@ use Rattle.rule_lowering.proofs.Found.{each_name, each_passes}
 use Rattle.rule_matching.proofs.Iffs.{iff_same, over_flat, each_append, each_then}
 use Rattle.rule_model.specs.Plain.{PlainRule}
 use Rattle.rule_model.specs.Whole.{IsWhole}
-use Rattle.rule_schema.specs.Inferred.{is_field, fields_refusal, item_line, fit_refusal, items_of}
+use Rattle.rule_schema.specs.Inferred.{is_field, fields_refusal, item_line, fit_refusal, items_of, open_line, open_refusal}
 use Rattle.rule_schema.specs.Kinds.{asks_whole, asks_address, some_asks, is_whole, is_address, is_field_of, are_alike, are_of_kinds}
 use Rattle.sig_base.specs.declared.refusal.Place.{Place}
 use Rattle.sig_base.specs.Judged.{must, first}
@@ -50,6 +50,12 @@ pub names_fit : (fields : List Field) (place : Place) (values : List (List Test)
     → AreFitting fields values names
 names_fit fields place values names h = both_hold place (list_all (is_field fields) (names ++ references_in values)) (are_of_kinds fields values names) h
 
+-- what holds of each item of detections
+pub items_each : (P : Item → Type 0) (ds : List Detection) → EachOf P (items_of ds) → EachOf (λ d. EachOf (λ items. EachOf P items) d.alternatives) ds
+items_each P ds h =
+    (over_flat All (λ d. flat_map (λ items. items) d.alternatives) P (λ d. EachOf (λ items. EachOf P items) d.alternatives)
+    (λ d. over_flat All (λ items. items) P (λ items. EachOf P items) (λ items. iff_same) d.alternatives) ds).0 h
+
 module _ (fields : List Field) where
   abbrev pub ItemPasses : Item → Type 0
   ItemPasses i = item_line fields i ≡ None
@@ -57,18 +63,30 @@ module _ (fields : List Field) where
   abbrev pub DetectionPasses : Detection → Type 0
   DetectionPasses d = EachOf (λ items. EachOf ItemPasses items) d.alternatives
 
-  items_pass : (ds : List Detection) → EachOf ItemPasses (items_of ds) → EachOf DetectionPasses ds
-  items_pass ds h =
-      (over_flat All (λ d. flat_map (λ items. items) d.alternatives) ItemPasses DetectionPasses
-      (λ d. over_flat All (λ items. items) ItemPasses (λ items. EachOf ItemPasses items) (λ items. iff_same) d.alternatives) ds).0 h
-
   abbrev pub Fine : List Detection → Type 0
   Fine ds = EachOf (λ d. IsWholeDetection d × DetectionPasses d) ds
+
+  -- it fits the fields, and no placeholder of it stands open
+  abbrev pub ItemIsReady : Item → Type 0
+  ItemIsReady i = (item_line fields i ≡ None) × (open_line i ≡ None)
+
+  abbrev pub DetectionIsReady : Detection → Type 0
+  DetectionIsReady d = EachOf (λ items. EachOf ItemIsReady items) d.alternatives
+
+  abbrev pub AreReady : List Detection → Type 0
+  AreReady ds = EachOf (λ d. IsWholeDetection d × DetectionIsReady d) ds
 
 pub rule_fine : (schema : Schema) (rule : PlainRule) → IsWhole rule → fit_refusal schema rule ≡ None → Fine schema.fields rule.detections
 rule_fine schema rule w fits =
     each_both IsWholeDetection (DetectionPasses schema.fields) rule.detections w.detections
-    (items_pass schema.fields rule.detections (each_passes (item_line schema.fields) (items_of rule.detections) fits))
+    (items_each (ItemPasses schema.fields) rule.detections (each_passes (item_line schema.fields) (items_of rule.detections) fits))
+
+pub rule_ready : (schema : Schema) (rule : PlainRule) → IsWhole rule → open_refusal rule ≡ None → fit_refusal schema rule ≡ None → AreReady schema.fields rule.detections
+rule_ready schema rule w filled fits =
+    each_both IsWholeDetection (DetectionIsReady schema.fields) rule.detections w.detections
+    (items_each (ItemIsReady schema.fields) rule.detections
+    (each_both (λ i. item_line schema.fields i ≡ None) (λ i. open_line i ≡ None) (items_of rule.detections)
+    (each_passes (item_line schema.fields) (items_of rule.detections) fits) (each_passes open_line (items_of rule.detections) filled)))
 
 -- ---- tests and the kinds of their fields
 

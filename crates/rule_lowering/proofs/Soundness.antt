@@ -1,8 +1,9 @@
--- The tree of a whole rule that fits the schema is sound.
+-- The tree of a whole rule that fits the schema is sound, where no placeholder stands open.
 use Rattle.std.proofs.Common.{ℕ, zero, suc, ◌≡◌, ◌<◌, ◌≤◌, ◌-◌, ◌*◌, ◌^◌, ℤ, Bool, true, false, if◌then◌else◌, List, [], ◌∷◌, ◌++◌, length, map, refl, sym, subst, arith}
 use Rattle.std.specs.Prelude.{Option, Some, None, option_map, ⊤}
 use Rattle.std.specs.Fmt.{signed_decimal}
 use Rattle.std.specs.List.{flat_map, list_all}
+use Rattle.std.proofs.lemmas.Bool.{and_parts}
 use Rattle.backend_core.specs.Sound.{IsSoundPattern, kind_at, IsSoundTest, AreTwo, IsSound, AreSound}
 use Rattle.backend_core.specs.Trees.{Plain, all, any, negated, leaf, never, Plains, no_parts, a_part}
 use Rattle.backend_core.specs.declared.tree.LeafTest.{LeafTest}
@@ -12,11 +13,11 @@ use Rattle.event_schema.specs.declared.schema.Field.{Field}
 use Rattle.event_schema.specs.declared.schema.FieldKind.{FieldKind}
 use Rattle.event_schema.specs.declared.schema.FieldKind.TheVariants as kinds
 use Rattle.event_schema.specs.declared.schema.Schema.{Schema}
-use Rattle.rule_schema.specs.Inferred.{is_field, fields_refusal, fit_refusal}
+use Rattle.rule_schema.specs.Inferred.{is_field, fields_refusal, open_refusal, fit_refusal}
 use Rattle.sig_modifiers.specs.References.{references_in}
 use Rattle.event_schema.specs.Lists.{EachOf, HasElement}
 use Rattle.rule_model.specs.Plain.{PlainRule}
-use Rattle.sig_modifiers.specs.PlainTests.{IsPlainTest, IsPatternTest}
+use Rattle.sig_modifiers.specs.PlainTests.{IsPlainTest, IsPatternTest, is_filled_test}
 use Rattle.value_patterns.specs.PlainPatterns.{IsDashedPattern, IsPlainPattern}
 use Rattle.rule_items.specs.Whole.{IsWholeValue, AreWholeFields, IsWholeItem, IsWholeAlternative, IsWholeDetection}
 use Rattle.rule_model.specs.Whole.{IsWholeForm, AreSomeForms, AreWholeForms, IsWhole}
@@ -46,7 +47,7 @@ use Rattle.value_patterns.proofs.Numbers.{whole_holds}
 use Rattle.rule_lowering.specs.WholeNumbers.{written_number}
 use Rattle.rule_lowering.proofs.Decimals.{characters, own_text, characters_written, low_decimal, low_plain}
 use Rattle.field_numbers.proofs.Found.{field_within, searched_within}
-use Rattle.rule_lowering.proofs.Fitted.{each_both, ItemPasses, DetectionPasses, Fine, names_fit, rule_fine, IsLike, IsMet, AreMet, patterns_met, names_met}
+use Rattle.rule_lowering.proofs.Fitted.{each_both, ItemIsReady, DetectionIsReady, AreReady, names_fit, rule_ready, IsLike, IsMet, AreMet, patterns_met, names_met}
 use Rattle.rule_lowering.proofs.Found.{some_searched, must_holds, each_name}
 use Rattle.rule_matching.proofs.Iffs.{each_append}
 use Rattle.rule_lowering.proofs.Written.{written_is}
@@ -60,6 +61,10 @@ each_with P Q f holds (x ∷ xs) h = (holds x h.0, each_with P Q f holds xs h.1)
 some_map : {A B : Type 0} (f : A → B) (xs : List A) → HasElement xs → HasElement (map f xs)
 some_map f [] h = absurd h
 some_map f (x ∷ xs) h = tt
+
+each_true : {A : Type 0} (p : A → Bool) (xs : List A) → list_all p xs ≡ true → EachOf (λ x. p x ≡ true) xs
+each_true p [] h = tt
+each_true p (x ∷ xs) h = let both = and_parts (p x) (list_all p xs) h in (both.0, each_true p xs both.1)
 
 some_append : {A : Type 0} (xs ys : List A) → HasElement xs → HasElement (xs ++ ys)
 some_append [] ys h = absurd h
@@ -244,43 +249,58 @@ module _ (choices_plain : (parts : List Part) → IsDashedPattern parts → Each
     some_written (tests.SameAs name) = tt
     some_written (tests.Finds text flags) = tt
 
-    each_written : (kind : FieldKind) (test : Test) → IsPlainTest test → IsMet fields kind test → EachOf (IsWrittenTest kind) (written_tests test)
-    each_written kind tests.Absent h met = (tt, tt)
-    each_written kind (tests.Exists there) h met = (tt, tt)
-    each_written kind (tests.Fits parts cased) h met =
-        each_with IsSoundPattern (IsWrittenTest kind) (λ chosen. tests.Fits chosen cased) (λ chosen sound. sound) (choices parts) (choices_sound parts h)
-    each_written kind (tests.Equals n) h met = (tt, tt)
-    each_written kind (tests.Inside n) h met =
+    each_written : (kind : FieldKind) (test : Test) → IsPlainTest test → is_filled_test test ≡ true → IsMet fields kind test
+        → EachOf (IsWrittenTest kind) (written_tests test)
+    each_written kind tests.Absent h filled met = (tt, tt)
+    each_written kind (tests.Exists there) h filled met = (tt, tt)
+    each_written kind (tests.Fits parts cased) h filled met =
+        each_with IsSoundPattern (IsWrittenTest kind) (λ chosen. tests.Fits chosen cased) (λ chosen sound. sound) (choices parts)
+        (choices_sound parts (record { filled = filled; plain = h }))
+    each_written kind (tests.Equals n) h filled met = (tt, tt)
+    each_written kind (tests.Inside n) h filled met =
         each_with IsSoundPattern (IsWrittenTest kind) (λ pattern. tests.Fits pattern false) (λ pattern sound. sound) (patterns_of n)
         (all_sound (patterns_of n) (networks_plain n h.0 h.1))
-    each_written kind (tests.Compare op n) h met = (h, tt)
-    each_written kind (tests.SameAs name) h met = (met, tt)
-    each_written kind (tests.Finds text flags) h met = (h, tt)
+    each_written kind (tests.Compare op n) h filled met = (h, tt)
+    each_written kind (tests.SameAs name) h filled met = (met, tt)
+    each_written kind (tests.Finds text flags) h filled met = (h, tt)
 
-    -- a test that any rule may ask, of a field of a kind that takes it
+    -- a test that a rule without placeholders may ask
+    abbrev IsFilledTest : Test → Type 0
+    IsFilledTest test = IsPlainTest test × (is_filled_test test ≡ true)
+
+    abbrev IsFilledValue : List Test → Type 0
+    IsFilledValue ts = IsWholeValue ts × (list_all is_filled_test ts ≡ true)
+
+    wholes : (values : List (List Test)) → EachOf IsFilledValue values → EachOf IsWholeValue values
+    wholes [] h = tt
+    wholes (ts ∷ values) h = (h.0.0, wholes values h.1)
+
+    -- of a field of a kind that takes it
     abbrev IsFitTest : FieldKind → Test → Type 0
-    IsFitTest kind test = IsPlainTest test × IsMet fields kind test
+    IsFitTest kind test = IsFilledTest test × IsMet fields kind test
 
     test_sound : (place : Place) (n : ℕ) → n < length fields → (test : Test) → IsFitTest (kind n) test → IsSound fields (test_tree fields place (kind n) n test)
     test_sound place n within test h =
         join_map_sound (IsWrittenTest (kind n)) Any (written_tree fields place (kind n) n) (written_tree_sound place n within) (written_tests test)
-        (some_written test) (each_written (kind n) test h.0 h.1)
+        (some_written test) (each_written (kind n) test h.0.0 h.0.1 h.1)
 
     abbrev IsFitValue : FieldKind → List Test → Type 0
-    IsFitValue kind ts = IsWholeValue ts × AreMet fields kind ts
+    IsFitValue kind ts = IsFilledValue ts × AreMet fields kind ts
 
     value_sound : (place : Place) (n : ℕ) → n < length fields → (ts : List Test) → IsFitValue (kind n) ts → IsSound fields (value_tree fields place (kind n) n ts)
     value_sound place n within ts h =
         join_map_sound (IsFitTest (kind n)) Any (test_tree fields place (kind n) n)
-        (test_sound place n within) ts h.0.some (each_both IsPlainTest (IsMet fields (kind n)) ts h.0.each h.1)
+        (test_sound place n within) ts h.0.0.some
+        (each_both IsFilledTest (IsMet fields (kind n)) ts
+        (each_both IsPlainTest (λ test. is_filled_test test ≡ true) ts h.0.0.each (each_true is_filled_test ts h.0.1)) h.1)
 
-    values_sound : (place : Place) (j : Joined) (values : List (List Test)) → HasElement values → EachOf IsWholeValue values
+    values_sound : (place : Place) (j : Joined) (values : List (List Test)) → HasElement values → EachOf IsFilledValue values
         → (n : ℕ) → n < length fields → EachOf (AreMet fields (kind n)) values → IsSound fields (number_tree fields place j values n)
     values_sound place j values s h n within met =
         join_map_sound (IsFitValue (kind n)) j (value_tree fields place (kind n) n) (value_sound place n within) values s
-        (each_both IsWholeValue (AreMet fields (kind n)) values h met)
+        (each_both IsFilledValue (AreMet fields (kind n)) values h met)
 
-    keyword_sound : (place : Place) → HasElement (searched fields) → (ts : List Test) → IsWholeValue ts × EachOf IsPatternTest ts
+    keyword_sound : (place : Place) → HasElement (searched fields) → (ts : List Test) → IsFilledValue ts × EachOf IsPatternTest ts
         → IsSound fields (keyword_tree fields place ts)
     keyword_sound place s ts h =
         join_map_sound (λ n. n < length fields) Any (λ n. value_tree fields place (kind n) n ts)
@@ -292,51 +312,55 @@ module _ (choices_plain : (parts : List Part) → IsDashedPattern parts → Each
     names_within names others h =
         ((each_append (λ name. number_of fields name < length fields) names others).0 (each_name (is_field fields) (field_within fields) (names ++ others) h)).0
 
-    fields_sound : (place : Place) (j : Joined) (values : List (List Test)) (fs : Fields) → AreWholeFields fs values → HasElement values → EachOf IsWholeValue values
+    fields_sound : (place : Place) (j : Joined) (values : List (List Test)) (fs : Fields) → AreWholeFields fs values → HasElement values → EachOf IsFilledValue values
         → fields_refusal fields place values fs ≡ None → IsSound fields (fields_tree fields place j values fs)
     fields_sound place j values Keyword w s h fits =
-        join_map_sound (λ ts. IsWholeValue ts × EachOf IsPatternTest ts) j (keyword_tree fields place)
+        join_map_sound (λ ts. IsFilledValue ts × EachOf IsPatternTest ts) j (keyword_tree fields place)
         (keyword_sound place (some_searched fields (must_holds 83 place _ fits))) values s
-        (each_both IsWholeValue (λ ts. EachOf IsPatternTest ts) values h w)
+        (each_both IsFilledValue (λ ts. EachOf IsPatternTest ts) values h w)
     fields_sound place j values (Names names) w s h fits =
         let fit = names_fit fields place values names fits in
         join_map_sound (λ name. (number_of fields name < length fields) × EachOf (AreMet fields (kind (number_of fields name))) values) Any
         (λ name. number_tree fields place j values (number_of fields name))
         (λ name met. values_sound place j values s h (number_of fields name) met.0 met.1) names w.0
         (each_both (λ name. number_of fields name < length fields) (λ name. EachOf (AreMet fields (kind (number_of fields name))) values) names
-        (names_within names (references_in values) fit.0) (names_met fields values names h fit))
+        (names_within names (references_in values) fit.0) (names_met fields values names (wholes values h) fit))
 
-    item_sound : (i : Item) → IsWholeItem i × ItemPasses fields i → IsSound fields (item_tree fields i)
-    item_sound i h = fields_sound i.place i.joined i.tests i.fields h.0.fields h.0.some h.0.each h.1
+    item_sound : (i : Item) → IsWholeItem i × ItemIsReady fields i → IsSound fields (item_tree fields i)
+    item_sound i h =
+        fields_sound i.place i.joined i.tests i.fields h.0.fields h.0.some
+        (each_both IsWholeValue (λ ts. list_all is_filled_test ts ≡ true) i.tests h.0.each
+        (each_true (list_all is_filled_test) i.tests (must_holds 98 i.place _ h.1.1))) h.1.0
 
-    alternative_sound : (items : List Item) → IsWholeAlternative items × EachOf (ItemPasses fields) items → IsSound fields (alternative_tree fields items)
+    alternative_sound : (items : List Item) → IsWholeAlternative items × EachOf (ItemIsReady fields) items → IsSound fields (alternative_tree fields items)
     alternative_sound items h =
-        join_map_sound (λ i. IsWholeItem i × ItemPasses fields i) All (item_tree fields) item_sound items h.0.some (each_both IsWholeItem (ItemPasses fields) items h.0.each h.1)
+        join_map_sound (λ i. IsWholeItem i × ItemIsReady fields i) All (item_tree fields) item_sound items h.0.some
+        (each_both IsWholeItem (ItemIsReady fields) items h.0.each h.1)
 
-    detection_sound : (d : Detection) → IsWholeDetection d × DetectionPasses fields d → IsSound fields (detection_tree fields d)
+    detection_sound : (d : Detection) → IsWholeDetection d × DetectionIsReady fields d → IsSound fields (detection_tree fields d)
     detection_sound d h =
-        join_map_sound (λ items. IsWholeAlternative items × EachOf (ItemPasses fields) items) Any (alternative_tree fields) alternative_sound d.alternatives h.0.some
-        (each_both IsWholeAlternative (λ items. EachOf (ItemPasses fields) items) d.alternatives h.0.each h.1)
+        join_map_sound (λ items. IsWholeAlternative items × EachOf (ItemIsReady fields) items) Any (alternative_tree fields) alternative_sound d.alternatives h.0.some
+        (each_both IsWholeAlternative (λ items. EachOf (ItemIsReady fields) items) d.alternatives h.0.each h.1)
 
     -- ---- conditions
 
-    numbered_sound : (ds : List Detection) → Fine fields ds → (n : ℕ) → n < length ds → IsSound fields (numbered_tree fields ds n)
+    numbered_sound : (ds : List Detection) → AreReady fields ds → (n : ℕ) → n < length ds → IsSound fields (numbered_tree fields ds n)
     numbered_sound [] h n within = absurd (omega arith)
     numbered_sound (d ∷ ds) h zero within = detection_sound d h.0
     numbered_sound (d ∷ ds) h (suc n) within = numbered_sound ds h.1 n (omega arith)
 
     mutual
-      form_sound : (ds : List Detection) → Fine fields ds → (f : PlainFormula) → IsWholeForm (length ds) f → IsSound fields (form_tree fields ds f)
+      form_sound : (ds : List Detection) → AreReady fields ds → (f : PlainFormula) → IsWholeForm (length ds) f → IsSound fields (form_tree fields ds f)
       form_sound ds h (FDetection n) w = numbered_sound ds h n w
       form_sound ds h (FNot f) w = form_sound ds h f w
       form_sound ds h (FAnd fs) w = join_sound All (form_trees fields ds fs) (some_forms ds fs w) (some_forms_sound ds h fs w)
       form_sound ds h (FOr fs) w = join_sound Any (form_trees fields ds fs) (some_forms ds fs w) (some_forms_sound ds h fs w)
 
-      some_forms_sound : (ds : List Detection) → Fine fields ds → (fs : PlainFormulas) → AreSomeForms (length ds) fs → EachOf (IsSound fields) (form_trees fields ds fs)
+      some_forms_sound : (ds : List Detection) → AreReady fields ds → (fs : PlainFormulas) → AreSomeForms (length ds) fs → EachOf (IsSound fields) (form_trees fields ds fs)
       some_forms_sound ds h no_forms w = tt
       some_forms_sound ds h (form f fs) w = (form_sound ds h f w.0, forms_sound ds h fs w.1)
 
-      forms_sound : (ds : List Detection) → Fine fields ds → (fs : PlainFormulas) → AreWholeForms (length ds) fs → EachOf (IsSound fields) (form_trees fields ds fs)
+      forms_sound : (ds : List Detection) → AreReady fields ds → (fs : PlainFormulas) → AreWholeForms (length ds) fs → EachOf (IsSound fields) (form_trees fields ds fs)
       forms_sound ds h no_forms w = tt
       forms_sound ds h (form f fs) w = (form_sound ds h f w.0, forms_sound ds h fs w.1)
 
@@ -344,9 +368,9 @@ module _ (choices_plain : (parts : List Part) → IsDashedPattern parts → Each
       some_forms ds no_forms w = absurd w
       some_forms ds (form f fs) w = tt
 
-  pub tree_sound : (schema : Schema) (rule : PlainRule) → IsWhole rule → fit_refusal schema rule ≡ None → IsSound schema.fields (tree_of schema rule)
-  tree_sound schema rule w fits =
+  pub tree_sound : (schema : Schema) (rule : PlainRule) → IsWhole rule → open_refusal rule ≡ None → fit_refusal schema rule ≡ None → IsSound schema.fields (tree_of schema rule)
+  tree_sound schema rule w filled fits =
       let fields = schema.fields in
       let ds = rule.detections in
-      let fine : Fine fields ds = rule_fine schema rule w fits in
+      let fine : AreReady fields ds = rule_ready schema rule w filled fits in
       join_map_sound fields (IsWholeForm (length ds)) Any (form_tree fields ds) (form_sound fields ds fine) rule.conditions w.some w.conditions

@@ -6,7 +6,7 @@ ghost use Rattle.backend_core.specs.Sound.{IsSound};
 ghost use Rattle.event_schema.specs.Events.{IsEvent};
 ghost use Rattle.event_schema.specs.declared.schema.Schema.{Schema};
 ghost use Rattle.event_schema.specs.declared.value.Value.{Value};
-ghost use Rattle.rule_schema.specs.Inferred.{fit_refusal};
+ghost use Rattle.rule_schema.specs.Inferred.{fit_refusal, open_refusal};
 ghost use Rattle.rule_matching.specs.Matching.{Matches};
 ghost use Rattle.rule_model.specs.Plain.{PlainRule};
 ghost use Rattle.rule_model.specs.Whole.{IsWhole};
@@ -28,10 +28,10 @@ pub fn tree_means_rule()
     patterns_fit();
 }
 
-/// The tree of a whole rule that fits the schema is sound.
+/// The tree of a whole rule that fits the schema is sound, where no placeholder of the rule stands open.
 pub fn tree_is_sound()
     ensures { (schema : Schema) (rule : PlainRule)
-        → IsWhole rule → fit_refusal schema rule ≡ None → IsSound schema.fields (tree_of schema rule) }
+        → IsWhole rule → open_refusal rule ≡ None → fit_refusal schema rule ≡ None → IsSound schema.fields (tree_of schema rule) }
 {
     choices_are_plain();
     network_patterns_are_plain();

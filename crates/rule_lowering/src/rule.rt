@@ -8,7 +8,7 @@ ghost use Rattle.event_schema.specs.Events.{IsEvent};
 ghost use Rattle.event_schema.specs.declared.value.Value.{Value};
 ghost use Rattle.rule_lowering.specs.Refused.{told, leaves_refusal};
 ghost use Rattle.rule_lowering.specs.TreeOf.{tree_of};
-ghost use Rattle.rule_schema.specs.Inferred.{fit_refusal};
+ghost use Rattle.rule_schema.specs.Inferred.{fit_refusal, open_refusal};
 ghost use Rattle.rule_matching.specs.Matching.{Matches};
 ghost use Rattle.rule_model.specs.Plain.{rule_view};
 ghost use Rattle.rule_model.specs.Whole.{IsWhole};
@@ -44,7 +44,7 @@ fn too_many(place: Place, count: u128, limit: usize) -> Fault
 /// is want of memory.
 pub fn lower(alloc: Global, limits: &Limits, rule: &Rule, schema: &Schema) -> Result<Tree, Fault>
     ensures tree { Judged (λ t. tree_view t ≡ tree_of schema.now (rule_view rule.now)) (leaves_refusal limits.now schema.now (rule_view rule.now)) result }
-    ensures sound { IsWhole (rule_view rule.now) → fit_refusal schema.now (rule_view rule.now) ≡ None
+    ensures sound { IsWhole (rule_view rule.now) → open_refusal (rule_view rule.now) ≡ None → fit_refusal schema.now (rule_view rule.now) ≡ None
         → IfOk result (λ t. IsSound schema.now.fields (tree_view t)) }
     ensures means { IsWhole (rule_view rule.now) → fit_refusal schema.now (rule_view rule.now) ≡ None
         → IfOk result (λ t. (row : List (List Value))

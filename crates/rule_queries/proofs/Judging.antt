@@ -20,10 +20,10 @@ use Rattle.rule_items.specs.declared.expression.Expression.{Expression}
 use Rattle.rule_model.specs.Expressions.{document_expressions, rule_expressions}
 use Rattle.rule_model.specs.Plain.{PlainRule, rule_with}
 use Rattle.rule_model.specs.Rules.{lone_refusal, IsRule}
-use Rattle.rule_queries.specs.Queries.{rule_tree, query_under, query_of, query_refusal, checks_under, query_checks}
+use Rattle.rule_queries.specs.Queries.{rule_tree, query_under, query_of, query_refusal, filled_checks, checks_under, query_checks}
 use Rattle.rule_queries.specs.Rebuilt.{Rebuilt}
 use Rattle.rule_queries.specs.Verdicts.{CheckAnswers, ConvertAnswers, no_rule, no_query}
-use Rattle.rule_schema.specs.Inferred.{schema_for, made_refusal, fit_refusal}
+use Rattle.rule_schema.specs.Inferred.{schema_for, open_refusal, made_refusal, fit_refusal}
 use Rattle.sig_base.proofs.Firsts.{judged_as}
 use Rattle.sig_base.specs.Judged.{first, Judged}
 use Rattle.sig_base.specs.declared.limits.Limits.{Limits}
@@ -35,6 +35,7 @@ use Rattle.yaml_tree.specs.Tree.{Tree, Member}
 
 module _ (missing : Schema → Leaf → Option Lack) (text : Schema → Plain → List ℕ) (too_deep : Limits → Schema → Plain → Place → Option Refusal) where
   pub record NoLine (limits : Limits) (given : Option Schema) (rule : PlainRule) : Type 0 where
+    pub filled : open_refusal rule ≡ None
     pub made : made_refusal given rule ≡ None
     pub fits : fit_refusal (schema_for given rule) rule ≡ None
     pub written : write_refusal missing text too_deep limits (schema_for given rule) (tree_of (schema_for given rule) rule) rule.head.place ≡ None
@@ -50,11 +51,12 @@ module _ (missing : Schema → Leaf → Option Lack) (text : Schema → Plain �
   unfolding rule_tree
   no_line unbuilt limits given rule e =
       let schema = schema_for given rule in
-      let a = parts (made_refusal given rule) (checks_under missing text too_deep unbuilt limits schema rule) e in
+      let o = parts (open_refusal rule) (filled_checks missing text too_deep unbuilt limits given rule) e in
+      let a = parts (made_refusal given rule) (checks_under missing text too_deep unbuilt limits schema rule) o.1 in
       let b = parts (fit_refusal schema rule) (query_checks missing text too_deep unbuilt limits schema rule) a.1 in
       let c = parts (leaves_line limits schema rule) (built_line unbuilt rule ∷ write_checks missing text too_deep limits schema (rule_tree schema rule) rule.head.place) b.1 in
       let d = parts (built_line unbuilt rule) (write_checks missing text too_deep limits schema (rule_tree schema rule) rule.head.place) c.1 in
-      record { made = a.0; fits = b.0; written = d.1 }
+      record { filled = o.0; made = a.0; fits = b.0; written = d.1 }
 
   -- what is answered of the rule's tree, where its leaves are few enough
   pub written : (unbuilt : List Place) (limits : Limits) (rule : PlainRule) (schema : Schema) (t : Plain) (r : Result (List ℕ) Fault) → t ≡ tree_of schema rule
@@ -94,14 +96,14 @@ module _ (missing : Schema → Leaf → Option Lack) (text : Schema → Plain �
 
   -- no schema is made of the rule
   pub unmade : {X Y : Type 0} (unbuilt : List Place) (limits : Limits) (rule : PlainRule) (P : X → Type 0) (Q : Y → Type 0) (fault : Fault)
-      → Judged P (made_refusal None rule) (Err fault) → Judged Q (query_refusal missing text too_deep unbuilt limits None rule) (Err fault)
+      → Judged P (made_refusal None rule) (Err fault) → Judged Q (first (filled_checks missing text too_deep unbuilt limits None rule)) (Err fault)
   unmade unbuilt limits rule P Q Memory judged = tt
   unmade unbuilt limits rule P Q (Refused r) is = line_decides (made_refusal None rule) r (checks_under missing text too_deep unbuilt limits (schema_for None rule) rule) is
 
   -- the rule doesn't fit the schema that is made of it, or there is no memory to see whether it does
   pub unfit_made : {Y : Type 0} (unbuilt : List Place) (limits : Limits) (rule : PlainRule) (schema : Schema) (Q : Y → Type 0) (fault : Fault)
       → (made_refusal None rule ≡ None) × (schema ≡ schema_for None rule)
-      → Judged {X = Unit {0}} (λ done. Unit {0}) (fit_refusal schema rule) (Err fault) → Judged {X = Y} Q (query_refusal missing text too_deep unbuilt limits None rule) (Err fault)
+      → Judged {X = Unit {0}} (λ done. Unit {0}) (fit_refusal schema rule) (Err fault) → Judged {X = Y} Q (first (filled_checks missing text too_deep unbuilt limits None rule)) (Err fault)
   unfit_made unbuilt limits rule schema Q Memory made judged = tt
   unfit_made unbuilt limits rule schema Q (Refused r) made is =
       rest_decides (made_refusal None rule) (checks_under missing text too_deep unbuilt limits (schema_for None rule) rule) made.0
@@ -112,21 +114,21 @@ module _ (missing : Schema → Leaf → Option Lack) (text : Schema → Plain �
   pub written_made : (unbuilt : List Place) (limits : Limits) (rule : PlainRule) (schema : Schema) (r : Result (List ℕ) Fault)
       → (made_refusal None rule ≡ None) × (schema ≡ schema_for None rule) → fit_refusal schema rule ≡ None
       → Judged (λ bytes. bytes ≡ query_under text schema rule) (first (query_checks missing text too_deep unbuilt limits schema rule)) r
-      → Judged (λ bytes. bytes ≡ query_of text None rule) (query_refusal missing text too_deep unbuilt limits None rule) r
+      → Judged (λ bytes. bytes ≡ query_of text None rule) (first (filled_checks missing text too_deep unbuilt limits None rule)) r
   written_made unbuilt limits rule schema r made fits judged =
       let own = schema_for None rule in
       let at_own : Judged (λ bytes. bytes ≡ query_under text own rule) (first (query_checks missing text too_deep unbuilt limits own rule)) r =
       subst (λ (s : Schema). Judged (λ bytes. bytes ≡ query_under text s rule) (first (query_checks missing text too_deep unbuilt limits s rule)) r) made.1 judged in
       judged_as (λ (bytes : List ℕ). bytes ≡ query_under text own rule) (λ (bytes : List ℕ). bytes ≡ query_of text None rule)
-      (first (query_checks missing text too_deep unbuilt limits own rule)) (query_refusal missing text too_deep unbuilt limits None rule) r
+      (first (query_checks missing text too_deep unbuilt limits own rule)) (first (filled_checks missing text too_deep unbuilt limits None rule)) r
       (rest_decides (made_refusal None rule) (checks_under missing text too_deep unbuilt limits own rule) made.0
       ∙ rest_decides (fit_refusal own rule) (query_checks missing text too_deep unbuilt limits own rule) (subst (λ (s : Schema). fit_refusal s rule ≡ None) made.1 fits))
       (λ bytes is. is) at_own
 
   -- where no schema is given, what is said of none
   pub given_none : {T : Type 0} (schema_of : T → Schema) (given : Option T) (unbuilt : List Place) (limits : Limits) (rule : PlainRule) (r : Result (List ℕ) Fault) → given ≡ None
-      → Judged (λ bytes. bytes ≡ query_of text None rule) (query_refusal missing text too_deep unbuilt limits None rule) r
-      → Judged (λ bytes. bytes ≡ query_of text (option_map schema_of given) rule) (query_refusal missing text too_deep unbuilt limits (option_map schema_of given) rule) r
+      → Judged (λ bytes. bytes ≡ query_of text None rule) (first (filled_checks missing text too_deep unbuilt limits None rule)) r
+      → Judged (λ bytes. bytes ≡ query_of text (option_map schema_of given) rule) (first (filled_checks missing text too_deep unbuilt limits (option_map schema_of given) rule)) r
   given_none schema_of None unbuilt limits rule r none judged = judged
   given_none schema_of (Some x) unbuilt limits rule r none judged = absurd cc
 
@@ -150,6 +152,31 @@ module _ (missing : Schema → Leaf → Option Lack) (text : Schema → Plain �
       → Judged P (lone_refusal unbuilt.values limits t) (Err fault) → ConvertAnswers missing text too_deep unbuilt limits given t (Err fault)
   unread_answers unbuilt limits given t P Memory j = tt
   unread_answers unbuilt limits given t P (Refused r) j = no_rule j
+
+  -- a placeholder of the rule stands open
+  pub stands_open : (limits : Limits) (given : Option Schema) (rule : PlainRule) (texts : List (List ℕ)) (r : Refusal) → open_refusal rule ≡ Some r
+      → Rebuilt (rule_expressions rule) texts texts (λ unbuilt. Judged (λ bytes. bytes ≡ query_of text given rule) (query_refusal missing text too_deep unbuilt limits given rule) (Err (Refused r)))
+  stands_open limits given rule texts r is = record {
+    unbuilt = [];
+    refused = [];
+    follows = sym (append-nil texts);
+    places = tt;
+    says = line_decides (open_refusal rule) r (filled_checks missing text too_deep [] limits given rule) is;
+  }
+
+  -- or none does
+  pub stands_filled : (limits : Limits) (given : Option Schema) (rule : PlainRule) (before after : List (List ℕ)) (r : Result (List ℕ) Fault) → open_refusal rule ≡ None
+      → Rebuilt (rule_expressions rule) before after (λ unbuilt. Judged (λ bytes. bytes ≡ query_of text given rule) (first (filled_checks missing text too_deep unbuilt limits given rule)) r)
+      → Rebuilt (rule_expressions rule) before after (λ unbuilt. Judged (λ bytes. bytes ≡ query_of text given rule) (query_refusal missing text too_deep unbuilt limits given rule) r)
+  stands_filled limits given rule before after r none h = record {
+    unbuilt = h.unbuilt;
+    refused = h.refused;
+    follows = h.follows;
+    places = h.places;
+    says = judged_as (λ (bytes : List ℕ). bytes ≡ query_of text given rule) (λ (bytes : List ℕ). bytes ≡ query_of text given rule)
+        (first (filled_checks missing text too_deep h.unbuilt limits given rule)) (query_refusal missing text too_deep h.unbuilt limits given rule) r
+        (rest_decides (open_refusal rule) (filled_checks missing text too_deep h.unbuilt limits given rule) none) (λ bytes is. is) h.says;
+  }
 
   -- the rule doesn't fit the given schema
   pub unfit_under : (limits : Limits) (rule : PlainRule) (schema : Schema) (texts : List (List ℕ)) (r : Refusal) → fit_refusal schema rule ≡ Some r

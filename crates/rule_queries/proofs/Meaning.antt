@@ -24,7 +24,7 @@ use Rattle.rule_queries.specs.Queries.{rule_tree, query_under, query_of, Convert
 use Rattle.rule_queries.specs.Verdicts.{IsConverted}
 use Rattle.rule_queries.proofs.Judging.{no_line}
 use Rattle.rule_schema.proofs.NamesApart.{rule_legal, rule_apart, fields_kept, own_names, no_twins}
-use Rattle.rule_schema.specs.Inferred.{fit_refusal, items_of, uses_of, rule_names, made_field, schema_for, made_refusal}
+use Rattle.rule_schema.specs.Inferred.{open_refusal, fit_refusal, items_of, uses_of, rule_names, made_field, schema_for, made_refusal}
 use Rattle.sig_base.specs.declared.limits.Limits.{Limits}
 use Rattle.sig_base.specs.declared.refusal.Place.{Place}
 use Rattle.sig_base.specs.declared.refusal.Refusal.{Refusal}
@@ -39,7 +39,7 @@ TreesMean = (schema : Schema) (rule : PlainRule) (row : List (List Value)) → I
     → TreeHolds row (tree_of schema rule) ↔ Matches schema.fields row rule
 
 abbrev TreesSound : Type 0
-TreesSound = (schema : Schema) (rule : PlainRule) → IsWhole rule → fit_refusal schema rule ≡ None → IsSound schema.fields (tree_of schema rule)
+TreesSound = (schema : Schema) (rule : PlainRule) → IsWhole rule → open_refusal rule ≡ None → fit_refusal schema rule ≡ None → IsSound schema.fields (tree_of schema rule)
 
 both_ways : {A B C : Type 0} → A ↔ B → B ↔ C → A ↔ C
 both_ways f g = ((λ a. g.0 (f.0 a)), (λ c. f.1 (g.1 c)))
@@ -74,7 +74,7 @@ module _ (missing : Schema → Leaf → Option Lack) (text : Schema → Plain �
       let taken = (parts (correlation_refusal t) (rule_refusal unbuilt.values limits t ∷ []) converted.lone.taken).1 in
       let whole = wholes unbuilt.values limits t rule (parts (rule_refusal unbuilt.values limits t) [] taken).0 converted.lone.is texts in
       let schema = schema_for given rule in
-      let sound = sounds schema rule whole lines.fits in
+      let sound = sounds schema rule whole lines.filled lines.fits in
       let query = texts_mean limits schema (tree_of schema rule) rule.head.place (schema_named given rule is whole lines.made) sound lines.written in
       record {
         query = query.query;

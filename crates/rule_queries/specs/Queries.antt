@@ -9,7 +9,7 @@ use Rattle.backend_core.specs.declared.lack.Lack.{Lack}
 use Rattle.backend_core.specs.declared.tree.Leaf.{Leaf}
 use Rattle.event_schema.specs.declared.schema.Schema.{Schema}
 use Rattle.event_schema.specs.declared.value.Value.{Value}
-use Rattle.rule_schema.specs.Inferred.{schema_for, made_refusal, fit_refusal}
+use Rattle.rule_schema.specs.Inferred.{schema_for, open_refusal, made_refusal, fit_refusal}
 use Rattle.rule_building.specs.Unbuilt.{unbuilt_refusal}
 use Rattle.rule_matching.specs.Matching.{Matches}
 use Rattle.rule_model.specs.Expressions.{rule_expressions}
@@ -47,9 +47,13 @@ module _ (missing : Schema → Leaf → Option Lack) (text : Schema → Plain �
   abbrev pub checks_under : List Place → Limits → Schema → PlainRule → List (Option Refusal)
   checks_under unbuilt limits schema rule = fit_refusal schema rule ∷ query_checks unbuilt limits schema rule
 
-  -- why a rule has no query under the given schema, or else the one that is made of it
+  -- why a rule without placeholders has no query under the given schema, or else the one that is made of it
+  abbrev pub filled_checks : List Place → Limits → Option Schema → PlainRule → List (Option Refusal)
+  filled_checks unbuilt limits given rule = made_refusal given rule ∷ checks_under unbuilt limits (schema_for given rule) rule
+
+  -- why a rule has no query: a placeholder of it stands open, or one of those
   abbrev pub query_refusal : List Place → Limits → Option Schema → PlainRule → Option Refusal
-  query_refusal unbuilt limits given rule = first (made_refusal given rule ∷ checks_under unbuilt limits (schema_for given rule) rule)
+  query_refusal unbuilt limits given rule = first (open_refusal rule ∷ filled_checks unbuilt limits given rule)
 
 module _ {Query : Type 0} (is_query : Schema → List ℕ → Query → Type 0) (is_within : Limits → Schema → List ℕ → Query → Type 0)
     (picks : Query → List (List Value) → Type 0) where

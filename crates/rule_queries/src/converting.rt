@@ -7,10 +7,10 @@ ghost use Rattle.backend_core.specs.Writing.{write_checks};
 ghost use Rattle.rule_building.specs.ForUnbuilt.{ForItems, ForUnbuilt, is_answered};
 ghost use Rattle.rule_building.specs.Unbuilt.{of_values, unbuilt_refusal};
 ghost use Rattle.rule_model.specs.Expressions.{rule_expressions};
-ghost use Rattle.rule_schema.specs.Inferred.{fit_refusal};
+ghost use Rattle.rule_schema.specs.Inferred.{fit_refusal, open_refusal};
 ghost use Rattle.rule_model.specs.Plain.{rule_view};
 ghost use Rattle.rule_model.specs.Whole.{IsWhole};
-ghost use Rattle.rule_queries.specs.Queries.{query_of, query_under, query_refusal, checks_under, query_checks};
+ghost use Rattle.rule_queries.specs.Queries.{query_of, query_under, query_refusal, filled_checks, checks_under, query_checks};
 ghost use Rattle.rule_queries.specs.Rebuilt.{Rebuilt};
 ghost use Rattle.rule_queries.specs.Verdicts.{ConvertAnswers, CheckAnswers};
 ghost use Rattle.sig_base.specs.Judged.{Judged, first};
@@ -22,7 +22,7 @@ use languages::Builder;
 use rule_building::{build_items, find_unbuilt};
 use rule_lowering::lower;
 use rule_model::Rule;
-use rule_schema::{fit_indexed, fit_schema, infer_schema};
+use rule_schema::{check_filled, fit_indexed, fit_schema, infer_schema};
 use sig_base::{Bytes, Fault, Limits, Place};
 use std::alloc::Global;
 use yaml_tree::Node;
@@ -38,6 +38,7 @@ fn write_rule<B: Backend, C: Builder>(
     builder: &mut C,
 ) -> Result<Bytes, Fault>
     requires whole { IsWhole (rule_view rule.now) }
+    requires filled { open_refusal (rule_view rule.now) ≡ None }
     requires fits { fit_refusal schema.now (rule_view rule.now) ≡ None }
     ensures { Rebuilt (rule_expressions (rule_view rule.now)) (C.refused builder.old) (C.refused builder.new) (λ unbuilt. Judged (λ bytes. bytes ≡ query_under B.text schema.now (rule_view rule.now)) (first (query_checks B.missing B.text B.too_deep unbuilt limits.now schema.now (rule_view rule.now))) result) }
 {
@@ -69,7 +70,7 @@ fn write_built<B: Backend, C: Builder>(
     }
 }
 
-/// The query of a rule under a schema. In this order it is refused 81, 82 or 83, 110, 48, 111, 112 or 113, and 114.
+/// The query of a rule without placeholders under a schema. In this order it is refused 81, 82 or 83, 110, 48, 111, 112 or 113, and 114.
 fn convert_under<B: Backend, C: Builder>(
     backend: &B,
     alloc: Global,
@@ -78,7 +79,8 @@ fn convert_under<B: Backend, C: Builder>(
     schema: &Schema,
     builder: &mut C,
 ) -> Result<Bytes, Fault>
-    requires { IsWhole (rule_view rule.now) }
+    requires whole { IsWhole (rule_view rule.now) }
+    requires filled { open_refusal (rule_view rule.now) ≡ None }
     ensures { Rebuilt (rule_expressions (rule_view rule.now)) (C.refused builder.old) (C.refused builder.new) (λ unbuilt. Judged (λ bytes. bytes ≡ query_under B.text schema.now (rule_view rule.now)) (first (checks_under B.missing B.text B.too_deep unbuilt limits.now schema.now (rule_view rule.now))) result) }
 {
     match fit_schema(rule, schema) {
@@ -87,7 +89,7 @@ fn convert_under<B: Backend, C: Builder>(
     }
 }
 
-/// The query of a rule under the schema that is made of it. In this order it is refused 80, 82 or 83, 110, 48, 111, 112 or 113, and 114.
+/// The query of a rule without placeholders under the schema that is made of it. In this order it is refused 80, 82 or 83, 110, 48, 111, 112 or 113, and 114.
 fn convert_made<B: Backend, C: Builder>(
     backend: &B,
     alloc: Global,
@@ -95,8 +97,9 @@ fn convert_made<B: Backend, C: Builder>(
     rule: &Rule,
     builder: &mut C,
 ) -> Result<Bytes, Fault>
-    requires { IsWhole (rule_view rule.now) }
-    ensures { Rebuilt (rule_expressions (rule_view rule.now)) (C.refused builder.old) (C.refused builder.new) (λ unbuilt. Judged (λ bytes. bytes ≡ query_of B.text None (rule_view rule.now)) (query_refusal B.missing B.text B.too_deep unbuilt limits.now None (rule_view rule.now)) result) }
+    requires whole { IsWhole (rule_view rule.now) }
+    requires filled { open_refusal (rule_view rule.now) ≡ None }
+    ensures { Rebuilt (rule_expressions (rule_view rule.now)) (C.refused builder.old) (C.refused builder.new) (λ unbuilt. Judged (λ bytes. bytes ≡ query_of B.text None (rule_view rule.now)) (first (filled_checks B.missing B.text B.too_deep unbuilt limits.now None (rule_view rule.now))) result) }
 {
     let schema = match infer_schema(alloc, rule) {
         Ok(schema) => schema,
@@ -108,7 +111,26 @@ fn convert_made<B: Backend, C: Builder>(
     }
 }
 
-/// The query of a rule under the given schema, or else the one that is made of it.
+/// The query of a rule without placeholders under the given schema, or else the one that is made of it.
+fn convert_filled<B: Backend, C: Builder>(
+    backend: &B,
+    alloc: Global,
+    limits: &Limits,
+    rule: &Rule,
+    given: Option<&Schema>,
+    builder: &mut C,
+) -> Result<Bytes, Fault>
+    requires whole { IsWhole (rule_view rule.now) }
+    requires filled { open_refusal (rule_view rule.now) ≡ None }
+    ensures { Rebuilt (rule_expressions (rule_view rule.now)) (C.refused builder.old) (C.refused builder.new) (λ unbuilt. Judged (λ bytes. bytes ≡ query_of B.text (option_map (λ s. s.now) given.entry) (rule_view rule.now)) (first (filled_checks B.missing B.text B.too_deep unbuilt limits.now (option_map (λ s. s.now) given.entry) (rule_view rule.now))) result) }
+{
+    match given {
+        Some(schema) => convert_under(backend, alloc, limits, rule, schema, builder),
+        None => convert_made(backend, alloc, limits, rule, builder),
+    }
+}
+
+/// The query of a rule under the given schema, or else the one that is made of it, refused 98 where a placeholder of it stands open.
 fn convert_rule<B: Backend, C: Builder>(
     backend: &B,
     alloc: Global,
@@ -120,14 +142,14 @@ fn convert_rule<B: Backend, C: Builder>(
     requires { IsWhole (rule_view rule.now) }
     ensures { Rebuilt (rule_expressions (rule_view rule.now)) (C.refused builder.old) (C.refused builder.new) (λ unbuilt. Judged (λ bytes. bytes ≡ query_of B.text (option_map (λ s. s.now) given.entry) (rule_view rule.now)) (query_refusal B.missing B.text B.too_deep unbuilt limits.now (option_map (λ s. s.now) given.entry) (rule_view rule.now)) result) }
 {
-    match given {
-        Some(schema) => convert_under(backend, alloc, limits, rule, schema, builder),
-        None => convert_made(backend, alloc, limits, rule, builder),
+    match check_filled(rule) {
+        Ok(()) => convert_filled(backend, alloc, limits, rule, given, builder),
+        Err(open) => Err(Fault::Refused(open)),
     }
 }
 
 /// The query of the rule that a node is, under the given schema or else the one that is made of the rule. What is refused is
-/// refused as `Rule::read_lone` says, and then 80 (where no schema is given), 81, 82 or 83, 110, 48, 111, 112 or 113, and 114.
+/// refused as `Rule::read_lone` says, and then 98, 80 (where no schema is given), 81, 82 or 83, 110, 48, 111, 112 or 113, and 114.
 pub fn convert_node<B: Backend, C: Builder>(
     backend: &B,
     alloc: Global,

@@ -12,8 +12,8 @@ use Rattle.rule_model.specs.declared.rule.Rule.{Rule}
 use Rattle.rule_runs.specs.Answers.{Answers, ForTree, ForDocuments, ForValues, IsBare}
 use Rattle.rule_runs.specs.Files.{yaml_refusal, single_tree}
 use Rattle.rule_runs.specs.Laws.{EachRun}
-use Rattle.rule_runs.specs.Runs.{AreDocuments, IsOnly, IsNoneOnly, no_tree, no_rule, IsSingleRule, IsNoSingleRule, as_one, by_document, IsFit, IsUnfit, no_single, unfit, IsRun, IsNotRun, no_fit, not_built, AreOfTree, AreOfSingle}
-use Rattle.rule_schema.specs.Inferred.{unfit_refusal, schema_refusal, fit_refusal, inferred_schema}
+use Rattle.rule_runs.specs.Runs.{AreDocuments, IsOnly, IsNoneOnly, no_tree, no_rule, IsSingleRule, IsFilledRule, IsNoSingleRule, as_one, by_document, IsFit, IsUnfit, no_single, unfit, IsRun, IsNotRun, no_fit, not_built, AreOfTree, AreOfSingle}
+use Rattle.rule_schema.specs.Inferred.{open_refusal, unfit_refusal, schema_refusal, fit_refusal, inferred_schema}
 use Rattle.sig_base.specs.declared.limits.Limits.{Limits}
 use Rattle.sig_base.specs.Judged.{Judged, first}
 use Rattle.sig_base.specs.declared.refusal.Detail.TheVariants as details
@@ -233,46 +233,66 @@ pub isnt_single : {X Y : Type 0} (values : List Place) (limits : Limits) (given 
 isnt_single values limits given bytes P Q Memory answers = tt
 isnt_single values limits given bytes P Q (Refused r) answers = no_single answers
 
-first_is : (a b : Option Refusal) (r : Refusal) → a ≡ Some r → first (a ∷ b ∷ []) ≡ Some r
-first_is a b r is = rw is refl
+first_is : (o a b : Option Refusal) (r : Refusal) → o ≡ Some r → first (o ∷ a ∷ b ∷ []) ≡ Some r
+first_is o a b r is = rw is refl
 
-second_is : (a b : Option Refusal) (r : Refusal) → a ≡ None → b ≡ Some r → first (a ∷ b ∷ []) ≡ Some r
-second_is a b r none is = rw (none, is) refl
+second_is : (o a b : Option Refusal) (r : Refusal) → o ≡ None → a ≡ Some r → first (o ∷ a ∷ b ∷ []) ≡ Some r
+second_is o a b r filled is = rw (filled, is) refl
+
+third_is : (o a b : Option Refusal) (r : Refusal) → o ≡ None → a ≡ None → b ≡ Some r → first (o ∷ a ∷ b ∷ []) ≡ Some r
+third_is o a b r filled none is = rw (filled, none, is) refl
+
+pub none_is : (o a b : Option Refusal) → o ≡ None → a ≡ None → b ≡ None → first (o ∷ a ∷ b ∷ []) ≡ None
+none_is o a b filled none also = rw (filled, none, also) refl
+
+-- a placeholder of the rule stands open, whatever schema is given
+isnt_filled : (values : List Place) (limits : Limits) (bytes : List ℕ) (rule : Rule) (r : Refusal) → IsBare (IsSingleRule values limits bytes) rule
+    → open_refusal (rule_view rule) ≡ Some r → (given : Option Schema) → IsUnfit values limits given bytes r
+isnt_filled values limits bytes rule r (rest, single) is None =
+    unfit (rule_with rest (rule_view rule)) single
+    (first_is (open_refusal (rule_view rule)) (schema_refusal (rule_view rule)) (fit_refusal (inferred_schema (rule_view rule)) (rule_view rule)) r is)
+isnt_filled values limits bytes rule r (rest, single) is (Some schema) =
+    unfit (rule_with rest (rule_view rule)) single (first_is (open_refusal (rule_view rule)) None (fit_refusal schema (rule_view rule)) r is)
 
 -- no schema is made of the rule
-pub isnt_made : {X Y : Type 0} (values : List Place) (limits : Limits) (bytes : List ℕ) (rule : Rule) (P : X → Type 0) (Q : Y → Type 0) (fault : Fault) → IsBare (IsSingleRule values limits bytes) rule
+pub isnt_made : {X Y : Type 0} (values : List Place) (limits : Limits) (bytes : List ℕ) (rule : Rule) (P : X → Type 0) (Q : Y → Type 0) (fault : Fault) → IsBare (IsFilledRule values limits bytes) rule
     → Judged {X = X} P (schema_refusal (rule_view rule)) (Err fault) → Answers {X = Y} Q (IsUnfit values limits None bytes) (Err fault)
-isnt_made values limits bytes rule P Q Memory single judged = tt
-isnt_made values limits bytes rule P Q (Refused r) (rest, single) is =
-    unfit (rule_with rest (rule_view rule)) single (first_is (schema_refusal (rule_view rule)) (fit_refusal (inferred_schema (rule_view rule)) (rule_view rule)) r is)
+isnt_made values limits bytes rule P Q Memory is_filled judged = tt
+isnt_made values limits bytes rule P Q (Refused r) (rest, is_filled) is =
+    unfit (rule_with rest (rule_view rule)) is_filled.single
+    (second_is (open_refusal (rule_view rule)) (schema_refusal (rule_view rule)) (fit_refusal (inferred_schema (rule_view rule)) (rule_view rule)) r is_filled.filled is)
 
 -- the rule doesn't fit the given schema
-pub isnt_fit : (values : List Place) (limits : Limits) (schema : Schema) (bytes : List ℕ) (rule : Rule) (r : Refusal) → IsBare (IsSingleRule values limits bytes) rule → fit_refusal schema (rule_view rule) ≡ Some r
+pub isnt_fit : (values : List Place) (limits : Limits) (schema : Schema) (bytes : List ℕ) (rule : Rule) (r : Refusal) → IsBare (IsFilledRule values limits bytes) rule → fit_refusal schema (rule_view rule) ≡ Some r
     → IsUnfit values limits (Some schema) bytes r
-isnt_fit values limits schema bytes rule r (rest, single) is = unfit (rule_with rest (rule_view rule)) single (second_is None (fit_refusal schema (rule_view rule)) r refl is)
+isnt_fit values limits schema bytes rule r (rest, is_filled) is =
+    unfit (rule_with rest (rule_view rule)) is_filled.single (third_is (open_refusal (rule_view rule)) None (fit_refusal schema (rule_view rule)) r is_filled.filled refl is)
+
+-- or it does
+fits_so : (values : List Place) (limits : Limits) (schema : Schema) (bytes : List ℕ) (rule : Rule) → IsBare (IsFilledRule values limits bytes) rule → fit_refusal schema (rule_view rule) ≡ None
+    → IsBare (IsFit values limits (Some schema) bytes) rule
+fits_so values limits schema bytes rule (rest, is_filled) is =
+    (rest, record { single = is_filled.single; fits = none_is (open_refusal (rule_view rule)) None (fit_refusal schema (rule_view rule)) is_filled.filled refl is })
 
 -- the same of the schema that is made of it
 pub isnt_fit_alone : {Y : Type 0} (values : List Place) (limits : Limits) (bytes : List ℕ) (rule : Rule) (schema : Schema) (Q : Y → Type 0) (fault : Fault)
-    → IsBare (IsSingleRule values limits bytes) rule → (schema_refusal (rule_view rule) ≡ None) × (schema ≡ inferred_schema (rule_view rule))
+    → IsBare (IsFilledRule values limits bytes) rule → (schema_refusal (rule_view rule) ≡ None) × (schema ≡ inferred_schema (rule_view rule))
     → Judged {X = Unit {0}} (λ done. Unit {0}) (fit_refusal schema (rule_view rule)) (Err fault) → Answers {X = Y} Q (IsUnfit values limits None bytes) (Err fault)
-isnt_fit_alone values limits bytes rule schema Q Memory single made judged = tt
-isnt_fit_alone values limits bytes rule schema Q (Refused r) (rest, single) made is =
-    unfit (rule_with rest (rule_view rule)) single
-    (second_is (schema_refusal (rule_view rule)) (fit_refusal (inferred_schema (rule_view rule)) (rule_view rule)) r made.0
+isnt_fit_alone values limits bytes rule schema Q Memory is_filled made judged = tt
+isnt_fit_alone values limits bytes rule schema Q (Refused r) (rest, is_filled) made is =
+    unfit (rule_with rest (rule_view rule)) is_filled.single
+    (third_is (open_refusal (rule_view rule)) (schema_refusal (rule_view rule)) (fit_refusal (inferred_schema (rule_view rule)) (rule_view rule)) r is_filled.filled made.0
     (subst (λ (s : Schema). fit_refusal s (rule_view rule) ≡ Some r) made.1 is))
-
-neither_is : (a b : Option Refusal) → a ≡ None → b ≡ None → first (a ∷ b ∷ []) ≡ None
-neither_is a b none also = rw (none, also) refl
 
 -- the rule fits the schema that is made of it
 pub fits_alone : (values : List Place) (limits : Limits) (bytes : List ℕ) (rule : Rule) (schema : Schema)
-    → IsBare (IsSingleRule values limits bytes) rule → (schema_refusal (rule_view rule) ≡ None) × (schema ≡ inferred_schema (rule_view rule))
+    → IsBare (IsFilledRule values limits bytes) rule → (schema_refusal (rule_view rule) ≡ None) × (schema ≡ inferred_schema (rule_view rule))
     → fit_refusal schema (rule_view rule) ≡ None → IsBare (IsFit values limits None bytes) rule
-fits_alone values limits bytes rule schema (rest, single) made fits = (
+fits_alone values limits bytes rule schema (rest, is_filled) made fits = (
   rest,
   record {
-    single = single;
-    fits = neither_is (schema_refusal (rule_view rule)) (fit_refusal (inferred_schema (rule_view rule)) (rule_view rule)) made.0
+    single = is_filled.single;
+    fits = none_is (open_refusal (rule_view rule)) (schema_refusal (rule_view rule)) (fit_refusal (inferred_schema (rule_view rule)) (rule_view rule)) is_filled.filled made.0
         (subst (λ (s : Schema). fit_refusal s (rule_view rule) ≡ None) made.1 fits);
   },
 )
@@ -406,24 +426,47 @@ module _ (limits : Limits) (bytes : List ℕ) (before after : List (List ℕ)) w
       → ForValues limits bytes before after ended P → ForValues limits bytes before after ended Q
   with_values ended P Q f h = record { values = h.values; refused = h.refused; follows = h.follows; are = h.are; says = f h.values h.says }
 
-  -- no rule was read, so there is none that fits
-  pub unfit_single : {X Y : Type 0} (given : Option Schema) (IsX : List Place → X → Type 0) (IsY : List Place → Y → Type 0) (fault : Fault)
+  -- no rule was read, so there is none that fits any schema
+  pub unfilled_single : {X Y : Type 0} (IsX : List Place → X → Type 0) (IsY : List Place → Y → Type 0) (fault : Fault)
       → ForValues limits bytes before after (is_answered {X = X} (Err fault)) (λ values. Answers {X = X} (IsX values) (IsNoSingleRule values limits bytes) (Err fault))
+      → ForValues limits bytes before after (is_answered {X = Y} (Err fault))
+      (λ values. Answers {X = Y} (IsY values) (λ r. (given : Option Schema) → IsUnfit values limits given bytes r) (Err fault))
+  unfilled_single {X} {Y} IsX IsY Memory h = with_values false (λ values. Unit {0}) (λ values. Unit {0}) (λ values a. tt) h
+  unfilled_single {X} {Y} IsX IsY (Refused r) h =
+      with_values true (λ values. IsNoSingleRule values limits bytes r) (λ values. (given : Option Schema) → IsUnfit values limits given bytes r) (λ values a given. no_single a) h
+
+  -- said of one schema
+  pub unfit_single : {X Y : Type 0} (given : Option Schema) (IsX : List Place → X → Type 0) (IsY : List Place → Y → Type 0) (fault : Fault)
+      → ForValues limits bytes before after (is_answered {X = X} (Err fault))
+      (λ values. Answers {X = X} (IsX values) (λ r. (other : Option Schema) → IsUnfit values limits other bytes r) (Err fault))
       → ForValues limits bytes before after (is_answered {X = Y} (Err fault)) (λ values. Answers {X = Y} (IsY values) (IsUnfit values limits given bytes) (Err fault))
   unfit_single {X} {Y} given IsX IsY Memory h = with_values false (λ values. Unit {0}) (λ values. Unit {0}) (λ values a. tt) h
   unfit_single {X} {Y} given IsX IsY (Refused r) h =
-      with_values true (λ values. IsNoSingleRule values limits bytes r) (λ values. IsUnfit values limits given bytes r) (λ values a. no_single a) h
+      with_values true (λ values. (other : Option Schema) → IsUnfit values limits other bytes r) (λ values. IsUnfit values limits given bytes r) (λ values a. a given) h
 
+  -- a rule was read, of which a placeholder stands open, or none does
   module _ (rule : Rule) (read : ForValues limits bytes before after true (λ values. IsBare (IsSingleRule values limits bytes) rule)) where
+    pub stands_open : (r : Refusal) → open_refusal (rule_view rule) ≡ Some r
+        → ForValues limits bytes before after true (λ values. (given : Option Schema) → IsUnfit values limits given bytes r)
+    stands_open r is =
+        with_values true (λ values. IsBare (IsSingleRule values limits bytes) rule) (λ values. (given : Option Schema) → IsUnfit values limits given bytes r)
+        (λ values a. isnt_filled values limits bytes rule r a is) read
+
+    pub stands_filled : open_refusal (rule_view rule) ≡ None → ForValues limits bytes before after true (λ values. IsBare (IsFilledRule values limits bytes) rule)
+    stands_filled is =
+        with_values true (λ values. IsBare (IsSingleRule values limits bytes) rule) (λ values. IsBare (IsFilledRule values limits bytes) rule)
+        (λ values a. (a.0, record { single = a.1; filled = is })) read
+
+  module _ (rule : Rule) (read : ForValues limits bytes before after true (λ values. IsBare (IsFilledRule values limits bytes) rule)) where
     -- the rule doesn't fit the given schema, or it does
     pub unfit_given : (schema : Schema) (r : Refusal) → fit_refusal schema (rule_view rule) ≡ Some r → ForValues limits bytes before after true (λ values. IsUnfit values limits (Some schema) bytes r)
     unfit_given schema r is =
-        with_values true (λ values. IsBare (IsSingleRule values limits bytes) rule) (λ values. IsUnfit values limits (Some schema) bytes r) (λ values a. isnt_fit values limits schema bytes rule r a is) read
+        with_values true (λ values. IsBare (IsFilledRule values limits bytes) rule) (λ values. IsUnfit values limits (Some schema) bytes r) (λ values a. isnt_fit values limits schema bytes rule r a is) read
 
     pub fits_given : (schema : Schema) → fit_refusal schema (rule_view rule) ≡ None → ForValues limits bytes before after true (λ values. IsBare (IsFit values limits (Some schema) bytes) rule)
     fits_given schema is =
-        with_values true (λ values. IsBare (IsSingleRule values limits bytes) rule) (λ values. IsBare (IsFit values limits (Some schema) bytes) rule)
-        (λ values a. (a.0, record { single = a.1; fits = neither_is None (fit_refusal schema (rule_view rule)) refl is })) read
+        with_values true (λ values. IsBare (IsFilledRule values limits bytes) rule) (λ values. IsBare (IsFit values limits (Some schema) bytes) rule)
+        (λ values a. fits_so values limits schema bytes rule a is) read
 
     -- want of memory says nothing
     unended : (P : List Place → Type 0) → ((values : List Place) → P values) → ForValues limits bytes before after false P
@@ -440,7 +483,7 @@ module _ (limits : Limits) (bytes : List ℕ) (before after : List (List ℕ)) w
         → ForValues limits bytes before after (is_answered {X = Y} (Err fault)) (λ values. Answers {X = Y} (Q values) (IsUnfit values limits None bytes) (Err fault))
     unmade {X} {Y} P Q Memory judged = unended (λ values. Unit {0}) (λ values. tt)
     unmade {X} {Y} P Q (Refused r) judged =
-        with_values true (λ values. IsBare (IsSingleRule values limits bytes) rule) (λ values. IsUnfit values limits None bytes r)
+        with_values true (λ values. IsBare (IsFilledRule values limits bytes) rule) (λ values. IsUnfit values limits None bytes r)
         (λ values a. isnt_made values limits bytes rule P (Q values) (Refused r) a judged) read
 
     -- it doesn't fit the schema that is made of it, or it does
@@ -449,11 +492,11 @@ module _ (limits : Limits) (bytes : List ℕ) (before after : List (List ℕ)) w
         → ForValues limits bytes before after (is_answered {X = Y} (Err fault)) (λ values. Answers {X = Y} (Q values) (IsUnfit values limits None bytes) (Err fault))
     unfit_made {Y} schema Q Memory made judged = unended (λ values. Unit {0}) (λ values. tt)
     unfit_made {Y} schema Q (Refused r) made judged =
-        with_values true (λ values. IsBare (IsSingleRule values limits bytes) rule) (λ values. IsUnfit values limits None bytes r)
+        with_values true (λ values. IsBare (IsFilledRule values limits bytes) rule) (λ values. IsUnfit values limits None bytes r)
         (λ values a. isnt_fit_alone values limits bytes rule schema (Q values) (Refused r) a made judged) read
 
     pub fits_made : (schema : Schema) → (schema_refusal (rule_view rule) ≡ None) × (schema ≡ inferred_schema (rule_view rule)) → fit_refusal schema (rule_view rule) ≡ None
         → ForValues limits bytes before after true (λ values. IsBare (IsFit values limits None bytes) rule × (schema ≡ inferred_schema (rule_view rule)))
     fits_made schema made fits =
-        with_values true (λ values. IsBare (IsSingleRule values limits bytes) rule) (λ values. IsBare (IsFit values limits None bytes) rule × (schema ≡ inferred_schema (rule_view rule)))
+        with_values true (λ values. IsBare (IsFilledRule values limits bytes) rule) (λ values. IsBare (IsFit values limits None bytes) rule × (schema ≡ inferred_schema (rule_view rule)))
         (λ values a. (fits_alone values limits bytes rule schema a made fits, made.1)) read

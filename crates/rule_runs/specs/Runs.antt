@@ -7,7 +7,7 @@ use Rattle.rule_building.specs.Unbuilt.{Unbuilt, none_unbuilt, AreUnbuilt, unbui
 use Rattle.rule_model.specs.Expressions.{rule_expressions}
 use Rattle.rule_model.specs.Plain.{PlainRule}
 use Rattle.rule_model.specs.Rules.{lone_refusal, IsLoneRule}
-use Rattle.rule_schema.specs.Inferred.{unfit_refusal}
+use Rattle.rule_schema.specs.Inferred.{open_refusal, unfit_refusal}
 use Rattle.sig_base.specs.declared.limits.Limits.{Limits}
 use Rattle.sig_base.specs.declared.refusal.Place.{Place}
 use Rattle.sig_base.specs.declared.refusal.Refusal.{Refusal}
@@ -42,13 +42,18 @@ pub data IsNoSingleRule (unbuilt : List Place) (limits : Limits) (bytes : List �
   as_one : (p : ℕ × At) → IsCallRefusal limits.file_bytes limits.documents bytes p → r ≡ yaml_refusal p → IsNoSingleRule unbuilt limits bytes r
   by_document : (documents : List Answer) → AreDocuments limits bytes documents → IsNoneOnly unbuilt limits documents r → IsNoSingleRule unbuilt limits bytes r
 
--- the file is this rule, which fits the given schema, or else the one that is made of it
+-- the file is this rule, and no placeholder of it stands open
+pub record IsFilledRule (unbuilt : List Place) (limits : Limits) (bytes : List ℕ) (rule : PlainRule) : Type 0 where
+  pub single : IsSingleRule unbuilt limits bytes rule
+  pub filled : open_refusal rule ≡ None
+
+-- the file is this rule, of which no placeholder stands open, and which fits the given schema, or else the one that is made of it
 pub record IsFit (unbuilt : List Place) (limits : Limits) (given : Option Schema) (bytes : List ℕ) (rule : PlainRule) : Type 0 where
   pub single : IsSingleRule unbuilt limits bytes rule
   pub fits : unfit_refusal given rule ≡ None
 
--- the first cause for which there is no such rule: the file is no single rule, or the rule's names clash (80, where no schema is given),
--- or an item of it doesn't fit the schema (81, 82 or 83)
+-- the first cause for which there is no such rule: the file is no single rule, or a placeholder of the rule stands open (98), or its names
+-- clash (80, where no schema is given), or an item of it doesn't fit the schema (81, 82 or 83)
 pub data IsUnfit (unbuilt : List Place) (limits : Limits) (given : Option Schema) (bytes : List ℕ) (r : Refusal) : Type 0 where
   no_single : IsNoSingleRule unbuilt limits bytes r → IsUnfit unbuilt limits given bytes r
   unfit : (rule : PlainRule) → IsSingleRule unbuilt limits bytes rule → unfit_refusal given rule ≡ Some r → IsUnfit unbuilt limits given bytes r

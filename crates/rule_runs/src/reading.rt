@@ -1,12 +1,14 @@
 //! Reading the one rule of a file.
 
 ghost use Rattle.std.specs.List.{All};
+ghost use Rattle.std.specs.Prelude.{Option};
+ghost use Rattle.event_schema.specs.declared.schema.Schema.{Schema};
 ghost use Rattle.rule_building.specs.ForUnbuilt.{is_answered};
 ghost use Rattle.rule_head.specs.Heads.{rest_of};
 ghost use Rattle.rule_model.specs.Plain.{rule_view, rule_with};
 ghost use Rattle.rule_model.specs.Rules.{IsRule, lone_refusal};
 ghost use Rattle.rule_runs.specs.Answers.{Answers, ForTree, ForDocuments, ForValues, IsBare};
-ghost use Rattle.rule_runs.specs.Runs.{IsOnly, IsNoneOnly, IsSingleRule, IsNoSingleRule};
+ghost use Rattle.rule_runs.specs.Runs.{IsOnly, IsNoneOnly, IsSingleRule, IsNoSingleRule, IsFilledRule, IsUnfit};
 ghost use Rattle.sig_base.specs.Judged.{Judged};
 ghost use Rattle.yaml_documents.specs.Given.{IsPlain, answers_view};
 ghost use Rattle.yaml_tree.specs.View.{node_view};
@@ -15,6 +17,7 @@ use crate::single::single_node;
 use languages::Builder;
 use rule_building::find_unbuilt;
 use rule_model::Rule;
+use rule_schema::check_filled;
 use sig_base::{Fault, Limits};
 use std::alloc::Global;
 use yaml_documents::read_documents;
@@ -55,7 +58,7 @@ fn read_only<B: Builder>(
 
 /// Reads the rule that a file is. It's refused 2, 1 or 7 as a whole, 84 where it hasn't exactly one document, or else as its document is:
 /// by YAML, 146 as a correlation, or as a rule.
-pub(crate) fn read_single_rule<B: Builder>(
+fn read_single_rule<B: Builder>(
     alloc: Global,
     limits: &Limits,
     bytes: &[u8],
@@ -69,5 +72,25 @@ pub(crate) fn read_single_rule<B: Builder>(
     match read_documents(alloc, limits, bytes) {
         Ok(documents) => read_only(alloc, limits, documents.as_slice(), builder),
         Err(fault) => Err(fault),
+    }
+}
+
+/// The same, where a rule of which a placeholder stands open is refused 98 at the item.
+pub(crate) fn read_filled_rule<B: Builder>(
+    alloc: Global,
+    limits: &Limits,
+    bytes: &[u8],
+    builder: &mut B,
+) -> Result<Rule, Fault>
+    ensures { ForValues limits.now bytes.now (B.refused builder.old) (B.refused builder.new) (is_answered result)
+        (λ values. Answers (IsBare (IsFilledRule values limits.now bytes.now)) (λ r. (given : Option Schema) → IsUnfit values limits.now given bytes.now r) result) }
+{
+    let rule = match read_single_rule(alloc, limits, bytes, builder) {
+        Ok(rule) => rule,
+        Err(fault) => return Err(fault),
+    };
+    match check_filled(&rule) {
+        Ok(()) => Ok(rule),
+        Err(open) => Err(Fault::Refused(open)),
     }
 }

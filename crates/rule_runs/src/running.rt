@@ -7,7 +7,7 @@ ghost use Rattle.rule_runs.specs.Answers.{Answers, ForValues, IsBare};
 ghost use Rattle.rule_runs.specs.Runs.{IsFit, IsUnfit};
 ghost use Rattle.rule_schema.specs.Inferred.{inferred_schema};
 
-use crate::reading::read_single_rule;
+use crate::reading::read_filled_rule;
 use event_schema::Schema;
 use languages::Builder;
 use rule_model::Rule;
@@ -22,8 +22,8 @@ pub struct SchemedRule {
     pub schema: Schema,
 }
 
-/// The rule that a file is run as under a schema. In this order it's refused 2, 1, 7, 84, by YAML, 146, as a rule, and 81,
-/// 82 or 83. (48 at an item comes where the rule is made ready.)
+/// The rule that a file is run as under a schema. In this order it's refused 2, 1, 7, 84, by YAML, 146, as a rule, 98, and
+/// 81, 82 or 83. (48 at an item comes where the rule is made ready.)
 pub fn rule_under<B: Builder>(
     alloc: Global,
     limits: &Limits,
@@ -34,7 +34,7 @@ pub fn rule_under<B: Builder>(
     ensures { ForValues limits.now bytes.now (B.refused builder.old) (B.refused builder.new) (is_answered result)
         (λ values. Answers (IsBare (IsFit values limits.now (Some schema.now) bytes.now)) (IsUnfit values limits.now (Some schema.now) bytes.now) result) }
 {
-    let rule = match read_single_rule(alloc, limits, bytes, builder) {
+    let rule = match read_filled_rule(alloc, limits, bytes, builder) {
         Ok(rule) => rule,
         Err(fault) => return Err(fault),
     };
@@ -45,7 +45,7 @@ pub fn rule_under<B: Builder>(
 }
 
 /// The rule that a file is run as, with the schema that is made of it. In this order it's refused 2, 1, 7, 84, by YAML, 146, as a
-/// rule, 80, 82 and 83.
+/// rule, 98, 80, 82 and 83.
 pub fn rule_alone<B: Builder>(
     alloc: Global,
     limits: &Limits,
@@ -55,7 +55,7 @@ pub fn rule_alone<B: Builder>(
     ensures { ForValues limits.now bytes.now (B.refused builder.old) (B.refused builder.new) (is_answered result)
         (λ values. Answers (λ found. IsBare (IsFit values limits.now None bytes.now) found.rule × (found.schema ≡ inferred_schema (rule_view found.rule))) (IsUnfit values limits.now None bytes.now) result) }
 {
-    let rule = match read_single_rule(alloc, limits, bytes, builder) {
+    let rule = match read_filled_rule(alloc, limits, bytes, builder) {
         Ok(rule) => rule,
         Err(fault) => return Err(fault),
     };

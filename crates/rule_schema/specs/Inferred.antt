@@ -1,4 +1,4 @@
--- The schema that is made of a rule where none is given, and whether a rule fits a schema.
+-- Whether a rule's placeholders are filled, the schema that is made of it where none is given, and whether it fits a schema.
 use Rattle.std.specs.Prelude.{ℕ, Bool, false, not, ◌&&◌, ◌||◌, if◌then◌else◌, List, [], ◌∷◌, ◌++◌, map, filter, codes, Some, None}
 use Rattle.std.specs.List.{list_any, list_all, flat_map}
 use Rattle.std.specs.Str.{bytes_eq}
@@ -14,6 +14,7 @@ use Rattle.rule_items.specs.declared.detection.Detection.{Detection}
 use Rattle.rule_items.specs.declared.item.Fields.{Fields}
 use Rattle.rule_items.specs.declared.item.Fields.TheVariants.{Keyword, Names}
 use Rattle.rule_items.specs.declared.item.Item.{Item}
+use Rattle.sig_modifiers.specs.PlainTests.{is_filled_test}
 use Rattle.sig_modifiers.specs.References.{references_in}
 use Rattle.sig_modifiers.specs.declared.test.Test.{Test}
 use Rattle.rule_schema.specs.Kinds.{Asks, nothing_asked, asks_of, opposed, kind_for, names_in, are_of_kinds}
@@ -21,6 +22,18 @@ use Rattle.rule_schema.specs.Kinds.{Asks, nothing_asked, asks_of, opposed, kind_
 -- the items of a rule, in its order
 abbrev pub items_of : List Detection → List Item
 items_of ds = flat_map (λ d. flat_map (λ items. items) d.alternatives) ds
+
+-- no test of the item has a placeholder
+abbrev pub is_filled_item : Item → Bool
+is_filled_item i = list_all (list_all is_filled_test) i.tests
+
+-- why an item can't be looked for: a placeholder stands open
+abbrev pub open_line : Item → Option Refusal
+open_line i = must 98 i.place (is_filled_item i)
+
+-- why a rule can't: the first item of which one does
+abbrev pub open_refusal : PlainRule → Option Refusal
+open_refusal rule = first (map open_line (items_of rule.detections))
 
 -- a name with the place of its item, and what the item's tests ask of its field
 pub record Use : Type 0 where
@@ -111,6 +124,6 @@ abbrev pub made_refusal : Option Schema → PlainRule → Option Refusal
 made_refusal None rule = schema_refusal rule
 made_refusal (Some schema) rule = None
 
--- why a rule has no schema that it fits
+-- why a rule can't be looked for under a schema: a placeholder of it stands open, or there is no schema that it fits
 abbrev pub unfit_refusal : Option Schema → PlainRule → Option Refusal
-unfit_refusal given rule = first (made_refusal given rule ∷ fit_refusal (schema_for given rule) rule ∷ [])
+unfit_refusal given rule = first (open_refusal rule ∷ made_refusal given rule ∷ fit_refusal (schema_for given rule) rule ∷ [])

@@ -47,7 +47,7 @@ fn are_searched(fields: &[Field], numbers: &Option<FieldNumbers>) -> bool
 }
 
 /// The refusal with this code at this place, unless the condition holds.
-fn unless(code: Code, place: Place, holds: bool) -> Option<Refusal>
+pub(crate) fn unless(code: Code, place: Place, holds: bool) -> Option<Refusal>
     ensures { result ≡ must code place holds }
 {
     if holds {

@@ -1,14 +1,15 @@
 //! Rules of one detection, whose items are each an alternative on a line of its own; what is wanted is reckoned by hand.
 
-use crate::{fit_indexed, fit_schema, infer_schema};
+use crate::{check_filled, fit_indexed, fit_schema, infer_schema};
 use event_schema::{Field, FieldKind, Schema};
 use modifier_chains::{Joined, Op};
 use rule_head::{Head, LogSource};
 use rule_items::{Alternative, Alternatives, Detection, Detections, Fields, Item, Values};
 use rule_model::Rule;
-use sig_base::{Fault, Place, Refusal, Text, Texts};
+use sig_base::{Fault, Limits, Place, Refusal, Text, Texts};
 use sig_encode::Network;
 use sig_modifiers::{Test, Tests};
+use sig_strings::{Pattern, SharedPattern};
 use std::alloc::Global;
 use std::test::Fail;
 
@@ -39,6 +40,13 @@ fn tests(alloc: Global, sign: Option<char>, other: Option<&str>) -> Result<Tests
     if sign == Some('@') || sign == Some('!') {
         tests.push(Test::Inside(Network::read("10.0.0.0/8", TOP)?))?;
     }
+    if sign == Some('%') {
+        let pattern = Pattern::read(alloc, &Limits::standard(), "a%b%", true, TOP)?;
+        tests.push(Test::Fits {
+            pattern: SharedPattern::share(alloc, pattern)?,
+            cased: false,
+        })?;
+    }
     if let Some(other) = other {
         tests.push(Test::SameAs(Text::copy(alloc, other)?))?;
     }
@@ -47,7 +55,7 @@ fn tests(alloc: Global, sign: Option<char>, other: Option<&str>) -> Result<Tests
 
 /// The name behind a sign.
 fn unsigned(written: &str) -> (Option<char>, &str) {
-    for sign in ['@', '#', '!'] {
+    for sign in ['@', '#', '!', '%'] {
         if let Some(name) = written.strip_prefix(sign) {
             return (Some(sign), name);
         }
@@ -56,7 +64,7 @@ fn unsigned(written: &str) -> (Option<char>, &str) {
 }
 
 /// An item over these names, or a keyword where there is none. It asks for an address where `@` stands before the first, for a
-/// number where `#` does, for both where `!` does, and compares with the name behind a `=`.
+/// number where `#` does, for both where `!` does, has an open placeholder where `%` does, and compares with the name behind a `=`.
 fn item(alloc: Global, line: u32, written: &str, second: &str) -> Result<Item, Fail> {
     let (sign, named) = unsigned(written);
     let (first, other) = match named.split_once('=') {
@@ -332,5 +340,24 @@ fn a_rule_may_not_fit_its_own_schema(rt: HostRuntime) -> Result<(), Fail> {
     ] {
         assert_eq!(rt; own_misfit(rt.alloc(), items)?.as_str(), want);
     }
+    Ok(())
+}
+
+fn open(alloc: Global, items: &[(&str, &str)]) -> Result<String, Fail> {
+    match check_filled(&rule(alloc, items)?) {
+        Ok(()) => Ok(String::new(alloc)),
+        Err(refusal) => told(alloc, &refusal),
+    }
+}
+
+#[test]
+fn the_first_open_placeholder_is_refused(rt: HostRuntime) -> Result<(), Fail> {
+    let alloc = rt.alloc();
+    let none = [("Image", ""), ("#Code", ""), ("", "")];
+    assert_eq!(rt; open(alloc, none.as_slice())?.as_str(), "");
+    let second = [("Image", ""), ("%User", "Host"), ("%Image", "")];
+    assert_eq!(rt; open(alloc, second.as_slice())?.as_str(), "98 2");
+    let keyword = [("Image", ""), ("", ""), ("%", "")];
+    assert_eq!(rt; open(alloc, keyword.as_slice())?.as_str(), "98 3");
     Ok(())
 }

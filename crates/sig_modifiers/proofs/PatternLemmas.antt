@@ -23,7 +23,7 @@ use Rattle.sig_base.proofs.TextLemmas.{ascii_scalars}
 use Rattle.sig_encode.specs.Networks.{Net, IsNetwork}
 use Rattle.sig_strings.specs.declared.part.Part.{Part}
 use Rattle.value_patterns.specs.Parts.{has_nul}
-use Rattle.value_patterns.specs.PlainPatterns.{IsDashedPattern}
+use Rattle.value_patterns.specs.PlainPatterns.{HasPlainText}
 use Rattle.value_patterns.specs.Uses.{Use, unused, absent, existing, pattern, network, number, ordered, reference, expression, use_refusal, ArePatterns}
 use Rattle.value_patterns.proofs.JudgedLemmas.{ordered_taken, reference_taken}
 use Rattle.value_patterns.proofs.Numbers.{whole_holds}
@@ -148,7 +148,7 @@ node_uses form (map a ms) h = tt
 
 -- ---- plain patterns
 
-pub each_plain : (chain : Written) (patterns : List (List Part)) → EachOf IsDashedPattern patterns → ArePlainTests (list_map (fits_of chain) patterns)
+pub each_plain : (chain : Written) (patterns : List (List Part)) → EachOf HasPlainText patterns → ArePlainTests (list_map (fits_of chain) patterns)
 each_plain chain [] h = tt
 each_plain chain (parts ∷ patterns) h = (h.0, each_plain chain patterns h.1)
 
@@ -163,8 +163,8 @@ pub no_nul : (unbuilt : List Place) (most dashes : ℕ) (chain : Written) (place
     → has_nul t ≡ false
 no_nul unbuilt most dashes chain place t h = first_three (nat_le (length t) most) (has_nul t) place _ h
 
-module _ (dashed : (chain : Written) (t : List ℕ) (patterns : List (List Part))
-    → all_scalars t ≡ true → has_nul t ≡ false → ArePatterns chain t patterns → EachOf IsDashedPattern patterns)
+module _ (plain : (chain : Written) (t : List ℕ) (patterns : List (List Part))
+    → all_scalars t ≡ true → has_nul t ≡ false → ArePatterns chain t patterns → EachOf HasPlainText patterns)
     (plain_network : (t : List ℕ) (n : Net) → IsNetwork t n → IsPlainNetwork n) where
   use_plain : (unbuilt : List Place) (most dashes : ℕ) (place : Place) (chain : Written) (u : Use) (ts : List Test) → use_refusal unbuilt most dashes chain place u ≡ None
       → IsScalarUse u → UseTests chain u ts → ArePlainTests ts
@@ -173,7 +173,7 @@ module _ (dashed : (chain : Written) (t : List ℕ) (patterns : List (List Part)
   use_plain unbuilt most dashes place chain (existing b) ts none scalars h = subst ArePlainTests (sym h) (tt, tt)
   use_plain unbuilt most dashes place chain (pattern t) ts none scalars h =
       subst ArePlainTests (sym h.tests_are)
-      (each_plain chain h.patterns (dashed chain t h.patterns scalars (no_nul unbuilt most dashes chain place t none) h.are_patterns))
+      (each_plain chain h.patterns (plain chain t h.patterns scalars (no_nul unbuilt most dashes chain place t none) h.are_patterns))
   use_plain unbuilt most dashes place chain (network t) ts none scalars h = subst ArePlainTests (sym h.2) (plain_network t h.0 h.1, tt)
   use_plain unbuilt most dashes place chain (number n) ts none scalars h = subst ArePlainTests (sym h) (tt, tt)
   use_plain unbuilt most dashes place chain (ordered op n) ts none scalars h =
@@ -190,12 +190,12 @@ module _ (dashed : (chain : Written) (t : List ℕ) (patterns : List (List Part)
 
 -- ---- what is answered for a text
 
-pub fits_plain : (cased : Bool) (items patterns : List (List Part)) (ts : List Test) → items ≡ patterns → EachOf IsDashedPattern patterns
+pub fits_plain : (cased : Bool) (items patterns : List (List Part)) (ts : List Test) → items ≡ patterns → EachOf HasPlainText patterns
     → ts ≡ list_map (λ parts. tests.Fits parts cased) items → ArePlainTests ts
 fits_plain cased items patterns ts same h is =
     subst ArePlainTests (sym (is ∙ ap (λ (ps : List (List Part)). list_map (λ parts. tests.Fits parts cased) ps) same)) (each patterns h)
   where
-    each : (ps : List (List Part)) → EachOf IsDashedPattern ps → ArePlainTests (list_map (λ parts. tests.Fits parts cased) ps)
+    each : (ps : List (List Part)) → EachOf HasPlainText ps → ArePlainTests (list_map (λ parts. tests.Fits parts cased) ps)
     each [] h = tt
     each (p ∷ ps) h = (h.0, each ps h.1)
 

@@ -11,9 +11,7 @@ ghost use Rattle.sig_modifiers.specs.PlainTests.{ArePlainTests, IsPatternTest};
 ghost use Rattle.sig_modifiers.specs.TestsOf.{TestsOf, value_refusal};
 ghost use Rattle.sig_modifiers.specs.declared.test.Test.{Test};
 
-use value_patterns::{
-    networks_are_bounded, one_list_of_patterns, one_network, patterns_are_dashed,
-};
+use value_patterns::{networks_are_bounded, one_list_of_patterns, one_network, patterns_have_plain_text};
 
 /// A chain makes one list of tests of a value, at most.
 pub fn one_tests()
@@ -43,12 +41,11 @@ pub fn keyword_tests()
         → chain.keyword ≡ true → TestsOf chain value tests → EachOf IsPatternTest tests }
 {}
 
-/// Patterns of values of Unicode scalar values that aren't refused are of characters other than U+0000, of single
-/// characters, runs and dash places; networks are of 32 bits; regular expressions are some, of texts without U+0000.
+/// The characters of patterns of values of Unicode scalar values that aren't refused are other than U+0000; networks are of 32 bits; regular expressions are some, of texts without U+0000.
 pub fn plain_tests()
     ensures { (unbuilt : List Place) (most dashes : ℕ) (chain : Written) (value : Tree) (tests : List Test)
         → value_refusal unbuilt most dashes chain value ≡ None → HasScalarTexts value → TestsOf chain value tests → ArePlainTests tests }
 {
-    patterns_are_dashed();
+    patterns_have_plain_text();
     networks_are_bounded();
 }

@@ -9,6 +9,7 @@ pub use test::{Test, Tests};
 mod checks;
 mod copying;
 mod expressions;
+mod filling;
 mod holding;
 #[cfg(test)]
 mod holding_checks;

@@ -31,13 +31,13 @@ use Rattle.rule_model.specs.Expressions.{document_expressions, rule_expressions}
 use Rattle.rule_model.specs.Plain.{PlainRule}
 use Rattle.rule_model.specs.Rules.{lone_refusal, IsLoneRule}
 use Rattle.rule_queries.specs.NamedQueries.{Query as QueryOf, is_query, is_within, picks, text, missing, too_deep, query_of, Converts, IsConverted}
-use Rattle.rule_queries.specs.Queries.{query_under, checks_under}
+use Rattle.rule_queries.specs.Queries.{query_under, filled_checks}
 use Rattle.rule_queries.specs.declared.backend_name.BackendName.{BackendName}
 use Rattle.rule_queries.specs.declared.backend_name.BackendName.TheVariants as backends
 use Rattle.rule_runs.specs.Files.{single_tree}
 use Rattle.rule_runs.specs.Laws as running
 use Rattle.rule_runs.specs.Runs.{AreDocuments, no_tree, no_rule, IsSingleRule, IsNoSingleRule, as_one, by_document, no_single, unfit, IsRun, IsNotRun, no_fit, not_built, AreOfTree, AreOfSingle}
-use Rattle.rule_schema.specs.Inferred.{unfit_refusal}
+use Rattle.rule_schema.specs.Inferred.{open_refusal, unfit_refusal}
 use Rattle.selected_lines.proofs.Selected.{one_selected}
 use Rattle.selected_lines.specs.Selected.{Picking, EventGives, Selects}
 use Rattle.sig_base.specs.Judged.{first, refusal as refusal_at}
@@ -158,17 +158,17 @@ within_most n most r is = by (nat_le n most) refl is
 
 -- a rule with a query fits its schema, and the query has no more bytes than one may have
 module _ (backend : BackendName) (unbuilt : Unbuilt) (limits : Limits) (given : Schema) (top : Tree) (rule : PlainRule) (is : IsConverted backend unbuilt limits (Some given) top rule) where
-  no_refusal : EachOf (λ check. check ≡ None) (checks_under (missing backend) (text backend) (too_deep backend) unbuilt.items limits given rule)
-  no_refusal = all_none (checks_under (missing backend) (text backend) (too_deep backend) unbuilt.items limits given rule) is.written
+  no_refusal : EachOf (λ check. check ≡ None) (open_refusal rule ∷ filled_checks (missing backend) (text backend) (too_deep backend) unbuilt.items limits (Some given) rule)
+  no_refusal = all_none (open_refusal rule ∷ filled_checks (missing backend) (text backend) (too_deep backend) unbuilt.items limits (Some given) rule) is.written
 
   fits_none : unfit_refusal (Some given) rule ≡ None
-  fits_none = let fits = no_refusal.0 in rw fits refl
+  fits_none = let filled = no_refusal.0 in let fits = no_refusal.1.1.0 in rw (filled, fits) refl
 
   query_short : length (query_of backend (Some given) rule) ≤ limits.query_bytes
   unfolding query_under
   query_short =
       let size : ℕ = length (query_of backend (Some given) rule) in
-      within_most size limits.query_bytes (record { code = 114; place = rule.head.place; detail = Numbers (pos size) (pos limits.query_bytes) }) no_refusal.1.1.1.1.1.0
+      within_most size limits.query_bytes (record { code = 114; place = rule.head.place; detail = Numbers (pos size) (pos limits.query_bytes) }) no_refusal.1.1.1.1.1.1.1.0
 
 -- ---- the one document of the rule's file
 

@@ -4,18 +4,19 @@ use Rattle.std.specs.List.{list_any}
 use Rattle.std.proofs.lemmas.Bool.{eqb-true}
 use Rattle.std.proofs.lemmas.List.Sums.{sum_by-cons}
 use Rattle.dash_choices.specs.Choices.{dash_count, is_dash_place}
-use Rattle.modifier_chains.specs.Kinds.{is_position, is_windash}
+use Rattle.modifier_chains.specs.Kinds.{is_position, is_windash, is_expand}
 use Rattle.modifier_chains.specs.Written.{Written}
 use Rattle.modifier_chains.specs.declared.modifier.Modifier.{Modifier}
-use Rattle.modifier_chains.specs.declared.modifier.Modifier.TheVariants.{Position as In, All, Cased, Windash, Units, Encoding as As, Exists, Cidr, Order, Fieldref, Re, Flag}
+use Rattle.modifier_chains.specs.declared.modifier.Modifier.TheVariants.{Position as In, All, Cased, Windash, Expand, Units, Encoding as As, Exists, Cidr, Order, Fieldref, Re, Flag}
 use Rattle.modifier_chains.specs.declared.modifier.Position.{Position}
 use Rattle.modifier_chains.specs.declared.modifier.Position.TheVariants.{Around, After, Before}
 use Rattle.sig_strings.specs.Edits.{is_dash_sign, is_word_part, starts_with_word, dashes_after, dashes_of, starts_with_run, ends_with_run, with_run_before, with_run_after}
-use Rattle.sig_strings.specs.Spells.{is_special}
+use Rattle.sig_strings.specs.Spells.{Spells, SpellsFront, star, question, escaped, backslash, hole, other}
 use Rattle.sig_strings.specs.declared.part.Part.{Part}
 use Rattle.sig_strings.specs.declared.part.Part.TheVariants.{Char, One, Run, Dash, Hole}
 use Rattle.value_patterns.specs.Edited.{with_runs, all_edited, pattern_of}
-use Rattle.value_patterns.specs.Parts.{parts_of}
+use Rattle.value_patterns.specs.Uses.{parts_in}
+use Rattle.value_patterns.proofs.PartsLemmas.{parts_spell}
 
 -- how many places parts have, and how many there'd be with `windash`
 abbrev windash_count : List Part → ℕ
@@ -143,6 +144,7 @@ edited_places (In at ∷ modifiers) parts =
 edited_places (All ∷ modifiers) parts = edited_places modifiers parts
 edited_places (Cased ∷ modifiers) parts = edited_places modifiers parts
 edited_places (Windash ∷ modifiers) parts = edited_places modifiers (dashes_of parts) ∙ dashed_places (list_any is_windash modifiers) parts
+edited_places (Expand ∷ modifiers) parts = edited_places modifiers parts
 edited_places (Units form ∷ modifiers) parts = edited_places modifiers parts
 edited_places (As encoding ∷ modifiers) parts = edited_places modifiers parts
 edited_places (Exists ∷ modifiers) parts = edited_places modifiers parts
@@ -157,30 +159,26 @@ around_places true parts = refl
 around_places false parts = (kept_runs Around parts).places
 
 -- no part of a text's own pattern is a dash place
-first_none : (c : ℕ) (cs : List ℕ) (s q b : Bool) → dash_count (parts_of false cs) ≡ 0 → dash_count (parts_of true cs) ≡ 0
-    → dash_count (if s then Run ∷ parts_of false cs else (if q then One ∷ parts_of false cs else (if b then parts_of true cs else Char c ∷ parts_of false cs))) ≡ 0
-first_none c cs true q b bare behind = no_more Run (parts_of false cs) refl ∙ bare
-first_none c cs false true b bare behind = no_more One (parts_of false cs) refl ∙ bare
-first_none c cs false false true bare behind = behind
-first_none c cs false false false bare behind = no_more (Char c) (parts_of false cs) refl ∙ bare
+first_none : (expand : Bool) (t rest : List ℕ) (part : Part) → SpellsFront expand t part rest → is_dash_place part ≡ false
+first_none expand t rest part (star e q) = ap is_dash_place q
+first_none expand t rest part (question e q) = ap is_dash_place q
+first_none expand t rest part (escaped c e s q) = ap is_dash_place q
+first_none expand t rest part (backslash e b q) = ap is_dash_place q
+first_none expand t rest part (hole name e h q) = ap is_dash_place q
+first_none expand t rest part (other c e s n q) = ap is_dash_place q
 
-behind_none : (c : ℕ) (cs : List ℕ) (s : Bool) → dash_count (parts_of false cs) ≡ 0
-    → dash_count (if s then Char c ∷ parts_of false cs else Char 92 ∷ (Char c ∷ parts_of false cs)) ≡ 0
-behind_none c cs true bare = no_more (Char c) (parts_of false cs) refl ∙ bare
-behind_none c cs false bare = no_more (Char 92) (Char c ∷ parts_of false cs) refl ∙ no_more (Char c) (parts_of false cs) refl ∙ bare
-
-none_spelled : (b : Bool) (t : List ℕ) → dash_count (parts_of b t) ≡ 0
-none_spelled false [] = refl
-none_spelled true [] = refl
-none_spelled false (c ∷ cs) = first_none c cs (c == 42) (c == 63) (c == 92) (none_spelled false cs) (none_spelled true cs)
-none_spelled true (c ∷ cs) = behind_none c cs (is_special c) (none_spelled false cs)
+none_spelled : (expand : Bool) (parts : List Part) (t : List ℕ) → Spells expand t parts → dash_count parts ≡ 0
+none_spelled expand [] t h = refl
+none_spelled expand (part ∷ parts) t h = no_more part parts (first_none expand t h.0 part h.1) ∙ none_spelled expand parts h.0 h.2
 
 by_windash : (dashed : Bool) (parts : List Part) → dash_count parts ≡ 0 → places_after dashed parts ≡ (if dashed then windash_count parts else 0)
 by_windash true parts none = refl
 by_windash false parts none = none
 
 pub places : (chain : Written) (t : List ℕ)
-    → dash_count (pattern_of chain (parts_of false t)) ≡ (if list_any is_windash chain.modifiers then dash_count (dashes_of (parts_of false t)) else 0)
+    → dash_count (pattern_of chain (parts_in chain t)) ≡ (if list_any is_windash chain.modifiers then dash_count (dashes_of (parts_in chain t)) else 0)
 places chain t =
-    around_places (not chain.keyword || list_any is_position chain.modifiers) (all_edited chain.modifiers (parts_of false t))
-    ∙ edited_places chain.modifiers (parts_of false t) ∙ by_windash (list_any is_windash chain.modifiers) (parts_of false t) (none_spelled false t)
+    let expand : Bool = list_any is_expand chain.modifiers in
+    around_places (not chain.keyword || list_any is_position chain.modifiers) (all_edited chain.modifiers (parts_in chain t))
+    ∙ edited_places chain.modifiers (parts_in chain t)
+    ∙ by_windash (list_any is_windash chain.modifiers) (parts_in chain t) (none_spelled expand (parts_in chain t) t (parts_spell expand t))

@@ -1,9 +1,11 @@
 -- Each text stands for one list of patterns.
 use Rattle.std.proofs.Common.{ℕ, zero, suc, ◌≡◌, ◌+◌, ◌-◌, ◌*◌, ◌/◌, ◌%◌, ◌^◌, ◌<◌, arith, Bool, true, false, List, [], ◌∷◌, ◌++◌, length, map, replicate, get_or, slice_index, refl, sym, ap, subst, ◌∙◌}
 use Rattle.std.specs.Prelude.{Option, Some, None, is_some}
+use Rattle.std.specs.List.{list_any}
 use Rattle.std.proofs.Math.ListN.{get_or-map}
 use Rattle.std.proofs.lemmas.List.{length-map, map-append}
 use Rattle.base64.specs.GeneralPurpose.{IsBytes}
+use Rattle.modifier_chains.specs.Kinds.{is_expand}
 use Rattle.modifier_chains.specs.Written.{Written}
 use Rattle.modifier_chains.specs.declared.modifier.Encoding.{Encoding}
 use Rattle.modifier_chains.specs.declared.modifier.Encoding.TheVariants.{Base64, Base64Offset}
@@ -21,8 +23,7 @@ use Rattle.sig_strings.specs.Edits.{plain_text}
 use Rattle.sig_strings.specs.declared.part.Part.{Part}
 use Rattle.value_patterns.specs.Edited.{pattern_of}
 use Rattle.value_patterns.specs.Encoded.{encoding_of, units_of, bytes_in, as_pattern, AreTexts, AreAlternatives}
-use Rattle.value_patterns.specs.Parts.{parts_of}
-use Rattle.value_patterns.specs.Uses.{network, use_refusal, ArePatterns}
+use Rattle.value_patterns.specs.Uses.{network, use_refusal, parts_in, ArePatterns}
 use Rattle.value_patterns.proofs.PartsLemmas.{parts_spell, spelled_is}
 
 -- ---- only the last eight bits of a byte count
@@ -120,12 +121,12 @@ same_alternatives (Some e) units parts all others a b =
 
 pub some_patterns : (chain : Written) (t : List ℕ) → (all : List (List Part)) × ArePatterns chain t all
 some_patterns chain t =
-    let found : (all : List (List Part)) × AreAlternatives (encoding_of chain.modifiers) (units_of chain.modifiers) (parts_of false t) all =
-    some_alternatives (encoding_of chain.modifiers) (units_of chain.modifiers) (parts_of false t) in (
+    let found : (all : List (List Part)) × AreAlternatives (encoding_of chain.modifiers) (units_of chain.modifiers) (parts_in chain t) all =
+    some_alternatives (encoding_of chain.modifiers) (units_of chain.modifiers) (parts_in chain t) in (
       map (pattern_of chain) found.0,
       record {
-        parts = parts_of false t;
-        spelled = parts_spell t;
+        parts = parts_in chain t;
+        spelled = parts_spell (list_any is_expand chain.modifiers) t;
         alternatives = found.0;
         are_alternatives = found.1;
         patterns_are = refl;
@@ -134,7 +135,8 @@ some_patterns chain t =
 
 pub same_patterns : (chain : Written) (t : List ℕ) (all others : List (List Part)) → ArePatterns chain t all → ArePatterns chain t others → all ≡ others
 same_patterns chain t all others a b =
-    let one : a.parts ≡ b.parts = spelled_is a.parts t a.spelled ∙ sym (spelled_is b.parts t b.spelled) in
+    let expand : Bool = list_any is_expand chain.modifiers in
+    let one : a.parts ≡ b.parts = spelled_is expand a.parts t a.spelled ∙ sym (spelled_is expand b.parts t b.spelled) in
     let o = encoding_of chain.modifiers in
     let units = units_of chain.modifiers in
     let moved : AreAlternatives o units b.parts a.alternatives = subst (λ (ps : List Part). AreAlternatives o units ps a.alternatives) one a.are_alternatives in

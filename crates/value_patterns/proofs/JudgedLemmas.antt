@@ -1,6 +1,7 @@
 -- What is answered for a pattern and for a network is what the table of uses says.
 use Rattle.std.proofs.Common.{◌≡◌, ℕ, Bool, true, false, not, nat_le, List, [], ◌∷◌, length, map, refl, sym, ap, ◌∙◌, subst, arith}
 use Rattle.std.specs.Prelude.{ℤ, Option, Some, None, Result, Ok, Err, is_some}
+use Rattle.std.specs.List.{list_any}
 use Rattle.std.proofs.lemmas.Bool.{le-leb}
 use Rattle.std.proofs.lemmas.Simd.{map-map}
 use Rattle.sig_base.specs.declared.refusal.Fault.{Fault}
@@ -9,6 +10,7 @@ use Rattle.sig_base.specs.declared.refusal.Place.{Place}
 use Rattle.sig_base.specs.declared.refusal.Refusal.{Refusal}
 use Rattle.sig_base.specs.Judged.{Judged, must, first}
 use Rattle.dash_choices.specs.Choices.{dash_count}
+use Rattle.modifier_chains.specs.Kinds.{is_expand}
 use Rattle.modifier_chains.specs.Written.{Written}
 use Rattle.event_schema.specs.Names.{is_legal}
 use Rattle.modifier_chains.specs.declared.modifier.Encoding.{Encoding}
@@ -36,7 +38,7 @@ later false b place more h = absurd cc
 -- the lines of the table for a pattern, by its encoding
 abbrev pattern_lines : ℕ → Option Encoding → Written → Place → List ℕ → Option Refusal
 pattern_lines dashes encoding chain place t =
-    first (must 43 place (no_wildcard encoding t) ∷ must 42 place (enough_bytes encoding chain t) ∷ None ∷ None ∷ None ∷ must 46 place (nat_le (dash_places_of encoding chain t) dashes) ∷ None ∷ None ∷ [])
+    first (must 43 place (no_wildcard encoding chain t) ∷ must 42 place (enough_bytes encoding chain t) ∷ None ∷ None ∷ None ∷ must 46 place (nat_le (dash_places_of encoding chain t) dashes) ∷ None ∷ None ∷ [])
 
 -- a text's own checks decide where one of them refuses
 pub sooner : (a b : Bool) (place : Place) (more : List (Option Refusal)) (r : Refusal) → first (must 49 place a ∷ must 50 place b ∷ []) ≡ Some r
@@ -59,7 +61,7 @@ one_line : (a : Bool) (place : Place) → first (None ∷ None ∷ None ∷ None
 one_line true place = refl
 one_line false place = refl
 
-module _ (unbuilt : List Place) (most dashes : ℕ) (chain : Written) (place : Place) (t : List ℕ) (parts : List Part) (spelled : Spells false t parts)
+module _ (unbuilt : List Place) (most dashes : ℕ) (chain : Written) (place : Place) (t : List ℕ) (parts : List Part) (spelled : Spells (list_any is_expand chain.modifiers) t parts)
     (taken : first (text_checks most place t) ≡ None) where
   the_lines : use_refusal unbuilt most dashes chain place (pattern t) ≡ pattern_lines dashes (encoding_of chain.modifiers) chain place t
   the_lines = later (nat_le (length t) most) (not (has_nul t)) place _ taken
@@ -68,13 +70,13 @@ module _ (unbuilt : List Place) (most dashes : ℕ) (chain : Written) (place : P
       → use_refusal unbuilt most dashes chain place (pattern t) ≡ first (encoding_checks e chain place parts)
   encoded_lines e is =
       the_lines ∙ ap (λ (o : Option Encoding). pattern_lines dashes o chain place t) is
-      ∙ two_lines _ _ (nat_le 0 dashes) place (no_places dashes) ∙ ap (λ (ps : List Part). first (encoding_checks e chain place ps)) (sym (spelled_is parts t spelled))
+      ∙ two_lines _ _ (nat_le 0 dashes) place (no_places dashes) ∙ ap (λ (ps : List Part). first (encoding_checks e chain place ps)) (sym (spelled_is (list_any is_expand chain.modifiers) parts t spelled))
 
   plain_lines : encoding_of chain.modifiers ≡ None
       → use_refusal unbuilt most dashes chain place (pattern t) ≡ must 46 place (nat_le (dash_count (pattern_of chain parts)) dashes)
   plain_lines is =
       the_lines ∙ ap (λ (o : Option Encoding). pattern_lines dashes o chain place t) is
-      ∙ one_line _ place ∙ ap (λ (ps : List Part). must 46 place (nat_le (dash_count (pattern_of chain ps)) dashes)) (sym (spelled_is parts t spelled))
+      ∙ one_line _ place ∙ ap (λ (ps : List Part). must 46 place (nat_le (dash_count (pattern_of chain ps)) dashes)) (sym (spelled_is (list_any is_expand chain.modifiers) parts t spelled))
 
   encoded_patterns : (e : Encoding) → encoding_of chain.modifiers ≡ Some e → (all : List (List Part)) → AreEditedTexts chain e parts all → ArePatterns chain t all
   encoded_patterns e is all h = record {

@@ -5,26 +5,24 @@ use Rattle.std.specs.List.{list_all, list_any}
 use Rattle.std.proofs.lemmas.Bool.{and_parts, and_from}
 use Rattle.std.proofs.lemmas.List.Folds.{list_all-append}
 use Rattle.event_schema.specs.Lists.{EachOf}
-use Rattle.modifier_chains.specs.Kinds.{is_position}
+use Rattle.modifier_chains.specs.Kinds.{is_position, is_expand}
 use Rattle.modifier_chains.specs.Written.{Written}
 use Rattle.modifier_chains.specs.declared.modifier.Encoding.{Encoding}
 use Rattle.modifier_chains.specs.declared.modifier.Modifier.{Modifier}
-use Rattle.modifier_chains.specs.declared.modifier.Modifier.TheVariants.{Position as In, All, Cased, Windash, Units, Encoding as As, Exists, Cidr, Order, Fieldref, Re, Flag}
+use Rattle.modifier_chains.specs.declared.modifier.Modifier.TheVariants.{Position as In, All, Cased, Windash, Expand, Units, Encoding as As, Exists, Cidr, Order, Fieldref, Re, Flag}
 use Rattle.modifier_chains.specs.declared.modifier.Position.{Position}
 use Rattle.modifier_chains.specs.declared.modifier.Position.TheVariants.{Around, After, Before}
 use Rattle.sig_encode.specs.Base64.{alphabet}
 use Rattle.sig_encode.specs.declared.utf16.Form.{Form}
 use Rattle.sig_strings.specs.Edits.{is_dash_sign, is_word_part, starts_with_word, dashes_after, dashes_of, plain_piece, plain_text, starts_with_run, ends_with_run, with_run_before, with_run_after}
-use Rattle.sig_strings.specs.Spells.{is_special}
+use Rattle.sig_strings.specs.Spells.{Spells, SpellsFront, star, question, escaped, backslash, hole, other}
 use Rattle.sig_strings.specs.declared.part.Part.{Part}
-use Rattle.sig_strings.specs.declared.part.Part.TheVariants.{Char, One, Run, Dash}
+use Rattle.sig_strings.specs.declared.part.Part.TheVariants.{Run, Dash}
 use Rattle.value_patterns.specs.Edited.{with_runs, edited, all_edited, pattern_of}
 use Rattle.value_patterns.specs.Encoded.{encoding_of, units_of, bytes_in, as_pattern, AreAlternatives}
-use Rattle.value_patterns.specs.Parts.{parts_of}
 use Rattle.value_patterns.specs.PlainPatterns.{is_filled}
 use Rattle.value_patterns.specs.Uses.{ArePatterns}
 use Rattle.value_patterns.proofs.Passing.{parts_pass, texts_pass, AllPassing, own_text}
-use Rattle.value_patterns.proofs.PartsLemmas.{spelled_is}
 
 -- ---- what holds of a pattern, and of it with runs and dash places
 module _ (Q : List Part → Type 0) (before : (parts : List Part) → Q parts → Q (with_run_before parts))
@@ -39,6 +37,7 @@ module _ (Q : List Part → Type 0) (before : (parts : List Part) → Q parts �
   edit_keeps All parts h = h
   edit_keeps Cased parts h = h
   edit_keeps Windash parts h = dashes parts h
+  edit_keeps Expand parts h = h
   edit_keeps (Units form) parts h = h
   edit_keeps (As encoding) parts h = h
   edit_keeps Exists parts h = h
@@ -112,40 +111,38 @@ all_chars_filled : (texts : List (List ℕ)) → EachOf (AllParts is_filled) (ma
 all_chars_filled [] = tt
 all_chars_filled (text ∷ texts) = (chars_filled text, all_chars_filled texts)
 
-first_filled : (c : ℕ) (cs : List ℕ) (s q b : Bool) → AllParts is_filled (parts_of false cs) → AllParts is_filled (parts_of true cs)
-    → AllParts is_filled (if s then Run ∷ parts_of false cs else (if q then One ∷ parts_of false cs else (if b then parts_of true cs else Char c ∷ parts_of false cs)))
-first_filled c cs true q b bare behind = bare
-first_filled c cs false true b bare behind = bare
-first_filled c cs false false true bare behind = behind
-first_filled c cs false false false bare behind = bare
+front_filled : (t rest : List ℕ) (part : Part) → SpellsFront false t part rest → is_filled part ≡ true
+front_filled t rest part (star e q) = ap is_filled q
+front_filled t rest part (question e q) = ap is_filled q
+front_filled t rest part (escaped c e s q) = ap is_filled q
+front_filled t rest part (backslash e b q) = ap is_filled q
+front_filled t rest part (hole name e h q) = absurd cc
+front_filled t rest part (other c e s n q) = ap is_filled q
 
-behind_filled : (c : ℕ) (cs : List ℕ) (s : Bool) → AllParts is_filled (parts_of false cs)
-    → AllParts is_filled (if s then Char c ∷ parts_of false cs else Char 92 ∷ (Char c ∷ parts_of false cs))
-behind_filled c cs true bare = bare
-behind_filled c cs false bare = bare
+parts_filled : (parts : List Part) (t : List ℕ) → Spells false t parts → AllParts is_filled parts
+parts_filled [] t h = refl
+parts_filled (part ∷ parts) t h =
+    and_from (is_filled part) (list_all is_filled parts) (front_filled t h.0 part h.1) (parts_filled parts h.0 h.2)
 
-parts_filled : (b : Bool) (t : List ℕ) → AllParts is_filled (parts_of b t)
-parts_filled false [] = refl
-parts_filled true [] = refl
-parts_filled false (c ∷ cs) = first_filled c cs (c == 42) (c == 63) (c == 92) (parts_filled false cs) (parts_filled true cs)
-parts_filled true (c ∷ cs) = behind_filled c cs (is_special c) (parts_filled false cs)
-
-alternatives_filled : (o : Option Encoding) (units : Option Form) (t : List ℕ) (parts : List Part) (all : List (List Part)) → parts ≡ parts_of false t
+alternatives_filled : (o : Option Encoding) (units : Option Form) (parts : List Part) (all : List (List Part)) → AllParts is_filled parts
     → AreAlternatives o units parts all → EachOf (AllParts is_filled) all
-alternatives_filled None units t parts all is are =
-    subst (λ (ps : List (List Part)). EachOf (AllParts is_filled) ps) (sym (are ∙ ap (λ (ps : List Part). ps ∷ []) is)) (parts_filled false t, tt)
-alternatives_filled (Some e) units t parts all is are =
+alternatives_filled None units parts all filled are =
+    subst (λ (ps : List (List Part)). EachOf (AllParts is_filled) ps) (sym are) (filled, tt)
+alternatives_filled (Some e) units parts all filled are =
     subst (λ (ps : List (List Part)). EachOf (AllParts is_filled) ps) (sym are.2) (all_chars_filled are.0)
 
--- no pattern of a text has a placeholder
-pub patterns_filled : (chain : Written) (t : List ℕ) (all : List (List Part)) → ArePatterns chain t all → EachOf (AllParts is_filled) all
-patterns_filled chain t all are =
+-- without `expand` no pattern of a text has a placeholder
+pub patterns_filled : (chain : Written) (t : List ℕ) (all : List (List Part)) → list_any is_expand chain.modifiers ≡ false → ArePatterns chain t all
+    → EachOf (AllParts is_filled) all
+patterns_filled chain t all none are =
+    let spelled : Spells false t are.parts = subst (λ (b : Bool). Spells b t are.parts) none are.spelled in
     subst (λ (ps : List (List Part)). EachOf (AllParts is_filled) ps) (sym are.patterns_are)
     (parts_keep is_filled refl refl chain are.alternatives
-    (alternatives_filled (encoding_of chain.modifiers) (units_of chain.modifiers) t are.parts are.alternatives (spelled_is are.parts t are.spelled) are.are_alternatives))
+    (alternatives_filled (encoding_of chain.modifiers) (units_of chain.modifiers) are.parts are.alternatives
+    (parts_filled are.parts t spelled) are.are_alternatives))
 
--- ---- a test that the backslash and the characters of base64 pass
-module _ (p : ℕ → Bool) (slash : p 92 ≡ true) (symbols : list_all p alphabet ≡ true) (padding : p 61 ≡ true) where
+-- ---- a test that the characters of base64 pass
+module _ (p : ℕ → Bool) (symbols : list_all p alphabet ≡ true) (padding : p 61 ≡ true) where
   text_parts_pass : (text : List ℕ) → list_all p text ≡ true → AllParts (passing p) (as_pattern text)
   text_parts_pass text all = by_parts p (as_pattern text) ∙ ap (λ (t : List ℕ). list_all p t) (own_text text) ∙ all
 
@@ -153,12 +150,11 @@ module _ (p : ℕ → Bool) (slash : p 92 ≡ true) (symbols : list_all p alphab
   all_parts_pass [] h = tt
   all_parts_pass (text ∷ texts) h = (text_parts_pass text h.0, all_parts_pass texts h.1)
 
-  alternatives_pass : (o : Option Encoding) (units : Option Form) (t : List ℕ) (parts : List Part) (all : List (List Part)) → parts ≡ parts_of false t
-      → list_all p t ≡ true → AreAlternatives o units parts all → EachOf (AllParts (passing p)) all
-  alternatives_pass None units t parts all is passes are =
-      subst (λ (ps : List (List Part)). EachOf (AllParts (passing p)) ps) (sym (are ∙ ap (λ (ps : List Part). ps ∷ []) is))
-      (by_parts p (parts_of false t) ∙ parts_pass p slash false t passes, tt)
-  alternatives_pass (Some e) units t parts all is passes are =
+  alternatives_pass : (o : Option Encoding) (units : Option Form) (parts : List Part) (all : List (List Part)) → list_all p (plain_text parts) ≡ true
+      → AreAlternatives o units parts all → EachOf (AllParts (passing p)) all
+  alternatives_pass None units parts all passes are =
+      subst (λ (ps : List (List Part)). EachOf (AllParts (passing p)) ps) (sym are) (by_parts p parts ∙ passes, tt)
+  alternatives_pass (Some e) units parts all passes are =
       subst (λ (ps : List (List Part)). EachOf (AllParts (passing p)) ps) (sym are.2)
       (all_parts_pass are.0 (texts_pass p symbols padding e (bytes_in units (plain_text parts)) are.0 are.1))
 
@@ -166,4 +162,5 @@ module _ (p : ℕ → Bool) (slash : p 92 ≡ true) (symbols : list_all p alphab
   patterns_pass chain t all passes are =
       subst (λ (ps : List (List Part)). EachOf (AllParts (passing p)) ps) (sym are.patterns_are)
       (parts_keep (passing p) refl refl chain are.alternatives
-      (alternatives_pass (encoding_of chain.modifiers) (units_of chain.modifiers) t are.parts are.alternatives (spelled_is are.parts t are.spelled) passes are.are_alternatives))
+      (alternatives_pass (encoding_of chain.modifiers) (units_of chain.modifiers) are.parts are.alternatives
+      (parts_pass p (list_any is_expand chain.modifiers) are.parts t are.spelled passes) are.are_alternatives))

@@ -2,16 +2,16 @@
 use Rattle.std.proofs.Common.{ℕ, zero, suc, ◌≡◌, ◌<◌, ◌*◌, ◌+◌, arith, Bool, true, false, ◌==◌, if◌then◌else◌, List, [], ◌∷◌, ◌++◌, length, get_or, replicate, refl, sym, ap, subst, ◌∙◌, inl, inr}
 use Rattle.std.specs.List.{list_all}
 use Rattle.std.proofs.lemmas.Bool.{and_parts, and_from, cases_lt}
+use Rattle.std.proofs.lemmas.List.Folds.{list_all-append}
 use Rattle.modifier_chains.specs.declared.modifier.Encoding.{Encoding}
 use Rattle.modifier_chains.specs.declared.modifier.Encoding.TheVariants.{Base64, Base64Offset}
 use Rattle.sig_encode.specs.Base64.{alphabet, IsBase64}
 use Rattle.sig_encode.specs.Pieces.{kept, lies_within}
-use Rattle.sig_strings.specs.Edits.{plain_text}
-use Rattle.sig_strings.specs.Spells.{is_special}
+use Rattle.sig_strings.specs.Edits.{plain_piece, plain_text}
+use Rattle.sig_strings.specs.Spells.{Spells, SpellsFront, star, question, escaped, backslash, hole, other}
 use Rattle.sig_strings.specs.declared.part.Part.{Part}
-use Rattle.sig_strings.specs.declared.part.Part.TheVariants.{Char, One, Run}
+use Rattle.sig_strings.specs.declared.part.Part.TheVariants.{Char}
 use Rattle.value_patterns.specs.Encoded.{AreTexts, as_pattern}
-use Rattle.value_patterns.specs.Parts.{parts_of}
 
 -- ---- lists
 
@@ -24,33 +24,34 @@ at_place p [] i lt all = absurd (omega (arith, lt))
 at_place p (x ∷ xs) zero lt all = (and_parts (p x) (list_all p xs) all).0
 at_place p (x ∷ xs) (suc i) lt all = at_place p xs i (omega (arith, lt)) (and_parts (p x) (list_all p xs) all).1
 
--- ---- a test that the backslash and the characters of base64 pass
-module _ (p : ℕ → Bool) (slash : p 92 ≡ true) where
-  char_passes : (c : ℕ) (parts : List Part) → p c ≡ true → list_all p (plain_text parts) ≡ true → list_all p (plain_text (Char c ∷ parts)) ≡ true
-  char_passes c parts one rest = and_from (p c) (list_all p (plain_text parts)) one rest
+-- ---- a test that the characters of a text pass
+module _ (p : ℕ → Bool) where
+  behind_first : (c : ℕ) (t rest : List ℕ) → t ≡ c ∷ rest → list_all p t ≡ true → (p c ≡ true) × (list_all p rest ≡ true)
+  behind_first c t rest is all = and_parts (p c) (list_all p rest) (ap (λ (u : List ℕ). list_all p u) (sym is) ∙ all)
 
-  -- the parts behind nothing, and those behind a backslash
-  front_passes : (c : ℕ) (cs : List ℕ) (s q b : Bool) → p c ≡ true → list_all p (plain_text (parts_of false cs)) ≡ true → list_all p (plain_text (parts_of true cs)) ≡ true
-      → list_all p (plain_text (if s then Run ∷ parts_of false cs else (if q then One ∷ parts_of false cs else (if b then parts_of true cs else Char c ∷ parts_of false cs)))) ≡ true
-  front_passes c cs true q b one bare behind = bare
-  front_passes c cs false true b one bare behind = bare
-  front_passes c cs false false true one bare behind = behind
-  front_passes c cs false false false one bare behind = char_passes c (parts_of false cs) one bare
+  one_passes : (c : ℕ) (part : Part) → part ≡ Char c → p c ≡ true → list_all p (plain_piece part) ≡ true
+  one_passes c part is one = ap (λ (x : Part). list_all p (plain_piece x)) is ∙ and_from (p c) true one refl
 
-  behind_passes : (c : ℕ) (cs : List ℕ) (s : Bool) → p c ≡ true → list_all p (plain_text (parts_of false cs)) ≡ true
-      → list_all p (plain_text (if s then Char c ∷ parts_of false cs else Char 92 ∷ (Char c ∷ parts_of false cs))) ≡ true
-  behind_passes c cs true one bare = char_passes c (parts_of false cs) one bare
-  behind_passes c cs false one bare = char_passes 92 (Char c ∷ parts_of false cs) slash (char_passes c (parts_of false cs) one bare)
+  -- the part at the front of the text, and what stands behind it
+  front_passes : (expand : Bool) (t rest : List ℕ) (part : Part) → SpellsFront expand t part rest → list_all p t ≡ true
+      → (list_all p (plain_piece part) ≡ true) × (list_all p rest ≡ true)
+  front_passes expand t rest part (star e q) all = (ap (λ (x : Part). list_all p (plain_piece x)) q, (behind_first 42 t rest e all).1)
+  front_passes expand t rest part (question e q) all = (ap (λ (x : Part). list_all p (plain_piece x)) q, (behind_first 63 t rest e all).1)
+  front_passes expand t rest part (escaped c e s q) all =
+      let both = behind_first c (c ∷ rest) rest refl (behind_first 92 t (c ∷ rest) e all).1 in (one_passes c part q both.0, both.1)
+  front_passes expand t rest part (backslash e b q) all = let both = behind_first 92 t rest e all in (one_passes 92 part q both.0, both.1)
+  front_passes expand t rest part (hole name e h q) all =
+      let behind : list_all p (name ++ 37 ∷ rest) ≡ true = (behind_first 37 t (name ++ 37 ∷ rest) h.shape all).1 in
+      let both = and_parts (list_all p name) (list_all p (37 ∷ rest)) (sym (list_all-append p name (37 ∷ rest)) ∙ behind) in
+      (ap (λ (x : Part). list_all p (plain_piece x)) q, (behind_first 37 (37 ∷ rest) rest refl both.1).1)
+  front_passes expand t rest part (other c e s n q) all = let both = behind_first c t rest e all in (one_passes c part q both.0, both.1)
 
-  pub parts_pass : (b : Bool) (t : List ℕ) → list_all p t ≡ true → list_all p (plain_text (parts_of b t)) ≡ true
-  parts_pass false [] all = refl
-  parts_pass true [] all = and_from (p 92) true slash refl
-  parts_pass false (c ∷ cs) all =
-      let both = and_parts (p c) (list_all p cs) all in
-      front_passes c cs (c == 42) (c == 63) (c == 92) both.0 (parts_pass false cs both.1) (parts_pass true cs both.1)
-  parts_pass true (c ∷ cs) all =
-      let both = and_parts (p c) (list_all p cs) all in
-      behind_passes c cs (is_special c) both.0 (parts_pass false cs both.1)
+  pub parts_pass : (expand : Bool) (parts : List Part) (t : List ℕ) → Spells expand t parts → list_all p t ≡ true → list_all p (plain_text parts) ≡ true
+  parts_pass expand [] t h all = refl
+  parts_pass expand (part ∷ parts) t h all =
+      let both = front_passes expand t h.0 part h.1 all in
+      list_all-append p (plain_piece part) (plain_text parts)
+      ∙ and_from (list_all p (plain_piece part)) (list_all p (plain_text parts)) both.0 (parts_pass expand parts h.0 h.2 both.1)
 
 module _ (p : ℕ → Bool) (symbols : list_all p alphabet ≡ true) (padding : p 61 ≡ true) where
   text_passes : (bytes text : List ℕ) → IsBase64 bytes text → list_all p text ≡ true

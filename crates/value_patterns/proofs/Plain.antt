@@ -1,4 +1,4 @@
--- Patterns of texts are of characters other than U+0000, of single characters, runs and dash places.
+-- The characters of the patterns of a text are other than U+0000 where its own are.
 use Rattle.std.proofs.Common.{ℕ, ◌≡◌, ◌==◌, nat_lt, nat_le, not, length, arith, Bool, true, false, ◌&&◌, List, [], ◌∷◌, refl, sym, ap, ◌∙◌}
 use Rattle.std.proofs.Math.Utf8.{scalar}
 use Rattle.std.specs.List.{list_all}
@@ -18,9 +18,9 @@ use Rattle.sig_strings.specs.Edits.{is_written, plain_text}
 use Rattle.sig_strings.specs.declared.part.Part.{Part}
 use Rattle.value_patterns.specs.Expressions.{expression_text, IsPlainExpression}
 use Rattle.value_patterns.specs.Parts.{has_nul}
-use Rattle.value_patterns.specs.PlainPatterns.{is_filled, is_dashed, is_plain, IsDashedPattern, IsPlainPattern}
+use Rattle.value_patterns.specs.PlainPatterns.{has_no_nul, is_plain, HasPlainText, IsPlainPattern}
 use Rattle.value_patterns.specs.Uses.{pattern, expression, use_refusal, ArePatterns}
-use Rattle.value_patterns.proofs.Keeping.{AllParts, passing, by_parts, patterns_filled, patterns_pass}
+use Rattle.value_patterns.proofs.Keeping.{AllParts, passing, by_parts, patterns_pass}
 
 abbrev pub above_nul : ℕ → Bool
 above_nul c = nat_lt 0 c
@@ -43,12 +43,11 @@ no_nul (c ∷ cs) none =
 passed : (p : ℕ → Bool) (parts : List Part) → AllParts (passing p) parts → list_all p (plain_text parts) ≡ true
 passed p parts h = sym (by_parts p parts) ∙ h
 
-pub each_dashed : (all : List (List Part)) → EachOf (AllParts is_filled) all → EachOf (AllParts (passing scalar)) all → EachOf (AllParts (passing above_nul)) all
-    → EachOf IsDashedPattern all
-each_dashed [] filled scalars aboves = tt
-each_dashed (parts ∷ all) filled scalars aboves = (
-  record { filled = filled.0; plain = (scalars_pass (plain_text parts) ∙ passed scalar parts scalars.0, passed above_nul parts aboves.0) },
-  each_dashed all filled.1 scalars.1 aboves.1,
+each_plain_text : (all : List (List Part)) → EachOf (AllParts (passing scalar)) all → EachOf (AllParts (passing above_nul)) all → EachOf HasPlainText all
+each_plain_text [] scalars aboves = tt
+each_plain_text (parts ∷ all) scalars aboves = (
+  (scalars_pass (plain_text parts) ∙ passed scalar parts scalars.0, passed above_nul parts aboves.0),
+  each_plain_text all scalars.1 aboves.1,
 )
 
 pub each_plain : (all : List (List Part)) → EachOf (AllParts is_written) all → EachOf (AllParts (passing scalar)) all → EachOf (AllParts (passing above_nul)) all
@@ -59,11 +58,10 @@ each_plain (parts ∷ all) written scalars aboves = (
   each_plain all written.1 scalars.1 aboves.1,
 )
 
-all_dashed : (all : List (List Part)) → EachOf (AllParts is_filled) all → EachOf (AllParts (passing above_nul)) all → list_all is_dashed all ≡ true
-all_dashed [] filled aboves = refl
-all_dashed (parts ∷ all) filled aboves =
-    and_from (is_dashed parts) (list_all is_dashed all)
-    (and_from (list_all is_filled parts) (list_all above_nul (plain_text parts)) filled.0 (passed above_nul parts aboves.0)) (all_dashed all filled.1 aboves.1)
+all_without_nul : (all : List (List Part)) → EachOf (AllParts (passing above_nul)) all → list_all has_no_nul all ≡ true
+all_without_nul [] aboves = refl
+all_without_nul (parts ∷ all) aboves =
+    and_from (has_no_nul parts) (list_all has_no_nul all) (passed above_nul parts aboves.0) (all_without_nul all aboves.1)
 
 pub all_plain : (all : List (List Part)) → EachOf (AllParts is_written) all → EachOf (AllParts (passing above_nul)) all → list_all is_plain all ≡ true
 all_plain [] written aboves = refl
@@ -73,15 +71,13 @@ all_plain (parts ∷ all) written aboves =
 
 -- ---- the patterns of a text
 
-pub patterns_dashed : (chain : Written) (t : List ℕ) (all : List (List Part)) → has_nul t ≡ false → ArePatterns chain t all → list_all is_dashed all ≡ true
-patterns_dashed chain t all none are =
-    all_dashed all (patterns_filled chain t all are) (patterns_pass above_nul refl refl refl chain t all (no_nul t none) are)
+pub patterns_without_nul : (chain : Written) (t : List ℕ) (all : List (List Part)) → has_nul t ≡ false → ArePatterns chain t all → list_all has_no_nul all ≡ true
+patterns_without_nul chain t all none are = all_without_nul all (patterns_pass above_nul refl refl chain t all (no_nul t none) are)
 
-pub patterns_plain : (chain : Written) (t : List ℕ) (all : List (List Part)) → all_scalars t ≡ true → has_nul t ≡ false → ArePatterns chain t all → EachOf IsDashedPattern all
+pub patterns_plain : (chain : Written) (t : List ℕ) (all : List (List Part)) → all_scalars t ≡ true → has_nul t ≡ false → ArePatterns chain t all → EachOf HasPlainText all
 patterns_plain chain t all scalars none are =
-    each_dashed all (patterns_filled chain t all are)
-    (patterns_pass scalar refl refl refl chain t all (sym (scalars_pass t) ∙ scalars) are)
-    (patterns_pass above_nul refl refl refl chain t all (no_nul t none) are)
+    each_plain_text all (patterns_pass scalar refl refl chain t all (sym (scalars_pass t) ∙ scalars) are)
+    (patterns_pass above_nul refl refl chain t all (no_nul t none) are)
 
 pub no_nul_left : (a b : Bool) (place : Place) (more : List (Option Refusal)) → first (must 49 place a ∷ must 50 place (not b) ∷ more) ≡ None → b ≡ false
 no_nul_left true true place more h = absurd cc
@@ -90,7 +86,7 @@ no_nul_left false b place more h = absurd cc
 
 -- what is read of a text that isn't refused
 pub judged_plain : {X : Type 0} (items : X → List (List Part)) (unbuilt : List Place) (most dashes : ℕ) (chain : Written) (place : Place) (t : List ℕ) (r : Result X Fault) → all_scalars t ≡ true
-    → Judged (λ all. ArePatterns chain t (items all)) (use_refusal unbuilt most dashes chain place (pattern t)) r → IfOk r (λ all. EachOf IsDashedPattern (items all))
+    → Judged (λ all. ArePatterns chain t (items all)) (use_refusal unbuilt most dashes chain place (pattern t)) r → IfOk r (λ all. EachOf HasPlainText (items all))
 judged_plain items unbuilt most dashes chain place t (Ok all) scalars h =
     patterns_plain chain t (items all) scalars (no_nul_left (nat_le (length t) most) (has_nul t) place _ h.0) h.1
 judged_plain items unbuilt most dashes chain place t (Err e) scalars h = tt

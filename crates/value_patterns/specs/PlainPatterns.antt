@@ -1,4 +1,4 @@
--- Patterns that a language of queries can write.
+-- Patterns of characters that fields have; patterns without placeholders; and those that a language of queries can write.
 use Rattle.std.specs.Prelude.{◌≡◌, Bool, true, ◌&&◌, ◌||◌, nat_lt, List}
 use Rattle.std.specs.List.{list_all}
 use Rattle.dash_choices.specs.Choices.{is_dash_place}
@@ -10,19 +10,28 @@ use Rattle.sig_strings.specs.declared.part.Part.{Part}
 abbrev pub is_filled : Part → Bool
 is_filled part = is_written part || is_dash_place part
 
+-- its characters are other than U+0000
+abbrev pub has_no_nul : List Part → Bool
+has_no_nul parts = list_all (λ c. nat_lt 0 c) (plain_text parts)
+
 -- characters other than U+0000, single characters, runs and dash places
 abbrev pub is_dashed : List Part → Bool
-is_dashed parts = list_all is_filled parts && list_all (λ c. nat_lt 0 c) (plain_text parts)
+is_dashed parts = list_all is_filled parts && has_no_nul parts
 
 -- characters other than U+0000, single characters and runs
 abbrev pub is_plain : List Part → Bool
-is_plain parts = all_written parts && list_all (λ c. nat_lt 0 c) (plain_text parts)
+is_plain parts = all_written parts && has_no_nul parts
 
--- the same, and the characters are Unicode scalar values
+-- its characters are Unicode scalar values other than U+0000
+abbrev pub HasPlainText : List Part → Type 0
+HasPlainText parts = IsPlainText (plain_text parts)
+
+-- and it has no placeholder
 pub record IsDashedPattern (parts : List Part) : Type 0 where
   pub filled : list_all is_filled parts ≡ true
-  pub plain : IsPlainText (plain_text parts)
+  pub plain : HasPlainText parts
 
+-- nor a dash place
 pub record IsPlainPattern (parts : List Part) : Type 0 where
   pub written : all_written parts ≡ true
-  pub plain : IsPlainText (plain_text parts)
+  pub plain : HasPlainText parts

@@ -1,10 +1,12 @@
 -- What a chain takes a value for, and why that is refused (Sigma specification 2.0, modifiers).
 use Rattle.std.specs.Prelude.{ℕ, ◌≡◌, Bool, true, false, ◌||◌, not, nat_le, ℤ, List, [], ◌∷◌, length, map, Option, Some, None, is_none, is_some}
+use Rattle.std.specs.List.{list_any}
 use Rattle.sig_base.specs.declared.refusal.Place.{Place}
 use Rattle.sig_base.specs.declared.refusal.Refusal.{Refusal}
 use Rattle.sig_base.specs.Judged.{must, first}
 use Rattle.dash_choices.specs.Choices.{dash_count}
 use Rattle.event_schema.specs.Names.{is_legal}
+use Rattle.modifier_chains.specs.Kinds.{is_expand}
 use Rattle.modifier_chains.specs.Written.{Written}
 use Rattle.modifier_chains.specs.declared.modifier.Encoding.{Encoding}
 use Rattle.modifier_chains.specs.declared.form.Flags.{Flags}
@@ -75,15 +77,19 @@ encoding_in chain (ordered op n) = None
 encoding_in chain (reference t) = None
 encoding_in chain (expression flags t) = None
 
+-- the pattern that a text spells under a chain, which takes `%name%` for a placeholder or doesn't
+abbrev pub parts_in : Written → List ℕ → List Part
+parts_in chain t = parts_of (list_any is_expand chain.modifiers) t
+
 -- what is encoded has no wildcard
-abbrev pub no_wildcard : Option Encoding → List ℕ → Bool
-no_wildcard encoding t = is_none encoding || not (has_wildcard (parts_of false t))
+abbrev pub no_wildcard : Option Encoding → Written → List ℕ → Bool
+no_wildcard encoding chain t = is_none encoding || not (has_wildcard (parts_in chain t))
 
 -- what is encoded has as many bytes as its encoding takes
 abbrev pub enough_bytes : Option Encoding → Written → List ℕ → Bool
 enough_bytes None chain t = true
 enough_bytes (Some encoding) chain t =
-    nat_le (least_bytes encoding) (length (bytes_in (units_of chain.modifiers) (plain_text (parts_of false t))))
+    nat_le (least_bytes encoding) (length (bytes_in (units_of chain.modifiers) (plain_text (parts_in chain t))))
 
 -- a field's name is legal
 abbrev pub is_name_text : Use → Bool
@@ -136,7 +142,7 @@ expression_in (expression flags t) = Some (expression_text flags t)
 -- the dash places of the pattern that is made of a text; what is encoded has none, since no chain has `windash` beside an
 -- encoding
 abbrev pub dash_places_of : Option Encoding → Written → List ℕ → ℕ
-dash_places_of None chain t = dash_count (pattern_of chain (parts_of false t))
+dash_places_of None chain t = dash_count (pattern_of chain (parts_in chain t))
 dash_places_of (Some encoding) chain t = 0
 
 abbrev pub dash_places : Written → Use → ℕ
@@ -159,7 +165,7 @@ use_checks unbuilt most dashes chain place u =
     must 42 place (is_used u)
     ∷ must 49 place (nat_le (length (text_of u)) most)
     ∷ must 50 place (not (has_nul (text_of u)))
-    ∷ must 43 place (no_wildcard (encoding_in chain u) (text_of u))
+    ∷ must 43 place (no_wildcard (encoding_in chain u) chain (text_of u))
     ∷ must 42 place (enough_bytes (encoding_in chain u) chain (text_of u))
     ∷ must 42 place (is_name_text u)
     ∷ must 44 place (is_network_text u)
@@ -176,7 +182,7 @@ use_refusal unbuilt most dashes chain place u = first (use_checks unbuilt most d
 -- the patterns that a text stands for: its alternatives, each edited as the chain says
 pub record ArePatterns (chain : Written) (t : List ℕ) (patterns : List (List Part)) : Type 0 where
   pub parts : List Part
-  pub spelled : Spells false t parts
+  pub spelled : Spells (list_any is_expand chain.modifiers) t parts
   pub alternatives : List (List Part)
   pub are_alternatives : AreAlternatives (encoding_of chain.modifiers) (units_of chain.modifiers) parts alternatives
   pub patterns_are : patterns ≡ map (pattern_of chain) alternatives

@@ -27,6 +27,7 @@ fn edited(modifier: Modifier, pattern: Pattern) -> Result<Pattern, Fault>
         Modifier::Windash => Ok(pattern.dashes()),
         Modifier::All
         | Modifier::Cased
+        | Modifier::Expand
         | Modifier::Units(_)
         | Modifier::Encoding(_)
         | Modifier::Exists

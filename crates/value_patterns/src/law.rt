@@ -7,7 +7,7 @@ ghost use Rattle.dash_choices.specs.Choices.{choices, dash_count};
 ghost use Rattle.event_schema.specs.Addresses.{IsAddress};
 ghost use Rattle.event_schema.specs.Events.{IsPlainText};
 ghost use Rattle.event_schema.specs.Lists.{EachOf};
-ghost use Rattle.modifier_chains.specs.Kinds.{is_windash};
+ghost use Rattle.modifier_chains.specs.Kinds.{is_expand, is_windash};
 ghost use Rattle.modifier_chains.specs.Written.{Written};
 ghost use Rattle.modifier_chains.specs.declared.form.Flags.{Flags};
 ghost use Rattle.sig_base.specs.declared.refusal.Place.{Place};
@@ -18,13 +18,13 @@ ghost use Rattle.sig_strings.specs.declared.part.Part.{Part};
 ghost use Rattle.value_patterns.specs.Edited.{pattern_of};
 ghost use Rattle.value_patterns.specs.Expressions.{expression_text};
 ghost use Rattle.value_patterns.specs.Parts.{has_nul, parts_of};
-ghost use Rattle.value_patterns.specs.PlainPatterns.{is_dashed, is_plain, IsDashedPattern, IsPlainPattern};
+ghost use Rattle.value_patterns.specs.PlainPatterns.{has_no_nul, is_dashed, is_filled, is_plain, HasPlainText, IsDashedPattern, IsPlainPattern};
 ghost use Rattle.value_patterns.specs.Uses as uses;
 
 /// The function gives the pattern that a text spells, and a text spells no other.
 pub fn parts_are_spelled()
-    ensures spelled { (text : List ℕ) → Spells false text (parts_of false text) }
-    ensures no_other { (text : List ℕ) (parts : List Part) → Spells false text parts → parts ≡ parts_of false text }
+    ensures spelled { (expand : Bool) (text : List ℕ) → Spells expand text (parts_of expand text) }
+    ensures no_other { (expand : Bool) (text : List ℕ) (parts : List Part) → Spells expand text parts → parts ≡ parts_of expand text }
 {}
 
 /// A text stands for one list of patterns under a chain.
@@ -41,18 +41,20 @@ pub fn one_network()
     ensures same { (text : List ℕ) (m n : Net) → IsNetwork text m → IsNetwork text n → m ≡ n }
 {}
 
-/// The patterns of a text have no placeholders, and where it has no U+0000, neither have they.
-pub fn patterns_are_dashed()
+/// Where a text has no U+0000, its patterns have none, and they have placeholders only where its chain has `expand`.
+pub fn patterns_have_plain_text()
     ensures tests { (chain : Written) (text : List ℕ) (patterns : List (List Part))
-        → has_nul text ≡ false → uses.ArePatterns chain text patterns → list_all is_dashed patterns ≡ true }
+        → has_nul text ≡ false → uses.ArePatterns chain text patterns → list_all has_no_nul patterns ≡ true }
     ensures scalars { (chain : Written) (text : List ℕ) (patterns : List (List Part))
-        → all_scalars text ≡ true → has_nul text ≡ false → uses.ArePatterns chain text patterns → EachOf IsDashedPattern patterns }
+        → all_scalars text ≡ true → has_nul text ≡ false → uses.ArePatterns chain text patterns → EachOf HasPlainText patterns }
+    ensures filled { (chain : Written) (text : List ℕ) (patterns : List (List Part))
+        → list_any is_expand chain.modifiers ≡ false → uses.ArePatterns chain text patterns → EachOf (λ parts. list_all is_filled parts ≡ true) patterns }
 {}
 
 /// Where no encoding stands, a pattern has dash places through `windash` alone, as many as it makes of the text's own pattern.
 pub fn dash_places_are_counted()
-    ensures { (chain : Written) (text : List ℕ) → dash_count (pattern_of chain (parts_of false text))
-        ≡ (if list_any is_windash chain.modifiers then dash_count (dashes_of (parts_of false text)) else 0) }
+    ensures { (chain : Written) (text : List ℕ) → dash_count (pattern_of chain (uses.parts_in chain text))
+        ≡ (if list_any is_windash chain.modifiers then dash_count (dashes_of (uses.parts_in chain text)) else 0) }
 {}
 
 /// A regular expression begins with letters and signs, and goes on with its text.

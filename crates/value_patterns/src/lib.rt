@@ -14,6 +14,6 @@ pub use expressions::{expression_text, read_expression};
 pub use law::{
     choices_are_plain, dash_places_are_counted, expressions_are_plain, network_patterns_are_plain,
     network_patterns_fit, networks_are_bounded, one_list_of_patterns, one_network,
-    parts_are_spelled, patterns_are_dashed,
+    parts_are_spelled, patterns_have_plain_text,
 };
 pub use reading::{check_ordered, read_network, read_patterns, read_reference};

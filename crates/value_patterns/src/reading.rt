@@ -14,7 +14,7 @@ ghost use Rattle.sig_strings.specs.Spells.{Spells};
 ghost use Rattle.value_patterns.specs.Edited as edits;
 ghost use Rattle.value_patterns.specs.Encoded as encoded;
 ghost use Rattle.value_patterns.specs.Parts as parts;
-ghost use Rattle.value_patterns.specs.PlainPatterns.{IsDashedPattern};
+ghost use Rattle.value_patterns.specs.PlainPatterns.{HasPlainText};
 ghost use Rattle.value_patterns.specs.Uses as uses;
 
 use crate::editing::pattern_of;
@@ -34,11 +34,17 @@ pub fn has_nul(text: &str) -> bool
     text.chars().any(|c| c == '\0')
 }
 
-/// The pattern of a text, as it's written.
-fn read_pattern(alloc: Global, limits: &Limits, text: &str, place: Place) -> Result<Pattern, Fault>
-    ensures { Judged (λ p. Spells false (chars text.now) p) (first (uses.text_checks limits.now.value_chars place (chars text.now))) result }
+/// The pattern of a text, as it's written, with placeholders or without.
+fn read_pattern(
+    alloc: Global,
+    limits: &Limits,
+    text: &str,
+    expand: bool,
+    place: Place,
+) -> Result<Pattern, Fault>
+    ensures { Judged (λ p. Spells expand (chars text.now) p) (first (uses.text_checks limits.now.value_chars place (chars text.now))) result }
 {
-    let pattern = Pattern::read(alloc, limits, text, false, place)?;
+    let pattern = Pattern::read(alloc, limits, text, expand, place)?;
     if has_nul(text) {
         return Err(refused(Code::NUL_IN_VALUE, place));
     }
@@ -131,9 +137,9 @@ pub fn read_patterns(
 ) -> Result<Vec<SharedPattern>, Fault>
     ensures judged { (unbuilt : List places.Place) → Judged (λ all. uses.ArePatterns chain.now (chars text.now) all.items)
         (uses.use_refusal unbuilt limits.now.value_chars limits.now.dashes chain.now place (uses.pattern (chars text.now))) result }
-    ensures plain { IfOk result (λ all. EachOf IsDashedPattern all.items) }
+    ensures plain { IfOk result (λ all. EachOf HasPlainText all.items) }
 {
-    let pattern = read_pattern(alloc, limits, text, place)?;
+    let pattern = read_pattern(alloc, limits, text, chain.expands(), place)?;
     match encoding_of(chain.modifiers()) {
         Some(encoding) => encoded_patterns(alloc, chain, encoding, &pattern, place),
         None => plain_pattern(alloc, limits, chain, pattern, place),

@@ -17,11 +17,20 @@ const VALUE: Place = Place {
 };
 
 /// Chains at a field, texts of at most 20 characters, and the patterns of the text, where `<*>` is a run, `<?>` a single
-/// character and `<->` a dash place, or the number of a refusal.
+/// character, `<->` a dash place and `<name>` a placeholder, or the number of a refusal.
 const AT_FIELDS: &str = "contains~100%_x~<*>100%_x<*>
 startswith|all~a*~a<*>
 endswith~*.exe~<*>.exe
 ~a?\\*~a<?>*
+expand~%admins%~<admins>
+expand|contains~a%b_1%*~<*>a<b_1><*>
+expand~%a b% 100% %%~%a b% 100% %%
+expand~%a%b%c%~<a>b<c>
+expand~%%a%~%<a>
+expand~\\%a%~\\<a>
+~%a%~%a%
+expand|windash~-%a% %b%-c~-<a> <b><->c
+windash|expand~-a -b -c -d -%e%~<->a <->b <->c <->d -<e>
 windash|contains~ -a /b~<*> <->a <->b<*>
 contains|windash~/x-y -z~<*><->x-y <->z<*>
 windash~a-b~a-b
@@ -50,7 +59,8 @@ const AT_KEYWORDS: &str = "~a~<*>a<*>
 windash~-a~<*><->a<*>
 base64~foo~<*>Zm9v<*>
 base64offset|startswith~ab~YW<*> Fi<*> hY<*>
-all~*a*~<*>a<*>";
+all~*a*~<*>a<*>
+expand~%a%~<*><a><*>";
 
 /// Texts, and how many patterns the network has, or the number of a refusal.
 const NETWORKS: &str = "192.168.0.0/14~4
@@ -119,7 +129,11 @@ fn put_part(shown: &mut String, part: &Part) -> Result<(), Fail> {
         Part::One => shown.push_str("<?>")?,
         Part::Run => shown.push_str("<*>")?,
         Part::Dash => shown.push_str("<->")?,
-        Part::Hole(_) => shown.push_str("<hole>")?,
+        Part::Hole(name) => {
+            shown.push('<')?;
+            shown.push_str(name.as_str())?;
+            shown.push('>')?;
+        }
     }
     Ok(())
 }
@@ -242,7 +256,7 @@ fn first_wrong(alloc: Global, rows: &str, keyword: bool) -> Result<String, Fail>
 #[test]
 fn texts_stand_for_patterns(rt: HostRuntime) -> Result<(), Fail> {
     let alloc = rt.alloc();
-    assert_eq!(rt; AT_FIELDS.lines().count(), 27);
+    assert_eq!(rt; AT_FIELDS.lines().count(), 36);
     assert_eq!(rt; first_wrong(alloc, AT_FIELDS, false)?.as_str(), "");
     assert_eq!(rt; first_wrong(alloc, AT_KEYWORDS, true)?.as_str(), "");
     Ok(())

@@ -42,6 +42,10 @@ A|windash: -a -b -c -d -e~1~6:16: 46 TooManyDashes
 A|cidr: 192.168.0.0/14~0~"A" LIKE '192.168.%' ESCAPE '\' OR "A" LIKE '192.169.%' ESCAPE '\' OR "A" LIKE '192.170.%' ESCAPE '\' OR "A" LIKE '192.171.%' ESCAPE '\'
 A|cidr: 10.0.0.1/32~0~"A" = '10.0.0.1' COLLATE NOCASE
 A|cidr: 10.0.0.0/33~1~6:13: 44 BadNetwork
+User|expand: '%admins%'~1~6:5: 98 OpenPlaceholder
+User|expand: '100%'~0~"User" = '100%' COLLATE NOCASE
+User: '%admins%'~0~"User" = '%admins%' COLLATE NOCASE
+User|expand|base64: x~1~6:5: 41 ChainNotAllowed
 A|cidr: ::1/128~1~6:13: 44 BadNetwork
 A|contains|cidr: 10.0.0.0/8~1~6:5: 41 ChainNotAllowed
 Code|gt: 5~0~"Code" > 5
@@ -300,5 +304,25 @@ fn networks_need_fields_of_addresses(rt: HostRuntime) -> Result<(), Fail> {
         rule.as_str(),
     )?;
     check(&rt, &ran, 1, "", "r.yml:6:5: 81 UnknownField\n");
+    Ok(())
+}
+
+/// A rule with an open placeholder is one; queries and runs refuse it before they make a schema, at its first item with one.
+#[test]
+fn placeholders_stand_open(rt: HostRuntime) -> Result<(), Fail> {
+    let alloc = rt.alloc();
+    let rule = rule_of(alloc, "User: x\n    user|expand: ['a', '%b%']\n    Host|expand: '%c%'")?;
+    let refusal = "r.yml:7:5: 98 OpenPlaceholder\n";
+    let ran = converted(alloc, &["check", "r.yml"], rule.as_str())?;
+    check(&rt, &ran, 0, "r.yml:1:1: ok\n", "");
+    let ran = converted(alloc, &TO_SQLITE, rule.as_str())?;
+    check(&rt, &ran, 1, "", refusal);
+    let ran = converted(alloc, &TO_LUCENE, rule.as_str())?;
+    check(&rt, &ran, 1, "", refusal);
+    let ran = run_rule(alloc, rule.as_str(), "{}\n")?;
+    check(&rt, &ran, 1, "", refusal);
+    let schema = "{\"fields\":[{\"name\":\"A\",\"kind\":\"text\"}]}";
+    let ran = converted_under(alloc, schema, rule.as_str())?;
+    check(&rt, &ran, 1, "", refusal);
     Ok(())
 }

@@ -10,7 +10,7 @@ abbrev pub invariant-loop-c : goal.invariant-loop-c
 invariant-loop-c l = record {
   text : shadow (Utf8 l.left);
   all : l.front ++ chars l.left ≡ l.fn.name;
-  number : l.number ≡ position (λ from. begins from l.front) l.froms;
+  number : l.number ≡ position (λ from. begins from l.front) l.keys;
 }
 
 abbrev pub decreases-loop-c : goal.decreases-loop-c

@@ -4,7 +4,7 @@ use Rattle.pipeline_names.proofs.mapping.targets_of.Goals as goal
 
 pub returns-in-Some : goal.returns-in-Some
 returns-in-Some c =
-    mapped_found c.args.pairs.now c.args.froms.now c.args.name.now c.in-Some.number c.index-pairs-number.result c.requires c.in-Some.ensures ∙ sym c.as_slice.ensures
+    mapped_found c.args.pairs.now c.args.keys.now c.args.name.now c.in-Some.number c.index-pairs-number.result c.requires c.in-Some.ensures ∙ sym c.as_slice.ensures
 
 pub returns-in-None : goal.returns-in-None
-returns-in-None c = mapped_missing c.args.pairs.now c.args.froms.now c.args.name.now c.requires c.in-None.ensures
+returns-in-None c = mapped_missing c.args.pairs.now c.args.keys.now c.args.name.now c.requires c.in-None.ensures

@@ -8,4 +8,4 @@ returns-clause-ok c = subst (λ names. OnOk c.add_made.result (c.add_made.new.se
 
 pub returns-clause-unfit : goal.returns-clause-unfit
 returns-clause-unfit c =
-    subst (λ names. IfErr c.add_made.result (AreUnfit c.args.most.place c.args.most.names names)) (c.in_ok-made.ensures.ok c.args.list.now.names.items) c.add_made.ensures.unfit
+    subst (λ names. IfErr c.add_made.result (AreUnfit c.args.limit.place c.args.limit.names names)) (c.in_ok-made.ensures.ok c.args.list.now.names.items) c.add_made.ensures.unfit

@@ -37,12 +37,12 @@ returns-clause-tree c =
     c.lower_formulas.ensures.ok c.lower_formulas.ensures.err
 
 pub returns-clause-sound : goal.returns-clause-sound
-returns-clause-sound c = λ whole fits.
+returns-clause-sound c = λ whole filled fits.
     let schema = c.args.schema.now in
     let rule = rule_view c.args.rule.now in
     kept (IsSound schema.fields) _ (tree_of schema rule) c.lower_formulas.result
     (tree_is schema c.args.rule.now c.as_slice-fields.result.now c.as_slice.result.now c.deref.result.now c.as_slice-fields.ensures c.as_slice.ensures c.deref.ensures.value)
-    (c.tree_is_sound.ensures schema rule whole fits) c.lower_formulas.ensures.ok
+    (c.tree_is_sound.ensures schema rule whole filled fits) c.lower_formulas.ensures.ok
 
 pub returns-clause-means : goal.returns-clause-means
 returns-clause-means c = λ whole fits.

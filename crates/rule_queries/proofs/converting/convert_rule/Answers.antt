@@ -1,11 +1,13 @@
-use Rattle.rule_model.specs.Expressions.{rule_expressions}
+use Rattle.std.specs.Prelude.{option_map}
 use Rattle.rule_model.specs.Plain.{rule_view}
-use Rattle.rule_queries.proofs.Judging.{given_none, rebuilt_as}
+use Rattle.rule_queries.proofs.Judging.{stands_open, stands_filled}
 use Rattle.rule_queries.proofs.converting.convert_rule.Goals as goal
 
-pub returns-in-None : goal.returns-in-None
-returns-in-None g c =
-    let rule = rule_view c.args.rule.now in
-    rebuilt_as (rule_expressions rule) _ _ _ _
-    (λ unbuilt judged. given_none g.B.Lacking.missing g.B.Backend.text g.B.Backend.too_deep (λ s. s.now) c.args.given unbuilt c.args.limits.now rule c.convert_made.result
-    c.in-None.is judged) c.convert_made.ensures
+pub returns-in-Ok : goal.returns-in-Ok
+returns-in-Ok g c =
+    stands_filled g.B.Lacking.missing g.B.Backend.text g.B.Backend.too_deep c.args.limits.now (option_map (λ s. s.now) c.args.given) (rule_view c.args.rule.now) _ _ c.convert_filled.result
+    c.in-Ok.ensures c.convert_filled.ensures
+
+pub returns-in-Err : goal.returns-in-Err
+returns-in-Err g c =
+    stands_open g.B.Lacking.missing g.B.Backend.text g.B.Backend.too_deep c.args.limits.now (option_map (λ s. s.now) c.args.given) (rule_view c.args.rule.now) _ c.in-Err.open c.in-Err.ensures

@@ -4,7 +4,7 @@ use Rattle.event_schema.specs.declared.schema.Schema.{Schema}
 use Rattle.rule_model.specs.Plain.{rule_view}
 use Rattle.rule_runs.proofs.Runs.{unfit_single, unmade, unfit_made, fits_made}
 use Rattle.rule_runs.specs.Answers.{IsBare}
-use Rattle.rule_runs.specs.Runs.{IsSingleRule, IsFit}
+use Rattle.rule_runs.specs.Runs.{IsFilledRule, IsFit}
 use Rattle.rule_runs.specs.declared.running.SchemedRule.{SchemedRule}
 use Rattle.rule_schema.specs.Inferred.{inferred_schema}
 use Rattle.sig_base.specs.declared.limits.Limits.{Limits}
@@ -18,7 +18,7 @@ Alone limits bytes values found = IsBare (IsFit values limits None bytes) found.
 
 pub returns-in-Err : goal.returns-in-Err
 returns-in-Err g c =
-    unfit_single c.args.limits.now c.args.bytes.now _ _ None (λ (values : List Place). IsBare (IsSingleRule values c.args.limits.now c.args.bytes.now)) (Alone c.args.limits.now c.args.bytes.now)
+    unfit_single c.args.limits.now c.args.bytes.now _ _ None (λ (values : List Place). IsBare (IsFilledRule values c.args.limits.now c.args.bytes.now)) (Alone c.args.limits.now c.args.bytes.now)
     c.in-Err.fault c.in-Err.ensures
 
 pub returns-in-Err-infer_schema : goal.returns-in-Err-infer_schema

@@ -3,12 +3,12 @@ use Rattle.std.specs.Prelude.{Some}
 use Rattle.sig_base.specs.declared.refusal.Place.{Place}
 use Rattle.rule_runs.proofs.Runs.{unfit_single, unfit_given, fits_given}
 use Rattle.rule_runs.specs.Answers.{IsBare}
-use Rattle.rule_runs.specs.Runs.{IsSingleRule, IsFit}
+use Rattle.rule_runs.specs.Runs.{IsFilledRule, IsFit}
 use Rattle.rule_runs.proofs.running.rule_under.Goals as goal
 
 pub returns-in-Err : goal.returns-in-Err
 returns-in-Err g c =
-    unfit_single c.args.limits.now c.args.bytes.now _ _ (Some c.args.schema.now) (λ (values : List Place). IsBare (IsSingleRule values c.args.limits.now c.args.bytes.now))
+    unfit_single c.args.limits.now c.args.bytes.now _ _ (Some c.args.schema.now) (λ (values : List Place). IsBare (IsFilledRule values c.args.limits.now c.args.bytes.now))
     (λ (values : List Place). IsBare (IsFit values c.args.limits.now (Some c.args.schema.now) c.args.bytes.now)) c.in-Err.fault c.in-Err.ensures
 
 pub returns-in-Err-fit_schema : goal.returns-in-Err-fit_schema

@@ -1,7 +1,9 @@
-use Rattle.std.proofs.Common.{◌≡◌, List, [], false, sym, ap, ◌∙◌}
+use Rattle.std.proofs.Common.{◌≡◌, Bool, List, [], sym, ap, subst, ◌∙◌}
 use Rattle.std.proofs.lemmas.Str.{scalars-chars}
 use Rattle.std.specs.Prelude.{Some, None}
+use Rattle.std.specs.List.{list_any}
 use Rattle.std.specs.Str.{chars}
+use Rattle.modifier_chains.specs.Kinds.{is_expand}
 use Rattle.modifier_chains.specs.declared.modifier.Modifier.{Modifier}
 use Rattle.sig_base.specs.Judged.{first}
 use Rattle.sig_base.specs.declared.refusal.Place.{Place}
@@ -19,7 +21,7 @@ returns-in_err-pattern-clause-judged c = λ unbuilt.
     let t = chars c.args.text.now in
     let most = c.args.limits.now.value_chars in
     let dashes = c.args.limits.now.dashes in
-    hands_on _ (λ (parts : List Part). Spells false t parts) c.from_residual.result c.in_err-pattern.field-0.0 _
+    hands_on _ (λ (parts : List Part). Spells c.expands.result t parts) c.from_residual.result c.in_err-pattern.field-0.0 _
     (use_refusal unbuilt most dashes c.args.chain.now c.args.place (pattern t)) (first (text_checks most c.args.place t))
     c.from_residual.ensures.1 (λ e p. p) c.in_err-pattern.ensures
     (λ r h. refused_sooner unbuilt most dashes c.args.chain.now c.args.place t r h)
@@ -29,9 +31,11 @@ returns-in-Some c =
     let t = chars c.args.text.now in
     let most = c.args.limits.now.value_chars in
     let dashes = c.args.limits.now.dashes in
+    let spelled : Spells (list_any is_expand c.args.chain.now.modifiers) t c.in_ok-pattern.pattern =
+    subst (λ (b : Bool). Spells b t c.in_ok-pattern.pattern) c.expands.ensures c.in_ok-pattern.ensures.1 in
     let encodes : encoding_of c.args.chain.now.modifiers ≡ Some c.in-Some.encoding = ap (λ (ms : List Modifier). encoding_of ms) (sym c.modifiers.ensures) ∙ sym c.in-Some.ensures in
     let judged = λ (unbuilt : List Place).
-    encoded_judged unbuilt most dashes c.args.chain.now c.args.place t c.in_ok-pattern.pattern c.in_ok-pattern.ensures.1 c.in_ok-pattern.ensures.0
+    encoded_judged unbuilt most dashes c.args.chain.now c.args.place t c.in_ok-pattern.pattern spelled c.in_ok-pattern.ensures.0
     (λ all. all.items) c.in-Some.encoding encodes c.encoded_patterns.result c.encoded_patterns.ensures in
     record {
       judged = judged;
@@ -43,9 +47,11 @@ returns-in-None c =
     let t = chars c.args.text.now in
     let most = c.args.limits.now.value_chars in
     let dashes = c.args.limits.now.dashes in
+    let spelled : Spells (list_any is_expand c.args.chain.now.modifiers) t c.in_ok-pattern.pattern =
+    subst (λ (b : Bool). Spells b t c.in_ok-pattern.pattern) c.expands.ensures c.in_ok-pattern.ensures.1 in
     let encodes : encoding_of c.args.chain.now.modifiers ≡ None = ap (λ (ms : List Modifier). encoding_of ms) (sym c.modifiers.ensures) ∙ sym c.in-None.ensures in
     let judged = λ (unbuilt : List Place).
-    plain_judged unbuilt most dashes c.args.chain.now c.args.place t c.in_ok-pattern.pattern c.in_ok-pattern.ensures.1 c.in_ok-pattern.ensures.0
+    plain_judged unbuilt most dashes c.args.chain.now c.args.place t c.in_ok-pattern.pattern spelled c.in_ok-pattern.ensures.0
     (λ all. all.items) encodes c.plain_pattern.result c.plain_pattern.ensures in
     record {
       judged = judged;

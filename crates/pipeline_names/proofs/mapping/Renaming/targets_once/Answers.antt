@@ -1,16 +1,16 @@
 use Rattle.std.proofs.Common.{◌∙◌}
 use Rattle.pipeline_names.specs.Made.{texts_made, pairs_in}
 use Rattle.pipeline_names.specs.Names.{targets}
-use Rattle.pipeline_names.proofs.Once.{adds_as, mapped_adds, prefixed_adds, froms_are, once_used}
+use Rattle.pipeline_names.proofs.Once.{adds_as, mapped_adds, prefixed_adds, keys_are, once_used}
 use Rattle.pipeline_names.proofs.mapping.Renaming.targets_once.Goals as goal
 
 pub mapped-requires : goal.mapped-requires
 mapped-requires c =
-    froms_are c.args.self.now.froms c.as_slice.result.now (pairs_in c.args.self.now.step.now.action) c.args.self.now.indexed (once_used c.args.self.now.used _ (pairs_in c.args.self.now.step.now.action) c.requires (c.as_slice.ensures.value ∙ c.args.self.now.distinct))
+    keys_are c.args.self.now.keys c.as_slice.result.now (pairs_in c.args.self.now.step.now.action) c.args.self.now.indexed (once_used c.args.self.now.used _ (pairs_in c.args.self.now.step.now.action) c.requires (c.as_slice.ensures.value ∙ c.args.self.now.distinct))
 
 pub prefixed-requires : goal.prefixed-requires
 prefixed-requires c =
-    froms_are c.args.self.now.froms c.as_slice-in-MapPrefixes.result.now (pairs_in c.args.self.now.step.now.action) c.args.self.now.indexed
+    keys_are c.args.self.now.keys c.as_slice-in-MapPrefixes.result.now (pairs_in c.args.self.now.step.now.action) c.args.self.now.indexed
     (once_used c.args.self.now.used _ (pairs_in c.args.self.now.step.now.action) c.requires (c.as_slice-in-MapPrefixes.ensures.value ∙ c.args.self.now.distinct))
 
 pub returns-in-MapNames-clause-ok : goal.returns-in-MapNames-clause-ok

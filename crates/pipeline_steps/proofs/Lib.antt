@@ -1,0 +1,4 @@
+mod Sizing
+mod Acting
+mod WholeSteps
+mod AddedLaw

@@ -1,0 +1,114 @@
+-- What becomes of a test, counted and made.
+use Rattle.std.proofs.Common.{ℕ, ◌≡◌, Bool, true, false, ◌&&◌, ◌||◌, length, List, [], ◌∷◌, map, refl, sym, subst, ap, ◌∙◌}
+use Rattle.std.specs.Prelude.{Option, Some, None, if◌then◌else◌, Result, Ok, Err, IfOk}
+use Rattle.std.specs.List.{list_any}
+use Rattle.std.proofs.lemmas.Bool.{or_parts}
+use Rattle.std.proofs.lemmas.List.{length-map}
+use Rattle.sig_base.specs.declared.refusal.Fault.{Fault}
+use Rattle.sig_modifiers.specs.declared.test.Test.{Test}
+use Rattle.sig_modifiers.specs.declared.test.Test.TheVariants as tests
+use Rattle.sig_strings.specs.Edits.{has_wildcard, plain_text}
+use Rattle.sig_strings.specs.declared.part.Part.{Part}
+use Rattle.sig_strings.specs.declared.part.Part.TheVariants.{Char, One, Run, Dash, Hole}
+use Rattle.pipeline_model.specs.declared.pipeline.Var.{Var}
+use Rattle.pipeline_model.specs.declared.step.Action.{Action}
+use Rattle.pipeline_model.specs.declared.step.Pair.{Pair}
+use Rattle.pipeline_values.specs.declared.growth.Growth.{Growth}
+use Rattle.pipeline_values.specs.Entries.{texts_for, largest}
+use Rattle.pipeline_values.specs.Filled.{chosen_by, is_chosen, filled, patterns_found, put_for, is_missing, lacks_values}
+use Rattle.pipeline_values.specs.Changed.{filled_if_chosen, made_of, mapped, is_cased, as_tests}
+use Rattle.pipeline_values.specs.Counts.{capped}
+use Rattle.pipeline_values.specs.Grown.{longest_in, leaves_open}
+use Rattle.pipeline_values.specs.Made.{counted, made_count, IsGrowth}
+use Rattle.pipeline_values.proofs.Products.{counted_is}
+
+-- ---- placeholders that lack values are chosen
+
+none_lacks : (vars : List Var) (action : Action) (parts : List Part) → list_any (is_chosen action) parts ≡ false → list_any (lacks_values vars action) parts ≡ false
+none_lacks vars action [] none = refl
+none_lacks vars action (part ∷ parts) none =
+    let both = or_parts (is_chosen action part) (list_any (is_chosen action) parts) none in
+    either (lacks_values vars action part) (one part both.0) (none_lacks vars action parts both.1)
+  where
+    either : (b : Bool) → b ≡ false → list_any (lacks_values vars action) parts ≡ false → (b || list_any (lacks_values vars action) parts) ≡ false
+    either true e f = absurd cc
+    either false e f = f
+
+    one : (p : Part) → is_chosen action p ≡ false → lacks_values vars action p ≡ false
+    one (Char c) e = refl
+    one One e = refl
+    one Run e = refl
+    one Dash e = refl
+    one (Hole name) e = ap (λ (b : Bool). b && is_missing (put_for vars action name)) e
+
+pub stays_closed : (vars : List Var) (action : Action) (parts : List Part) → list_any (is_chosen action) parts ≡ false → false ≡ list_any (lacks_values vars action) parts
+stays_closed vars action parts none = sym (none_lacks vars action parts none)
+
+-- ---- patterns with and without chosen placeholders
+
+pub stays_unfilled : (vars : List Var) (action : Action) (parts : List Part) → list_any (is_chosen action) parts ≡ false → filled_if_chosen vars action parts ≡ None
+stays_unfilled vars action parts none = ap (λ (b : Bool). if b then Some (filled vars action parts) else None) none
+
+pub is_filled : (vars : List Var) (action : Action) (parts : List Part) → list_any (is_chosen action) parts ≡ true
+    → filled_if_chosen vars action parts ≡ Some (filled vars action parts)
+is_filled vars action parts some = ap (λ (b : Bool). if b then Some (filled vars action parts) else None) some
+
+-- ---- texts with and without an entry
+
+pub mapped_wild : (pairs : List Pair) (parts : List Part) → None ≡ (if has_wildcard parts then None else Some (plain_text parts)) → mapped pairs parts ≡ None
+mapped_wild pairs parts is = by (has_wildcard parts) is
+  where
+    by : (b : Bool) → None ≡ (if b then None else Some (plain_text parts)) → (if b then None else patterns_found (texts_for pairs (plain_text parts))) ≡ None
+    by true e = refl
+    by false e = absurd cc
+
+pub mapped_text : (pairs : List Pair) (parts : List Part) (text : List ℕ) → Some text ≡ (if has_wildcard parts then None else Some (plain_text parts))
+    → mapped pairs parts ≡ patterns_found (texts_for pairs text)
+mapped_text pairs parts text is = by (has_wildcard parts) is
+  where
+    by : (b : Bool) → Some text ≡ (if b then None else Some (plain_text parts))
+        → (if b then None else patterns_found (texts_for pairs (plain_text parts))) ≡ patterns_found (texts_for pairs text)
+    by true e = absurd cc
+    by false e = let same : plain_text parts ≡ text = cc in ap (λ (t : List ℕ). patterns_found (texts_for pairs t)) same
+
+-- ---- tests
+
+as_many : (test : Test) (o : Option (List (List Part))) → made_count o ≡ length (as_tests test o)
+as_many test None = refl
+as_many test (Some patterns) = sym (length-map patterns (λ (parts : List Part). tests.Fits parts (is_cased test)))
+
+pub grown_test : (r : Result Growth Fault) (test : Test) (o : Option (List (List Part))) (longest : ℕ) (lacking : Bool)
+    → IfOk r (λ g. IsGrowth (made_count o) longest lacking g) → IfOk r (λ g. IsGrowth (length (as_tests test o)) longest lacking g)
+grown_test r test o longest lacking grown = subst (λ (n : ℕ). IfOk r (λ g. IsGrowth n longest lacking g)) (as_many test o) grown
+
+-- ---- placeholders, counted
+
+pub kept_growth : (vars : List Var) (action : Action) (parts : List Part) (g : Growth) → list_any (is_chosen action) parts ≡ false → IsGrowth 1 0 false g
+    → IsGrowth (made_count (filled_if_chosen vars action parts)) (longest_in (filled_if_chosen vars action parts)) (list_any (lacks_values vars action) parts) g
+kept_growth vars action parts g none h =
+    let e = stays_unfilled vars action parts none in (
+      h.0 ∙ ap (λ (o : Option (List (List Part))). capped (made_count o)) (sym e),
+      h.1 ∙ ap (λ (o : Option (List (List Part))). capped (longest_in o)) (sym e),
+      h.2 ∙ stays_closed vars action parts none,
+    )
+
+pub filled_growth : (vars : List Var) (action : Action) (parts : List Part) (tests longest : ℕ) → list_any (is_chosen action) parts ≡ true
+    → tests ≡ capped (counted vars action parts) → longest ≡ capped (largest length (filled vars action parts))
+    → (tests ≡ capped (made_count (filled_if_chosen vars action parts))) × (longest ≡ capped (longest_in (filled_if_chosen vars action parts)))
+filled_growth vars action parts tests longest some counts measures =
+    let e = is_filled vars action parts some in (
+      counts ∙ (ap capped (sym (counted_is vars action parts)) ∙ ap (λ (o : Option (List (List Part))). capped (made_count o)) (sym e)),
+      measures ∙ ap (λ (o : Option (List (List Part))). capped (longest_in o)) (sym e),
+    )
+
+pub holes_grow : (vars : List Var) (action other : Action) (parts got : List Part) (r : Result Growth Fault) → other ≡ action → got ≡ parts
+    → made_of vars action parts ≡ filled_if_chosen vars action parts → leaves_open vars action parts ≡ list_any (lacks_values vars action) parts
+    → IfOk r (λ g. IsGrowth (made_count (filled_if_chosen vars other got)) (longest_in (filled_if_chosen vars other got)) (list_any (lacks_values vars other) got) g)
+    → IfOk r (λ g. IsGrowth (made_count (made_of vars other parts)) (longest_in (made_of vars other parts)) (leaves_open vars other parts) g)
+holes_grow vars action other parts got r is same made lacks grown =
+    let at : IfOk r (λ g. IsGrowth (made_count (filled_if_chosen vars action parts)) (longest_in (filled_if_chosen vars action parts)) (list_any (lacks_values vars action) parts) g) =
+    subst (λ (a : Action). IfOk r (λ g. IsGrowth (made_count (filled_if_chosen vars a parts)) (longest_in (filled_if_chosen vars a parts)) (list_any (lacks_values vars a) parts) g)) is
+    (subst (λ (ps : List Part). IfOk r (λ g. IsGrowth (made_count (filled_if_chosen vars other ps)) (longest_in (filled_if_chosen vars other ps)) (list_any (lacks_values vars other) ps) g)) same grown) in
+    subst (λ (a : Action). IfOk r (λ g. IsGrowth (made_count (made_of vars a parts)) (longest_in (made_of vars a parts)) (leaves_open vars a parts) g)) (sym is)
+    (subst (λ (b : Bool). IfOk r (λ g. IsGrowth (made_count (made_of vars action parts)) (longest_in (made_of vars action parts)) b g)) (sym lacks)
+    (subst (λ (o : Option (List (List Part))). IfOk r (λ g. IsGrowth (made_count o) (longest_in o) (list_any (lacks_values vars action) parts) g)) (sym made) at))

@@ -1,0 +1,11 @@
+mod ReadLemmas
+mod Crossing
+mod Products
+mod Sums
+mod Found
+mod Putting
+mod Plainness
+mod WholeTests
+mod ChosenLeft
+mod Growing
+mod OneRun

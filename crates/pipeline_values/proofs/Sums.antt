@@ -1,0 +1,49 @@
+-- Sums and greatest numbers over lists, counted up to a greatest number.
+use Rattle.std.proofs.Common.{ℕ, ◌+◌, ◌-◌, ◌^◌, ◌<◌, ◌≤◌, min, max, nat_le, ◌≡◌, Bool, true, false, length, get_or, drop, map, List, [], ◌∷◌, ◌++◌, refl, sym, ap, ◌∙◌}
+use native.Mathlib.Omega.{arith}
+use Rattle.std.specs.Prelude.{◌&&◌}
+use Rattle.std.specs.List.{flat_map}
+use Rattle.std.proofs.lemmas.Bool.{leb-true, leb-false, le-leb, lt-leb}
+use Rattle.std.proofs.lemmas.List.{drop_more, length-append}
+use Rattle.pipeline_names.specs.Sizes.{total}
+use Rattle.pipeline_values.specs.Counts.{capped}
+use Rattle.pipeline_values.specs.Entries.{largest}
+
+left_at : {A : Type 0} (xs : List A) (i : ℕ) (x : A) → i < length xs → x ≡ get_or xs i x → drop i xs ≡ x ∷ drop (i + 1) xs
+left_at {A = A} xs i x inside is = drop_more xs i x inside ∙ ap (λ (y : A). y ∷ drop (i + 1) xs) (sym is)
+
+-- Each element of a list becomes one of a size.
+module _ {A B : Type 0} (f : A → B) (size : B → ℕ) where
+  pub sum_turn : (xs : List A) (i : ℕ) (x : A) (count n new : ℕ) → capped (count + total size (map f (drop i xs))) ≡ capped (total size (map f xs))
+      → i < length xs → x ≡ get_or xs i x → n ≡ capped (size (f x)) → new ≡ capped (count + n)
+      → capped (new + total size (map f (drop (i + 1) xs))) ≡ capped (total size (map f xs))
+  sum_turn xs i x count n new same inside is here made =
+      let all : total size (map f (drop i xs)) ≡ size (f x) + total size (map f (drop (i + 1) xs)) =
+      ap (λ (ys : List A). total size (map f ys)) (left_at xs i x inside is) in
+      omega (arith, same, here, made, all)
+
+-- Each becomes several.
+module _ {A B : Type 0} (f : A → List B) where
+  pub flat_turn : (xs : List A) (i : ℕ) (x : A) (count n new : ℕ) → capped (count + length (flat_map f (drop i xs))) ≡ capped (length (flat_map f xs))
+      → i < length xs → x ≡ get_or xs i x → n ≡ capped (length (f x)) → new ≡ capped (count + n)
+      → capped (new + length (flat_map f (drop (i + 1) xs))) ≡ capped (length (flat_map f xs))
+  flat_turn xs i x count n new same inside is here made =
+      let all : length (flat_map f (drop i xs)) ≡ length (f x) + length (flat_map f (drop (i + 1) xs)) =
+      ap (λ (ys : List A). length (flat_map f ys)) (left_at xs i x inside is) ∙ length-append (f x) (flat_map f (drop (i + 1) xs)) in
+      omega (arith, same, here, made, all)
+
+module _ {A : Type 0} (size : A → ℕ) where
+  pub largest_turn : (xs : List A) (i : ℕ) (x : A) (found n new : ℕ) → capped (max found (largest size (drop i xs))) ≡ capped (largest size xs)
+      → i < length xs → x ≡ get_or xs i x → n ≡ capped (size x) → new ≡ max found n
+      → capped (max new (largest size (drop (i + 1) xs))) ≡ capped (largest size xs)
+  largest_turn xs i x found n new same inside is here made =
+      let all : largest size (drop i xs) ≡ max (size x) (largest size (drop (i + 1) xs)) = ap (λ (ys : List A). largest size ys) (left_at xs i x inside is) in
+      omega (arith, same, here, made, all)
+
+-- a number that is counted up to a greatest one is as large as a smaller one where it is
+pub capped_le : (n most : ℕ) → most ≤ 2 ^ 64 - 1 → nat_le (capped n) most ≡ nat_le n most
+capped_le n most small = by (nat_le n most) refl
+  where
+    by : (b : Bool) → nat_le n most ≡ b → nat_le (capped n) most ≡ b
+    by true e = let h : n ≤ most = leb-true n most e in le-leb (capped n) most (omega (arith, h))
+    by false e = let h : most < n = leb-false n most e in lt-leb (capped n) most (omega (arith, h, small))

@@ -1,0 +1,18 @@
+use native.Mathlib.Omega.{arith}
+use Rattle.pipeline_values.proofs.Products.{counted_turn, summed_turn, lacks_turn}
+use Rattle.pipeline_values.proofs.measuring.measure_fillings.Goals as goal
+
+pub loop-part-preserved : goal.loop-part-preserved
+loop-part-preserved c = record {
+  few = omega (arith, c.times-tests.ensures);
+  short = omega (arith, c.add-longest.ensures);
+  product =
+      counted_turn c.args.change.now.vars.now c.args.change.now.step.now.action c.args.parts.now c.loop-part.part-index c.part-item.result c.in_ok-filling.filling c.loop-part.tests c.count.result _ c.loop-part.invariant.product c.loop-part-test.true c.part-item.is c.in_ok-filling.ensures.ok
+      c.count.ensures c.times-tests.ensures;
+  sum =
+      summed_turn c.args.change.now.vars.now c.args.change.now.step.now.action c.args.parts.now c.loop-part.part-index c.part-item.result c.in_ok-filling.filling c.loop-part.longest c.longest.result _ c.loop-part.invariant.sum c.loop-part-test.true c.part-item.is c.in_ok-filling.ensures.ok
+      c.longest.ensures c.add-longest.ensures;
+  lacking =
+      lacks_turn c.args.change.now.vars.now c.args.change.now.step.now.action c.args.parts.now c.loop-part.part-index c.part-item.result c.in_ok-filling.filling c.loop-part.lacking _ c.loop-part.invariant.lacking c.loop-part-test.true c.part-item.is c.in_ok-filling.ensures.ok
+      c.is_missing-lacking.ensures;
+}

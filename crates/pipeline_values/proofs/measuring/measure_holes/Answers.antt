@@ -1,0 +1,16 @@
+use Rattle.std.proofs.Common.{sym, ◌∙◌}
+use Rattle.pipeline_values.proofs.Growing.{kept_growth, filled_growth}
+use Rattle.pipeline_values.proofs.Products.{longest_told}
+use Rattle.pipeline_values.proofs.measuring.measure_holes.Goals as goal
+
+pub returns-then-not-branch-clause-ok : goal.returns-then-not-branch-clause-ok
+returns-then-not-branch-clause-ok c = kept_growth c.args.change.now.vars.now c.args.change.now.step.now.action c.args.parts.now _ (sym c.in_ok-has_chosen.ensures.ok ∙ c.if-not-branch.true) c.one_test.ensures
+
+pub returns-clause-ok : goal.returns-clause-ok
+returns-clause-ok c =
+    let told =
+    longest_told c.args.change.now.vars.now c.args.change.now.step.now.action c.args.parts.now _ _ c.in_ok-growth.ensures.tests c.in_ok-growth.ensures.longest in
+    let both =
+    filled_growth c.args.change.now.vars.now c.args.change.now.step.now.action c.args.parts.now _ _ (sym c.in_ok-has_chosen.ensures.ok ∙ c.if-not-branch.false)
+    c.in_ok-growth.ensures.tests (c.longest_of-longest.ensures ∙ told) in
+    (both.0, both.1, c.in_ok-growth.ensures.lacking)

@@ -1,0 +1,18 @@
+use Rattle.std.proofs.Common.{◌≡◌, ◌≤◌, ◌+◌, ◌-◌, ◌^◌, max, map, drop}
+use Rattle.pipeline_values.specs.Counts.{capped}
+use Rattle.pipeline_names.specs.Sizes.{total, name_count, test_count}
+use Rattle.pipeline_values.specs.Changed.{changed_items}
+use Rattle.pipeline_values.specs.Entries.{largest}
+use Rattle.pipeline_values.specs.Grown.{longest_items, open_items, first_of}
+use Rattle.pipeline_values.proofs.sizes.measure_alternatives.Given as goal
+
+abbrev pub invariant-loop-items : goal.invariant-loop-items
+invariant-loop-items l = record {
+  few_names : l.size.names ≤ 2 ^ 127 - 1;
+  few : l.size.tests ≤ 2 ^ 127 - 1;
+  short : l.size.longest ≤ 2 ^ 127 - 1;
+  names : capped (l.size.names + total (total name_count) (map (changed_items l.change.vars.now l.change.step.now) (drop l.items-index l.alternatives))) ≡ capped (total (total name_count) (map (changed_items l.change.vars.now l.change.step.now) l.alternatives));
+  tests : capped (l.size.tests + total (total test_count) (map (changed_items l.change.vars.now l.change.step.now) (drop l.items-index l.alternatives))) ≡ capped (total (total test_count) (map (changed_items l.change.vars.now l.change.step.now) l.alternatives));
+  most : capped (max l.size.longest (largest (longest_items l.change.vars.now l.change.step.now) (drop l.items-index l.alternatives))) ≡ capped (largest (longest_items l.change.vars.now l.change.step.now) l.alternatives);
+  first : first_of (open_items l.change.vars.now l.change.step.now) (drop l.items-index l.alternatives) ≡ first_of (open_items l.change.vars.now l.change.step.now) l.alternatives;
+}

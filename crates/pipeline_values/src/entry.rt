@@ -1,0 +1,10 @@
+//! Texts that take the place of another.
+
+use sig_base::Text;
+
+/// The texts of an entry, and how many parts the longest of the patterns has that they're read as.
+#[derive(Clone, Copy)]
+pub struct Entry<'s> {
+    pub texts: &'s [Text],
+    pub longest: usize,
+}

@@ -1,0 +1,21 @@
+//! The steps of pipelines that change the patterns of a rule's tests: placeholders that are filled, and texts that are mapped.
+#![tactic(auto)]
+
+pub use changing::change_tests;
+pub use law::{fillings_are_filled, runs_make_one_pattern, tests_stay_whole};
+
+mod change;
+mod changing;
+mod entries;
+mod entry;
+mod filling;
+mod fillings;
+mod growth;
+mod items;
+mod law;
+mod made;
+mod measuring;
+mod reading;
+mod sizes;
+#[cfg(test)]
+mod tests;
