@@ -28,8 +28,8 @@ pub(crate) fn is_built<B: Builder>(
     }
 }
 
-/// The places of those that aren't built.
-fn find_among<B: Builder>(
+/// The places of those of these regular expressions that aren't built. Only want of memory is answered.
+pub fn find_unbuilt_among<B: Builder>(
     alloc: Global,
     expressions: &[Expression],
     builder: &mut B,
@@ -56,5 +56,5 @@ pub fn find_unbuilt<B: Builder>(
     ensures { FoundUnbuilt (document_expressions limits.now (node_view node.now)) (B.refused builder.old) (B.refused builder.new) (places_in result) }
 {
     let expressions = find_expressions(alloc, limits, node)?;
-    find_among(alloc, expressions.as_slice(), builder)
+    find_unbuilt_among(alloc, expressions.as_slice(), builder)
 }

@@ -126,8 +126,9 @@ fn add_item(
     add_chained(alloc, limits, &chain, parts_of(&entry.value), all)
 }
 
-/// .. of each entry of an alternative.
-fn add_items(
+/// Adds the regular expressions of the values of these entries, so far as the key of each is one of an item; values with more than
+/// `value_chars` characters have none. Only want of memory is answered.
+pub fn add_entries(
     alloc: Global,
     limits: &Limits,
     entries: &[Entry],
@@ -155,7 +156,7 @@ fn add_alternative(
     let Some(entries) = entries_of(node) else {
         return Ok(());
     };
-    add_items(alloc, limits, entries, all)
+    add_entries(alloc, limits, entries, all)
 }
 
 /// .. of each alternative.

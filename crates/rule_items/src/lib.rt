@@ -4,7 +4,7 @@
 pub use detection::{Alternative, Alternatives, Detection, Detections};
 pub use detections::read_detections;
 pub use expression::{Expression, Expressions};
-pub use expressions::find_expressions;
+pub use expressions::{add_entries, find_expressions};
 pub use item::{Fields, Item, Values};
 
 mod copies;

@@ -8,7 +8,7 @@ use Rattle.sig_base.specs.declared.refusal.Fault.{Fault}
 use Rattle.sig_base.specs.declared.refusal.Place.{Place}
 use Rattle.rule_building.proofs.Lists.{taken, around}
 use Rattle.rule_building.proofs.FoundPlaces.{one_built, one_unbuilt, found_no_memory}
-use Rattle.rule_building.proofs.finding.find_among.Goals as goal
+use Rattle.rule_building.proofs.finding.find_unbuilt_among.Goals as goal
 
 pub loop-expression-preserved-then-branch : goal.loop-expression-preserved-then-branch
 loop-expression-preserved-then-branch g c =

@@ -2,7 +2,7 @@ use Rattle.std.proofs.Common.{◌≡◌, ◌++◌, drop}
 use Rattle.std.specs.List.{flat_map}
 use Rattle.rule_items.specs.Expressions.{item_expressions}
 use Rattle.yaml_tree.specs.View.{entries_view}
-use Rattle.rule_items.proofs.expressions.add_items.Given as goal
+use Rattle.rule_items.proofs.expressions.add_entries.Given as goal
 
 abbrev pub invariant-loop-entry : goal.invariant-loop-entry
 invariant-loop-entry l =

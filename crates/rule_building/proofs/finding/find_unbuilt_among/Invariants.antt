@@ -1,7 +1,7 @@
 use Rattle.std.proofs.Common.{take}
 use Rattle.std.specs.Prelude.{Ok}
 use Rattle.rule_building.specs.Building.{FoundUnbuilt}
-use Rattle.rule_building.proofs.finding.find_among.Given as goal
+use Rattle.rule_building.proofs.finding.find_unbuilt_among.Given as goal
 
 abbrev pub invariant-loop-expression : goal.invariant-loop-expression
 invariant-loop-expression g l =
