@@ -11,7 +11,9 @@ ghost use Rattle.sig_modifiers.specs.PlainTests.{ArePlainTests, IsPatternTest};
 ghost use Rattle.sig_modifiers.specs.TestsOf.{TestsOf, value_refusal};
 ghost use Rattle.sig_modifiers.specs.declared.test.Test.{Test};
 
-use value_patterns::{networks_are_bounded, one_list_of_patterns, one_network, patterns_have_plain_text};
+use value_patterns::{
+    networks_are_bounded, one_list_of_patterns, one_network, patterns_have_plain_text,
+};
 
 /// A chain makes one list of tests of a value, at most.
 pub fn one_tests()

@@ -311,7 +311,10 @@ fn networks_need_fields_of_addresses(rt: HostRuntime) -> Result<(), Fail> {
 #[test]
 fn placeholders_stand_open(rt: HostRuntime) -> Result<(), Fail> {
     let alloc = rt.alloc();
-    let rule = rule_of(alloc, "User: x\n    user|expand: ['a', '%b%']\n    Host|expand: '%c%'")?;
+    let rule = rule_of(
+        alloc,
+        "User: x\n    user|expand: ['a', '%b%']\n    Host|expand: '%c%'",
+    )?;
     let refusal = "r.yml:7:5: 98 OpenPlaceholder\n";
     let ran = converted(alloc, &["check", "r.yml"], rule.as_str())?;
     check(&rt, &ran, 0, "r.yml:1:1: ok\n", "");
