@@ -52,7 +52,8 @@ fn item_legal(item: &Item) -> bool
     fields_legal(&item.fields) && values_legal(item.tests.as_slice())
 }
 
-fn items_legal(items: &[Item]) -> bool
+/// Whether each name of the items is legal.
+pub fn items_legal(items: &[Item]) -> bool
     ensures { result ≡ list_all spec.has_legal_names items.now }
 {
     items.iter().all(item_legal)
@@ -103,7 +104,8 @@ fn item_short(limits: &Limits, item: &Item) -> bool
         .all(|tests| tests_short(limits.value_chars, tests.as_slice()))
 }
 
-fn items_short(limits: &Limits, items: &[Item]) -> bool
+/// Whether no pattern of the items has more than `value_chars` parts.
+pub fn items_short(limits: &Limits, items: &[Item]) -> bool
     ensures { result ≡ list_all (spec.has_short_patterns limits.now) items.now }
 {
     items.iter().all(|item| item_short(limits, item))

@@ -2,6 +2,7 @@
 #![tactic(auto)]
 
 pub use law::{names_are_read, names_stay_whole};
+pub use legal::{detections_legal, detections_short, items_legal, items_short};
 pub use renaming::rename;
 
 mod concerned;

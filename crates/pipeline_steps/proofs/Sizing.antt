@@ -11,7 +11,7 @@ use Rattle.sig_base.specs.declared.refusal.Place.{Place}
 use Rattle.sig_base.proofs.Checks.{judged_last}
 use Rattle.rule_items.specs.declared.detection.Detection.{Detection}
 use Rattle.rule_items.specs.declared.item.Item.{Item}
-use Rattle.pipeline_names.specs.Sizes.{total, of_items, name_count, test_count, in_every, every_item, has_legal_names, has_room, grown_refusal}
+use Rattle.pipeline_names.specs.Sizes.{total, of_items, name_count, test_count, in_every, every_item, has_legal_names, has_short_patterns, has_room, grown_refusal}
 use Rattle.pipeline_steps.specs.Added.{placed, added_detection}
 use Rattle.pipeline_steps.specs.Counted.{has_room_for}
 
@@ -35,10 +35,6 @@ module _ (size : Item → ℕ) (same : (place : Place) (i : Item) → size (plac
   total_with place [] items = omega (arith, total_placed place items)
   total_with place (d ∷ ds) items = omega (arith, total_with place ds items)
 
-legal_placed : (place : Place) (items : List Item) → list_all has_legal_names (map (placed place) items) ≡ list_all has_legal_names items
-legal_placed place [] = refl
-legal_placed place (i ∷ is) = ap (λ (b : Bool). has_legal_names i && b) (legal_placed place is)
-
 and_true : (b : Bool) → (b && true) ≡ b
 and_true true = refl
 and_true false = refl
@@ -47,21 +43,29 @@ and_flat : (a b c : Bool) → (a && (b && c)) ≡ ((a && b) && c)
 and_flat true b c = refl
 and_flat false b c = refl
 
-legal_with : (place : Place) (ds : List Detection) (items : List Item)
-    → every_item has_legal_names (ds ++ added_detection place items ∷ []) ≡ (every_item has_legal_names ds && list_all has_legal_names items)
-legal_with place [] items = and_true _ ∙ (and_true _ ∙ legal_placed place items)
-legal_with place (d ∷ ds) items =
-    ap (λ (b : Bool). in_every has_legal_names d && b) (legal_with place ds items) ∙ and_flat (in_every has_legal_names d) (every_item has_legal_names ds) (list_all has_legal_names items)
+-- what is so of all items, those of one more detection among them
+module _ (p : Item → Bool) (same : (place : Place) (i : Item) → p (placed place i) ≡ p i) where
+  all_placed : (place : Place) (items : List Item) → list_all p (map (placed place) items) ≡ list_all p items
+  all_placed place [] = refl
+  all_placed place (i ∷ is) = ap (λ (b : Bool). b && list_all p (map (placed place) is)) (same place i) ∙ ap (λ (b : Bool). p i && b) (all_placed place is)
+
+  every_with : (place : Place) (ds : List Detection) (items : List Item) → every_item p (ds ++ added_detection place items ∷ []) ≡ (every_item p ds && list_all p items)
+  every_with place [] items = and_true _ ∙ (and_true _ ∙ all_placed place items)
+  every_with place (d ∷ ds) items = ap (λ (b : Bool). in_every p d && b) (every_with place ds items) ∙ and_flat (in_every p d) (every_item p ds) (list_all p items)
 
 -- the room of one more detection, by the detections and its items
 room_with : (limits : Limits) (place : Place) (ds : List Detection) (items : List Item) → has_room limits (ds ++ added_detection place items ∷ []) ≡ has_room_for limits ds items
 room_with limits place ds items =
-    ap (λ (n : ℕ). nat_le n limits.grown && nat_le (of_items test_count (ds ++ added_detection place items ∷ [])) limits.grown && every_item has_legal_names (ds ++ added_detection place items ∷ []))
+    let all : List Detection = ds ++ added_detection place items ∷ [] in
+    let names : ℕ = of_items name_count ds + total name_count items in
+    let tests : ℕ = of_items test_count ds + total test_count items in
+    ap (λ (n : ℕ). nat_le n limits.grown && nat_le (of_items test_count all) limits.grown && every_item has_legal_names all && every_item (has_short_patterns limits) all)
     (total_with name_count (λ p i. refl) place ds items)
-    ∙ (ap (λ (n : ℕ). nat_le (of_items name_count ds + total name_count items) limits.grown && nat_le n limits.grown && every_item has_legal_names (ds ++ added_detection place items ∷ []))
+    ∙ (ap (λ (n : ℕ). nat_le names limits.grown && nat_le n limits.grown && every_item has_legal_names all && every_item (has_short_patterns limits) all)
     (total_with test_count (λ p i. refl) place ds items)
-    ∙ ap (λ (b : Bool). nat_le (of_items name_count ds + total name_count items) limits.grown && nat_le (of_items test_count ds + total test_count items) limits.grown && b)
-    (legal_with place ds items))
+    ∙ (ap (λ (b : Bool). nat_le names limits.grown && nat_le tests limits.grown && b && every_item (has_short_patterns limits) all) (every_with has_legal_names (λ p i. refl) place ds items)
+    ∙ ap (λ (b : Bool). nat_le names limits.grown && nat_le tests limits.grown && (every_item has_legal_names ds && list_all has_legal_names items) && b)
+    (every_with (has_short_patterns limits) (λ p i. refl) place ds items)))
 
 pub room_judged : (limits : Limits) (place : Place) (ds : List Detection) (items : List Item) (room : Bool) (result : Result (Unit {0}) Fault)
     → room ≡ has_room_for limits ds items → Judged {X = Unit {0}} (λ done. Unit {0}) (must 99 place room) result

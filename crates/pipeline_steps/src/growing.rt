@@ -7,7 +7,7 @@ ghost use Rattle.pipeline_names.specs.Sizes as sizes;
 ghost use Rattle.pipeline_steps.specs.Added.{added_detection};
 ghost use Rattle.pipeline_steps.specs.Counted as spec;
 
-use crate::legal::{detections_legal, items_legal};
+use pipeline_names::{detections_legal, detections_short, items_legal, items_short};
 use rule_items::{Alternative, Detection, Fields, Item};
 use sig_base::{Code, Fault, Limits, Place, must};
 use sig_modifiers::Tests;
@@ -106,12 +106,19 @@ fn has_room(limits: &Limits, detections: &[Detection]) -> bool
     fits(Counted::Names, limits, detections)
         && fits(Counted::Tests, limits, detections)
         && detections_legal(detections)
+        && detections_short(limits, detections)
 }
 
 fn all_legal(detections: &[Detection], items: &[Item]) -> bool
     ensures { result ≡ (sizes.every_item sizes.has_legal_names detections.now && list_all sizes.has_legal_names items.now) }
 {
     detections_legal(detections) && items_legal(items)
+}
+
+fn all_short(limits: &Limits, detections: &[Detection], items: &[Item]) -> bool
+    ensures { result ≡ (sizes.every_item (sizes.has_short_patterns limits.now) detections.now && list_all (sizes.has_short_patterns limits.now) items.now) }
+{
+    detections_short(limits, detections) && items_short(limits, items)
 }
 
 /// Whether there is room for these items too.
@@ -121,9 +128,11 @@ fn has_room_for(limits: &Limits, detections: &[Detection], items: &[Item]) -> bo
     fits_with(Counted::Names, limits, detections, items)
         && fits_with(Counted::Tests, limits, detections, items)
         && all_legal(detections, items)
+        && all_short(limits, detections, items)
 }
 
-/// Code 99 at the place, where the rule of these detections has grown too large or has a name that isn't legal.
+/// Code 99 at the place, where the rule of these detections has grown too large, or has a name that isn't legal or a pattern that
+/// is too long.
 pub fn judge_grown(limits: &Limits, place: Place, detections: &[Detection]) -> Result<(), Fault>
     ensures { Judged (λ done. Unit {0}) (sizes.grown_refusal limits.now place detections.now) result }
 {

@@ -10,7 +10,6 @@ mod dropping;
 mod failing;
 mod growing;
 mod law;
-mod legal;
 mod source;
 #[cfg(test)]
 mod tests;
