@@ -28,8 +28,8 @@ pub(crate) fn entries_at<'a>(node: &'a Node, key: &str) -> &'a [Entry]
     }
 }
 
-/// The parts of the value at a key.
-pub(crate) fn parts_at<'a>(node: &'a Node, key: &str) -> &'a [Node]
+/// The parts of the value at a key: the elements of a list, or else the value alone; none where the key isn't there.
+pub fn parts_at<'a>(node: &'a Node, key: &str) -> &'a [Node]
     requires { is_ascii key.now ≡ true }
     ensures { nodes_view result.now ≡ spec.parts_at key.now (node_view node.now) }
 {
@@ -45,8 +45,8 @@ fn adds(kind: Option<StepKind>) -> bool
     matches!(kind, Some(StepKind::Add))
 }
 
-/// The entries of the items that a step adds.
-fn added_in(node: &Node) -> &[Entry]
+/// The entries of the items that a step adds; a step of another type has none.
+pub fn added_in(node: &Node) -> &[Entry]
     ensures { spec.added_in (node_view node.now) ≡ entries_view result.now }
 {
     if adds(kind_at(node)) {

@@ -1,6 +1,7 @@
 //! Processing pipelines: lists of steps that change rules, with the values of their placeholders.
 #![tactic(auto)]
 
+pub use items::{added_in, parts_at};
 pub use pipeline::{Pipeline, Var};
 pub use step::{Action, Choice, FieldCond, Pair, Step};
 

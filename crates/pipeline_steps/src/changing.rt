@@ -25,7 +25,8 @@ fn unchanged(limits: &Limits, rule: Rule) -> Result<Rule, Fault>
 }
 
 /// The rule that the step makes: without the names that `Drop` acts on, with one more condition by `Add`, or with another log
-/// source. It's refused 95, 96 or 97 as the step says, and then 99 where it has grown past `grown` or has a name that isn't legal.
+/// source. It's refused 95, 96 or 97 as the step says, and then 99 where it has grown past `grown` or has a name that isn't legal
+/// or a pattern of more than `value_chars` parts.
 /// Steps on names or values change nothing here. Asked of a step that acts on the rule.
 pub fn change(alloc: Global, limits: &Limits, step: &Step, rule: Rule) -> Result<Rule, Fault>
     ensures { Judged (λ made. rule_view made ≡ spec.changed step.now (rule_view rule)) (spec.change_refusal limits.now step.now (rule_view rule)) result }

@@ -1,8 +1,8 @@
 -- Entries that are found by the number of their text.
 use Rattle.std.proofs.Common.{ℕ, zero, suc, ◌+◌, ◌<◌, ◌≤◌, length, get_or, map, ◌≡◌, Bool, true, false, not, cond, nat_lt, List, [], ◌∷◌, refl, sym, subst, ap, ◌∙◌}
 use native.Mathlib.Omega.{arith}
-use Rattle.std.specs.Prelude.{Option, Some, None, if◌then◌else◌, ◌||◌}
-use Rattle.std.specs.List.{position, position_or_len, list_any}
+use Rattle.std.specs.Prelude.{Some, None, if◌then◌else◌, ◌||◌}
+use Rattle.std.specs.List.{position, position_or_len}
 use Rattle.std.specs.Str.{bytes_eq}
 use Rattle.std.proofs.lemmas.Bool.{ltb-true, ltb-false, lt-ltb, le-ltb}
 use Rattle.std.proofs.lemmas.List.{length-map}
@@ -10,7 +10,7 @@ use Rattle.pipeline_model.specs.Concerned.{is_among}
 use Rattle.pipeline_model.specs.declared.step.Pair.{Pair}
 use Rattle.pipeline_values.specs.declared.entry.Entry.{Entry}
 use Rattle.pipeline_values.specs.Entries.{texts_for, longest_of}
-use Rattle.pipeline_values.specs.Made.{froms_of, found_of, entry_view, entries_view, IsFound}
+use Rattle.pipeline_values.specs.Made.{froms_of, found_of, entry_view, entries_view}
 
 -- ---- the first place at which a test passes
 

@@ -1,6 +1,7 @@
 -- What becomes of a test, counted and made.
-use Rattle.std.proofs.Common.{ℕ, ◌≡◌, Bool, true, false, ◌&&◌, ◌||◌, length, List, [], ◌∷◌, map, refl, sym, subst, ap, ◌∙◌}
-use Rattle.std.specs.Prelude.{Option, Some, None, if◌then◌else◌, Result, Ok, Err, IfOk}
+use Rattle.std.proofs.Common.{ℕ, max, ◌≡◌, Bool, true, false, ◌&&◌, ◌||◌, length, List, [], ◌∷◌, map, refl, sym, subst, ap, ◌∙◌}
+use native.Mathlib.Omega.{arith}
+use Rattle.std.specs.Prelude.{Option, Some, None, if◌then◌else◌, Result, IfOk}
 use Rattle.std.specs.List.{list_any}
 use Rattle.std.proofs.lemmas.Bool.{or_parts}
 use Rattle.std.proofs.lemmas.List.{length-map}
@@ -15,11 +16,12 @@ use Rattle.pipeline_model.specs.declared.step.Action.{Action}
 use Rattle.pipeline_model.specs.declared.step.Pair.{Pair}
 use Rattle.pipeline_values.specs.declared.growth.Growth.{Growth}
 use Rattle.pipeline_values.specs.Entries.{texts_for, largest}
-use Rattle.pipeline_values.specs.Filled.{chosen_by, is_chosen, filled, patterns_found, put_for, is_missing, lacks_values}
+use Rattle.pipeline_values.specs.Filled.{is_chosen, filled, patterns_found, put_for, is_missing, lacks_values}
 use Rattle.pipeline_values.specs.Changed.{filled_if_chosen, made_of, mapped, is_cased, as_tests}
 use Rattle.pipeline_values.specs.Counts.{capped}
-use Rattle.pipeline_values.specs.Grown.{longest_in, leaves_open}
-use Rattle.pipeline_values.specs.Made.{counted, made_count, IsGrowth}
+use Rattle.pipeline_values.specs.Grown.{leaves_open}
+use Rattle.pipeline_values.specs.Longest.{longest_value}
+use Rattle.pipeline_values.specs.Made.{counted, made_count, longest_made, IsGrowth}
 use Rattle.pipeline_values.proofs.Products.{counted_is}
 
 -- ---- placeholders that lack values are chosen
@@ -77,38 +79,49 @@ as_many : (test : Test) (o : Option (List (List Part))) → made_count o ≡ len
 as_many test None = refl
 as_many test (Some patterns) = sym (length-map patterns (λ (parts : List Part). tests.Fits parts (is_cased test)))
 
-pub grown_test : (r : Result Growth Fault) (test : Test) (o : Option (List (List Part))) (longest : ℕ) (lacking : Bool)
-    → IfOk r (λ g. IsGrowth (made_count o) longest lacking g) → IfOk r (λ g. IsGrowth (length (as_tests test o)) longest lacking g)
-grown_test r test o longest lacking grown = subst (λ (n : ℕ). IfOk r (λ g. IsGrowth n longest lacking g)) (as_many test o) grown
+as_long : (cased : Bool) (patterns : List (List Part)) → largest length patterns ≡ longest_value (map (λ parts. tests.Fits parts cased) patterns)
+as_long cased [] = refl
+as_long cased (p ∷ patterns) = ap (λ (n : ℕ). max (length p) n) (as_long cased patterns)
+
+pattern_long : (parts : List Part) (cased : Bool) (o : Option (List (List Part))) → longest_made parts o ≡ longest_value (as_tests (tests.Fits parts cased) o)
+pattern_long parts cased None = omega arith
+pattern_long parts cased (Some patterns) = as_long cased patterns
+
+pub grown_test : (r : Result Growth Fault) (parts : List Part) (cased : Bool) (o : Option (List (List Part))) (lacking : Bool)
+    → IfOk r (λ g. IsGrowth (made_count o) (longest_made parts o) lacking g)
+    → IfOk r (λ g. IsGrowth (length (as_tests (tests.Fits parts cased) o)) (longest_value (as_tests (tests.Fits parts cased) o)) lacking g)
+grown_test r parts cased o lacking grown =
+    subst (λ (n : ℕ). IfOk r (λ g. IsGrowth (length (as_tests (tests.Fits parts cased) o)) n lacking g)) (pattern_long parts cased o)
+    (subst (λ (n : ℕ). IfOk r (λ g. IsGrowth n (longest_made parts o) lacking g)) (as_many (tests.Fits parts cased) o) grown)
 
 -- ---- placeholders, counted
 
-pub kept_growth : (vars : List Var) (action : Action) (parts : List Part) (g : Growth) → list_any (is_chosen action) parts ≡ false → IsGrowth 1 0 false g
-    → IsGrowth (made_count (filled_if_chosen vars action parts)) (longest_in (filled_if_chosen vars action parts)) (list_any (lacks_values vars action) parts) g
+pub kept_growth : (vars : List Var) (action : Action) (parts : List Part) (g : Growth) → list_any (is_chosen action) parts ≡ false → IsGrowth 1 (length parts) false g
+    → IsGrowth (made_count (filled_if_chosen vars action parts)) (longest_made parts (filled_if_chosen vars action parts)) (list_any (lacks_values vars action) parts) g
 kept_growth vars action parts g none h =
     let e = stays_unfilled vars action parts none in (
       h.0 ∙ ap (λ (o : Option (List (List Part))). capped (made_count o)) (sym e),
-      h.1 ∙ ap (λ (o : Option (List (List Part))). capped (longest_in o)) (sym e),
+      h.1 ∙ ap (λ (o : Option (List (List Part))). capped (longest_made parts o)) (sym e),
       h.2 ∙ stays_closed vars action parts none,
     )
 
 pub filled_growth : (vars : List Var) (action : Action) (parts : List Part) (tests longest : ℕ) → list_any (is_chosen action) parts ≡ true
     → tests ≡ capped (counted vars action parts) → longest ≡ capped (largest length (filled vars action parts))
-    → (tests ≡ capped (made_count (filled_if_chosen vars action parts))) × (longest ≡ capped (longest_in (filled_if_chosen vars action parts)))
+    → (tests ≡ capped (made_count (filled_if_chosen vars action parts))) × (longest ≡ capped (longest_made parts (filled_if_chosen vars action parts)))
 filled_growth vars action parts tests longest some counts measures =
     let e = is_filled vars action parts some in (
       counts ∙ (ap capped (sym (counted_is vars action parts)) ∙ ap (λ (o : Option (List (List Part))). capped (made_count o)) (sym e)),
-      measures ∙ ap (λ (o : Option (List (List Part))). capped (longest_in o)) (sym e),
+      measures ∙ ap (λ (o : Option (List (List Part))). capped (longest_made parts o)) (sym e),
     )
 
 pub holes_grow : (vars : List Var) (action other : Action) (parts got : List Part) (r : Result Growth Fault) → other ≡ action → got ≡ parts
     → made_of vars action parts ≡ filled_if_chosen vars action parts → leaves_open vars action parts ≡ list_any (lacks_values vars action) parts
-    → IfOk r (λ g. IsGrowth (made_count (filled_if_chosen vars other got)) (longest_in (filled_if_chosen vars other got)) (list_any (lacks_values vars other) got) g)
-    → IfOk r (λ g. IsGrowth (made_count (made_of vars other parts)) (longest_in (made_of vars other parts)) (leaves_open vars other parts) g)
+    → IfOk r (λ g. IsGrowth (made_count (filled_if_chosen vars other got)) (longest_made got (filled_if_chosen vars other got)) (list_any (lacks_values vars other) got) g)
+    → IfOk r (λ g. IsGrowth (made_count (made_of vars other parts)) (longest_made parts (made_of vars other parts)) (leaves_open vars other parts) g)
 holes_grow vars action other parts got r is same made lacks grown =
-    let at : IfOk r (λ g. IsGrowth (made_count (filled_if_chosen vars action parts)) (longest_in (filled_if_chosen vars action parts)) (list_any (lacks_values vars action) parts) g) =
-    subst (λ (a : Action). IfOk r (λ g. IsGrowth (made_count (filled_if_chosen vars a parts)) (longest_in (filled_if_chosen vars a parts)) (list_any (lacks_values vars a) parts) g)) is
-    (subst (λ (ps : List Part). IfOk r (λ g. IsGrowth (made_count (filled_if_chosen vars other ps)) (longest_in (filled_if_chosen vars other ps)) (list_any (lacks_values vars other) ps) g)) same grown) in
-    subst (λ (a : Action). IfOk r (λ g. IsGrowth (made_count (made_of vars a parts)) (longest_in (made_of vars a parts)) (leaves_open vars a parts) g)) (sym is)
-    (subst (λ (b : Bool). IfOk r (λ g. IsGrowth (made_count (made_of vars action parts)) (longest_in (made_of vars action parts)) b g)) (sym lacks)
-    (subst (λ (o : Option (List (List Part))). IfOk r (λ g. IsGrowth (made_count o) (longest_in o) (list_any (lacks_values vars action) parts) g)) (sym made) at))
+    let at : IfOk r (λ g. IsGrowth (made_count (filled_if_chosen vars action parts)) (longest_made parts (filled_if_chosen vars action parts)) (list_any (lacks_values vars action) parts) g) =
+    subst (λ (a : Action). IfOk r (λ g. IsGrowth (made_count (filled_if_chosen vars a parts)) (longest_made parts (filled_if_chosen vars a parts)) (list_any (lacks_values vars a) parts) g)) is
+    (subst (λ (ps : List Part). IfOk r (λ g. IsGrowth (made_count (filled_if_chosen vars other ps)) (longest_made ps (filled_if_chosen vars other ps)) (list_any (lacks_values vars other) ps) g)) same grown) in
+    subst (λ (a : Action). IfOk r (λ g. IsGrowth (made_count (made_of vars a parts)) (longest_made parts (made_of vars a parts)) (leaves_open vars a parts) g)) (sym is)
+    (subst (λ (b : Bool). IfOk r (λ g. IsGrowth (made_count (made_of vars action parts)) (longest_made parts (made_of vars action parts)) b g)) (sym lacks)
+    (subst (λ (o : Option (List (List Part))). IfOk r (λ g. IsGrowth (made_count o) (longest_made parts o) (list_any (lacks_values vars action) parts) g)) (sym made) at))

@@ -1,7 +1,7 @@
 mod ReadLemmas
 mod Crossing
-mod Products
 mod Sums
+mod Products
 mod Found
 mod Putting
 mod Plainness
@@ -9,3 +9,4 @@ mod WholeTests
 mod ChosenLeft
 mod Growing
 mod OneRun
+mod Rooms

@@ -1,7 +1,7 @@
 -- Patterns that are put in have no U+0000, and there is one where there are values.
-use Rattle.std.proofs.Common.{ℕ, zero, suc, ◌≡◌, ◌==◌, nat_lt, Bool, true, false, ◌&&◌, ◌||◌, List, [], ◌∷◌, ◌++◌, map, refl, sym, subst, ap, ◌∙◌}
+use Rattle.std.proofs.Common.{ℕ, zero, suc, ◌≡◌, ◌==◌, nat_lt, Bool, true, false, ◌&&◌, List, [], ◌∷◌, ◌++◌, map, refl}
 use Rattle.std.specs.Prelude.{Option, Some, None, if◌then◌else◌, ⊤}
-use Rattle.std.specs.List.{list_all, list_any, flat_map}
+use Rattle.std.specs.List.{list_all, list_any}
 use Rattle.std.specs.Str.{all_scalars, bytes_eq}
 use Rattle.std.proofs.lemmas.Bool.{and_parts, and_from, or_parts}
 use Rattle.std.proofs.Math.Utf8.{scalar}
@@ -11,17 +11,17 @@ use Rattle.sig_strings.specs.Edits.{has_wildcard, plain_text}
 use Rattle.sig_strings.specs.Spells.{is_special}
 use Rattle.sig_strings.specs.declared.part.Part.{Part}
 use Rattle.sig_strings.specs.declared.part.Part.TheVariants.{Char, One, Run, Dash, Hole}
-use Rattle.value_patterns.specs.Parts.{parts_of, parts_behind, front_of, backslash_front}
+use Rattle.value_patterns.specs.Parts.{parts_behind, front_of, backslash_front}
 use Rattle.value_patterns.specs.PlainPatterns.{HasPlainText}
 use Rattle.pipeline_model.specs.declared.pipeline.Var.{Var}
 use Rattle.pipeline_model.specs.declared.step.Action.{Action}
 use Rattle.pipeline_model.specs.declared.step.Action.TheVariants.{MapNames, Prefix, Suffix, MapPrefixes, Drop, Add, Source, MapTexts, FillHoles, WildHoles, FailRule, FailItem}
 use Rattle.pipeline_model.specs.declared.step.Pair.{Pair}
-use Rattle.pipeline_values.specs.Entries.{texts_for, as_pair, as_pairs, patterns_of}
+use Rattle.pipeline_values.specs.Entries.{texts_for, as_pairs, patterns_of}
 use Rattle.pipeline_values.specs.Filled.{chosen_by, is_chosen, patterns_found, put_for, none_or, choices, crossed, filled, is_missing, lacks_values}
 use Rattle.pipeline_values.specs.Changed.{filled_if_chosen, mapped, made_of}
 use Rattle.pipeline_values.specs.Grown.{leaves_open}
-use Rattle.pipeline_values.specs.Kept.{AreValues, HasValues, HasTargets, MakesTests}
+use Rattle.pipeline_values.specs.Kept.{HasValues, HasTargets, MakesTests}
 
 pub each_append : {A : Type 0} (P : A → Type 0) (xs ys : List A) → EachOf P xs → EachOf P ys → EachOf P (xs ++ ys)
 each_append P [] ys a b = b

@@ -1,8 +1,7 @@
 -- Fillings that are counted and measured before they're made.
-use Rattle.std.proofs.Common.{ℕ, zero, suc, ◌+◌, ◌*◌, ◌-◌, ◌^◌, ◌<◌, ◌≤◌, min, max, nat_le, ◌≡◌, Bool, true, false, length, get_or, drop, map, List, [], ◌∷◌, ◌++◌, refl, sym, subst, ap, ◌∙◌}
+use Rattle.std.proofs.Common.{ℕ, zero, suc, ◌+◌, ◌*◌, ◌-◌, ◌^◌, ◌<◌, ◌≤◌, min, nat_le, ◌≡◌, Bool, true, false, length, get_or, drop, map, List, [], ◌∷◌, ◌++◌, refl, sym, subst, ap, ◌∙◌}
 use native.Mathlib.Omega.{arith}
-use Rattle.std.specs.Prelude.{if◌then◌else◌, ◌==◌, ◌||◌}
-use Rattle.std.specs.List.{list_any}
+use Rattle.std.specs.Prelude.{if◌then◌else◌, ◌==◌}
 use Rattle.std.proofs.lemmas.Bool.Decides.{nat_tests}
 use Rattle.std.proofs.Math.Nat.{mul-zero, mul_assoc}
 use Rattle.std.proofs.lemmas.Nat.{mul-le}
@@ -14,8 +13,9 @@ use Rattle.pipeline_model.specs.declared.step.Action.{Action}
 use Rattle.pipeline_values.specs.declared.filling.Filling.{Filling}
 use Rattle.pipeline_values.specs.Counts.{capped}
 use Rattle.pipeline_values.specs.Entries.{largest}
-use Rattle.pipeline_values.specs.Filled.{choices, crossed, filled, lacks_values}
-use Rattle.pipeline_values.specs.Made.{counted, summed, fills, is_missing_filling, IsFilling, IsMeasured}
+use Rattle.pipeline_values.specs.Filled.{choices, crossed, filled}
+use Rattle.pipeline_values.specs.Made.{counted, summed, fills, IsFilling, IsMeasured}
+use Rattle.pipeline_values.proofs.Sums.{largest_append}
 
 -- ---- the product
 
@@ -81,10 +81,6 @@ summed_turn vars action parts i x f longest n new same inside is filling measure
     ap (λ (ps : List Part). summed vars action ps) front in
     omega (arith, here, all, made, same)
 
-largest_append : {A : Type 0} (size : A → ℕ) (xs ys : List A) → largest size (xs ++ ys) ≡ max (largest size xs) (largest size ys)
-largest_append size [] ys = omega arith
-largest_append size (x ∷ xs) ys = let rest = largest_append size xs ys in omega (arith, rest)
-
 longest_map : (x m : List Part) (ms : List (List Part)) → largest length (map (λ rest. x ++ rest) (m ∷ ms)) ≡ length x + largest length (m ∷ ms)
 longest_map x m [] = let here = length-append x m in omega (arith, here)
 longest_map x m (n ∷ ms) = let here = length-append x m in let rest = longest_map x n ms in omega (arith, here, rest)
@@ -136,17 +132,3 @@ longest_told vars action parts tests longest counts measures = by (tests == 0) r
     by false e =
         let some_tests : 1 ≤ tests = grind (arith, nat_tests) in
         measures ∙ ap capped (sym (longest_filled vars action parts (omega (arith, counts, some_tests))))
-
-or_or : (a b c : Bool) → ((a || b) || c) ≡ (a || (b || c))
-or_or true b c = refl
-or_or false b c = refl
-
-pub lacks_turn : (vars : List Var) (action : Action) (parts : List Part) (i : ℕ) (x : Part) (f : Filling) (l m : Bool)
-    → (l || list_any (lacks_values vars action) (drop i parts)) ≡ list_any (lacks_values vars action) parts → i < length parts → x ≡ get_or parts i x
-    → IsFilling vars action x f → m ≡ is_missing_filling f
-    → ((l || m) || list_any (lacks_values vars action) (drop (i + 1) parts)) ≡ list_any (lacks_values vars action) parts
-lacks_turn vars action parts i x f l m same inside is filling missing =
-    let front : drop i parts ≡ x ∷ drop (i + 1) parts = drop_more parts i x inside ∙ ap (λ (y : Part). y ∷ drop (i + 1) parts) (sym is) in
-    or_or l m (list_any (lacks_values vars action) (drop (i + 1) parts))
-    ∙ (ap (λ (b : Bool). l || (b || list_any (lacks_values vars action) (drop (i + 1) parts))) (missing ∙ sym filling.lacks)
-    ∙ (sym (ap (λ (ps : List Part). l || list_any (lacks_values vars action) ps) front) ∙ same))

@@ -1,7 +1,7 @@
 -- What takes a placeholder's place.
-use Rattle.std.proofs.Common.{ℕ, ◌≡◌, Bool, true, false, length, List, [], ◌∷◌, refl, ap, ◌∙◌}
+use Rattle.std.proofs.Common.{ℕ, ◌≡◌, Bool, true, false, length, List, [], ◌∷◌, ap, ◌∙◌}
 use Rattle.std.proofs.lemmas.List.{length-map}
-use Rattle.std.specs.Prelude.{⊤, Option, if◌then◌else◌, ◌&&◌}
+use Rattle.std.specs.Prelude.{Option, if◌then◌else◌, ◌&&◌}
 use Rattle.sig_strings.specs.declared.part.Part.{Part}
 use Rattle.sig_strings.specs.declared.part.Part.TheVariants.{Hole}
 use Rattle.pipeline_model.specs.declared.pipeline.Var.{Var}

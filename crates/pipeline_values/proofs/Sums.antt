@@ -1,8 +1,8 @@
 -- Sums and greatest numbers over lists, counted up to a greatest number.
-use Rattle.std.proofs.Common.{ℕ, ◌+◌, ◌-◌, ◌^◌, ◌<◌, ◌≤◌, min, max, nat_le, ◌≡◌, Bool, true, false, length, get_or, drop, map, List, [], ◌∷◌, ◌++◌, refl, sym, ap, ◌∙◌}
+use Rattle.std.proofs.Common.{ℕ, ◌+◌, ◌-◌, ◌^◌, ◌<◌, ◌≤◌, max, nat_le, ◌≡◌, Bool, true, false, length, get_or, drop, map, List, [], ◌∷◌, ◌++◌, refl, sym, ap, ◌∙◌}
 use native.Mathlib.Omega.{arith}
-use Rattle.std.specs.Prelude.{◌&&◌}
-use Rattle.std.specs.List.{flat_map}
+use Rattle.std.specs.Prelude.{◌||◌}
+use Rattle.std.specs.List.{list_any, flat_map}
 use Rattle.std.proofs.lemmas.Bool.{leb-true, leb-false, le-leb, lt-leb}
 use Rattle.std.proofs.lemmas.List.{drop_more, length-append}
 use Rattle.pipeline_names.specs.Sizes.{total}
@@ -39,6 +39,41 @@ module _ {A : Type 0} (size : A → ℕ) where
   largest_turn xs i x found n new same inside is here made =
       let all : largest size (drop i xs) ≡ max (size x) (largest size (drop (i + 1) xs)) = ap (λ (ys : List A). largest size ys) (left_at xs i x inside is) in
       omega (arith, same, here, made, all)
+
+-- The largest of what the elements become.
+module _ {A B : Type 0} (f : A → B) (size : B → ℕ) where
+  pub most_turn : (xs : List A) (i : ℕ) (x : A) (found n new : ℕ) → capped (max found (largest size (map f (drop i xs)))) ≡ capped (largest size (map f xs))
+      → i < length xs → x ≡ get_or xs i x → n ≡ capped (size (f x)) → new ≡ max found n
+      → capped (max new (largest size (map f (drop (i + 1) xs)))) ≡ capped (largest size (map f xs))
+  most_turn xs i x found n new same inside is here made =
+      let all : largest size (map f (drop i xs)) ≡ max (size (f x)) (largest size (map f (drop (i + 1) xs))) =
+      ap (λ (ys : List A). largest size (map f ys)) (left_at xs i x inside is) in
+      omega (arith, same, here, made, all)
+
+pub largest_append : {A : Type 0} (size : A → ℕ) (xs ys : List A) → largest size (xs ++ ys) ≡ max (largest size xs) (largest size ys)
+largest_append size [] ys = omega arith
+largest_append size (x ∷ xs) ys = let rest = largest_append size xs ys in omega (arith, rest)
+
+-- Of all that they become, where each becomes several.
+module _ {A B : Type 0} (f : A → List B) (size : B → ℕ) where
+  pub longest_turn : (xs : List A) (i : ℕ) (x : A) (found n new : ℕ) → capped (max found (largest size (flat_map f (drop i xs)))) ≡ capped (largest size (flat_map f xs))
+      → i < length xs → x ≡ get_or xs i x → n ≡ capped (largest size (f x)) → new ≡ max found n
+      → capped (max new (largest size (flat_map f (drop (i + 1) xs)))) ≡ capped (largest size (flat_map f xs))
+  longest_turn xs i x found n new same inside is here made =
+      let all : largest size (flat_map f (drop i xs)) ≡ max (largest size (f x)) (largest size (flat_map f (drop (i + 1) xs))) =
+      ap (λ (ys : List A). largest size (flat_map f ys)) (left_at xs i x inside is) ∙ largest_append size (f x) (flat_map f (drop (i + 1) xs)) in
+      omega (arith, same, here, made, all)
+
+or_flat : (a b c : Bool) → ((a || b) || c) ≡ (a || (b || c))
+or_flat true b c = refl
+or_flat false b c = refl
+
+module _ {A : Type 0} (p : A → Bool) where
+  pub any_turn : (xs : List A) (i : ℕ) (x : A) (l m : Bool) → (l || list_any p (drop i xs)) ≡ list_any p xs → i < length xs → x ≡ get_or xs i x → m ≡ p x
+      → ((l || m) || list_any p (drop (i + 1) xs)) ≡ list_any p xs
+  any_turn xs i x l m same inside is here =
+      or_flat l m (list_any p (drop (i + 1) xs))
+      ∙ (ap (λ (b : Bool). l || (b || list_any p (drop (i + 1) xs))) here ∙ (sym (ap (λ (ys : List A). l || list_any p ys) (left_at xs i x inside is)) ∙ same))
 
 -- a number that is counted up to a greatest one is as large as a smaller one where it is
 pub capped_le : (n most : ℕ) → most ≤ 2 ^ 64 - 1 → nat_le (capped n) most ≡ nat_le n most

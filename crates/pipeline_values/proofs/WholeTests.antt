@@ -1,10 +1,10 @@
 -- A rule with other tests is whole.
-use Rattle.std.proofs.Common.{ℕ, suc, ◌≡◌, Bool, true, false, ◌&&◌, ◌||◌, not, length, List, [], ◌∷◌, ◌++◌, map, refl, sym, subst, ap, ◌∙◌}
+use Rattle.std.proofs.Common.{suc, ◌≡◌, Bool, true, false, ◌&&◌, not, length, List, [], ◌∷◌, ◌++◌, map, refl, sym, subst, ap}
 use Rattle.std.specs.Prelude.{Option, Some, None, if◌then◌else◌}
-use Rattle.std.specs.List.{list_any, flat_map}
+use Rattle.std.specs.List.{list_any}
 use Rattle.std.proofs.lemmas.Bool.{or_parts}
 use Rattle.event_schema.specs.Lists.{EachOf, HasElement}
-use Rattle.sig_base.specs.Judged.{first, must}
+use Rattle.sig_base.specs.Judged.{first}
 use Rattle.sig_base.specs.declared.limits.Limits.{Limits}
 use Rattle.sig_base.specs.declared.refusal.Refusal.{Refusal}
 use Rattle.sig_base.proofs.Checks.{first_holds, must_holds, not_holds}
@@ -22,8 +22,9 @@ use Rattle.rule_model.specs.Whole.{IsWholeForm, IsWhole}
 use Rattle.pipeline_model.specs.declared.pipeline.Var.{Var}
 use Rattle.pipeline_model.specs.declared.step.Action.{Action}
 use Rattle.pipeline_model.specs.declared.step.Step.{Step}
-use Rattle.pipeline_values.specs.Changed.{made_of, is_cased, as_tests, changed_test, changed_value, acts_on_fields, changed_values, changed_item, changed_items, changed_detection, changed_detections, changed}
-use Rattle.pipeline_values.specs.Grown.{is_open, are_open, open_item, open_items, open_detection, open_refusal, has_room, change_refusal}
+use Rattle.pipeline_names.specs.Sizes.{grown_refusal}
+use Rattle.pipeline_values.specs.Changed.{made_of, is_cased, as_tests, changed_test, changed_value, acts_on_fields, changed_item, changed_items, changed_detection, changed_detections, changed}
+use Rattle.pipeline_values.specs.Grown.{is_open, are_open, open_item, open_items, open_detection, open_refusal, change_refusal}
 use Rattle.pipeline_values.specs.Kept.{MakesTests}
 use Rattle.pipeline_values.proofs.Plainness.{each_append, ArePlainParts, ArePut, has_plain_text, made_plain}
 
@@ -162,7 +163,7 @@ module _ (vars : List Var) (step : Step) (own : MakesTests vars step.action) whe
       → IsWhole (changed vars step rule)
   stays_whole limits rule whole none =
       let closed : open_refusal vars step rule.detections ≡ None =
-      (first_holds (open_refusal vars step rule.detections) (must 99 rule.head.place (has_room limits vars step rule.detections) ∷ []) none).0 in
+      (first_holds (open_refusal vars step rule.detections) (grown_refusal limits rule.head.place (changed_detections vars step rule.detections) ∷ []) none).0 in
       record {
         detections =
             each_step IsWholeDetection (λ d. open_detection vars step d ≡ None) (changed_detection vars step) whole_detection rule.detections whole.detections

@@ -1,6 +1,6 @@
 -- Placeholders that are filled (pySigma, value placeholders and wildcard placeholders).
 use Rattle.std.specs.Prelude.{ℕ, Bool, true, false, not, ◌&&◌, List, [], ◌∷◌, ◌++◌, map, if◌then◌else◌, Option, Some, None}
-use Rattle.std.specs.List.{list_any, flat_map}
+use Rattle.std.specs.List.{flat_map}
 use Rattle.sig_strings.specs.declared.part.Part.{Part}
 use Rattle.sig_strings.specs.declared.part.Part.TheVariants.{Char, One, Run, Dash, Hole}
 use Rattle.pipeline_model.specs.Concerned.{is_among}
@@ -88,11 +88,12 @@ opened action Run = Run
 opened action Dash = Dash
 opened action (Hole name) = if chosen_by action name then Run else Hole name
 
--- a chosen placeholder that has no variable
+-- nothing was found
 abbrev pub is_missing : Option (List (List Part)) → Bool
 is_missing None = true
 is_missing (Some patterns) = false
 
+-- a chosen placeholder that has no variable
 abbrev pub lacks_values : List Var → Action → Part → Bool
 lacks_values vars action (Char c) = false
 lacks_values vars action One = false

@@ -1,5 +1,5 @@
 -- Why a step on values refuses a rule.
-use Rattle.std.specs.Prelude.{ℕ, Bool, false, not, ◌&&◌, nat_le, max, List, [], ◌∷◌, map, length, if◌then◌else◌, Option, Some, None}
+use Rattle.std.specs.Prelude.{Bool, false, not, ◌&&◌, List, [], ◌∷◌, map, Option}
 use Rattle.std.specs.List.{list_any}
 use Rattle.sig_base.specs.Judged.{must, first}
 use Rattle.sig_base.specs.declared.limits.Limits.{Limits}
@@ -11,15 +11,13 @@ use Rattle.sig_strings.specs.declared.part.Part.{Part}
 use Rattle.rule_items.specs.declared.detection.Detection.{Detection}
 use Rattle.rule_items.specs.declared.item.Fields.{Fields}
 use Rattle.rule_items.specs.declared.item.Item.{Item}
-use Rattle.rule_model.specs.Plain.{PlainRule}
 use Rattle.pipeline_model.specs.declared.pipeline.Var.{Var}
 use Rattle.pipeline_model.specs.declared.step.Action.{Action}
 use Rattle.pipeline_model.specs.declared.step.Action.TheVariants.{MapNames, Prefix, Suffix, MapPrefixes, Drop, Add, Source, MapTexts, FillHoles, WildHoles, FailRule, FailItem}
 use Rattle.pipeline_model.specs.declared.step.Step.{Step}
-use Rattle.pipeline_names.specs.Sizes.{of_items, name_count, test_count}
-use Rattle.pipeline_values.specs.Entries.{largest}
+use Rattle.pipeline_names.specs.Sizes.{grown_refusal}
 use Rattle.pipeline_values.specs.Filled.{lacks_values}
-use Rattle.pipeline_values.specs.Changed.{put_in, acts_on_fields, changed_detections}
+use Rattle.pipeline_values.specs.Changed.{acts_on_fields, changed_detections}
 
 -- ---- a placeholder without values
 
@@ -70,39 +68,6 @@ open_refusal vars step ds = first_of (open_detection vars step) ds
 
 -- ---- growth
 
--- how long the longest pattern is that is put in
-abbrev pub longest_in : Option (List (List Part)) → ℕ
-longest_in None = 0
-longest_in (Some patterns) = largest length patterns
-
-abbrev pub longest_test : List Var → Action → Test → ℕ
-longest_test vars action test = longest_in (put_in vars action test)
-
-abbrev pub longest_value : List Var → Action → List Test → ℕ
-longest_value vars action value = largest (longest_test vars action) value
-
-abbrev pub longest_values : List Var → Step → Fields → List (List Test) → ℕ
-longest_values vars step fields values = if acts_on_fields step fields then largest (longest_value vars step.action) values else 0
-
-abbrev pub longest_item : List Var → Step → Item → ℕ
-longest_item vars step i = longest_values vars step i.fields i.tests
-
-abbrev pub longest_items : List Var → Step → List Item → ℕ
-longest_items vars step items = largest (longest_item vars step) items
-
-abbrev pub longest_detection : List Var → Step → Detection → ℕ
-longest_detection vars step d = largest (longest_items vars step) d.alternatives
-
-abbrev pub longest_put : List Var → Step → List Detection → ℕ
-longest_put vars step ds = largest (longest_detection vars step) ds
-
--- at most so many names and at most so many tests of all items together, and no longer pattern is put in than a value may be
-abbrev pub has_room : Limits → List Var → Step → List Detection → Bool
-has_room limits vars step ds =
-    nat_le (of_items name_count (changed_detections vars step ds)) limits.grown
-    && nat_le (of_items test_count (changed_detections vars step ds)) limits.grown
-    && nat_le (longest_put vars step ds) limits.value_chars
-
--- code 98 at an item, and then code 99 at the rule's place
+-- code 98 at an item, and then code 99 at the rule's place, of the whole rule that the step makes
 abbrev pub change_refusal : Limits → List Var → Step → Place → List Detection → Option Refusal
-change_refusal limits vars step place ds = first (open_refusal vars step ds ∷ must 99 place (has_room limits vars step ds) ∷ [])
+change_refusal limits vars step place ds = first (open_refusal vars step ds ∷ grown_refusal limits place (changed_detections vars step ds) ∷ [])

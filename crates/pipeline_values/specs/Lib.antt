@@ -3,6 +3,7 @@ pub mod Entries
 pub mod Filled
 pub mod Changed
 pub mod Grown
+pub mod Longest
 pub mod Made
 pub mod Read
 pub mod Kept

@@ -16,7 +16,6 @@ use Rattle.pipeline_values.specs.declared.growth.Size.{Size}
 use Rattle.pipeline_values.specs.Counts.{capped}
 use Rattle.pipeline_values.specs.Entries.{patterns_of, longest_of, largest}
 use Rattle.pipeline_values.specs.Filled.{choices, lacks_values}
-use Rattle.pipeline_values.specs.Grown.{longest_in}
 
 -- ---- entries
 
@@ -105,6 +104,11 @@ summed vars action (part ∷ parts) = largest length (choices vars action part) 
 abbrev pub made_count : Option (List (List Part)) → ℕ
 made_count None = 1
 made_count (Some patterns) = length patterns
+
+-- how long the longest is of the patterns that take a pattern's place, or the pattern where it stays
+abbrev pub longest_made : List Part → Option (List (List Part)) → ℕ
+longest_made parts None = length parts
+longest_made parts (Some patterns) = largest length patterns
 
 abbrev pub IsGrowth : (tests longest : ℕ) → Bool → Growth → Type 0
 IsGrowth tests longest lacking g = (g.tests ≡ capped tests) × (g.longest ≡ capped longest) × (g.lacking ≡ lacking)

@@ -6,8 +6,8 @@ ghost use Rattle.pipeline_values.specs.Counts.{capped};
 /// The greatest number that is counted.
 const MOST: u128 = i128::MAX as u128;
 
-/// How many tests take the place of some, how many parts the longest pattern has that is put in, and whether a placeholder that
-/// is chosen has no variable.
+/// How many tests take the place of some, how many parts their longest pattern has, and whether a placeholder that is chosen has
+/// no variable.
 #[derive(Clone, Copy)]
 pub struct Growth {
     pub tests: u128,
@@ -15,7 +15,7 @@ pub struct Growth {
     pub lacking: bool,
 }
 
-/// How many names and tests some items have, and how many parts the longest pattern has that is put in.
+/// How many names and tests some items have, and how many parts their longest pattern has.
 #[derive(Clone, Copy)]
 pub struct Size {
     pub names: u128,

@@ -1,14 +1,15 @@
-//! How many tests are made of some, and how long the longest pattern is that is put in, before anything is made.
+//! How many tests will take the place of some, and how long the longest pattern of them will be, before anything is made.
 
 ghost use Rattle.std.specs.Prelude.{◌≡◌, ◌==◌, if◌then◌else◌, length, map as list_map, false, IfOk, IfErr};
 ghost use Rattle.std.specs.List.{list_any};
-ghost use Rattle.pipeline_names.specs.Sizes.{total, values_count};
+ghost use Rattle.pipeline_names.specs.Sizes.{total, part_count as part_count_of};
 ghost use Rattle.pipeline_values.specs.Changed as changed;
 ghost use Rattle.pipeline_values.specs.Counts.{capped};
 ghost use Rattle.pipeline_values.specs.Entries as spec;
 ghost use Rattle.pipeline_values.specs.Filled.{lacks_values};
 ghost use Rattle.pipeline_values.specs.Grown as grown;
-ghost use Rattle.pipeline_values.specs.Made.{counted, summed, made_count, IsGrowth};
+ghost use Rattle.pipeline_values.specs.Longest.{longest_value};
+ghost use Rattle.pipeline_values.specs.Made.{counted, summed, made_count, longest_made, IsGrowth};
 
 use crate::change::Change;
 use crate::growth::{Growth, add, larger, times};
@@ -18,13 +19,13 @@ use sig_modifiers::{Test, Tests};
 use sig_strings::{Part, SharedPattern};
 use std::alloc::Global;
 
-/// A test that stays.
-fn one_test() -> Growth
-    ensures { IsGrowth 1 0 false result }
+/// A test that stays, whose pattern has so many parts.
+fn one_test(parts: usize) -> Growth
+    ensures { IsGrowth 1 parts false result }
 {
     Growth {
         tests: 1,
-        longest: 0,
+        longest: parts as u128,
         lacking: false,
     }
 }
@@ -63,12 +64,12 @@ fn longest_of(growth: Growth) -> u128
 #[tactic(auto, using(crate::proofs::Growing::stays_closed, crate::proofs::Growing::stays_unfilled, crate::proofs::Growing::is_filled))]
 fn measure_holes(alloc: Global, change: &Change, parts: &[Part]) -> Result<Growth, Fault>
     ensures ok { IfOk result (λ g. IsGrowth (made_count (changed.filled_if_chosen change.now.vars.now change.now.step.now.action parts.now))
-        (grown.longest_in (changed.filled_if_chosen change.now.vars.now change.now.step.now.action parts.now))
+        (longest_made parts.now (changed.filled_if_chosen change.now.vars.now change.now.step.now.action parts.now))
         (list_any (lacks_values change.now.vars.now change.now.step.now.action) parts.now) g) }
     ensures err { IfErr result (λ e. e ≡ Fault.Memory) }
 {
     if !change.has_chosen(alloc, parts)? {
-        return Ok(one_test());
+        return Ok(one_test(parts.len()));
     }
     let growth = measure_fillings(alloc, change, parts)?;
     let longest = longest_of(growth);
@@ -81,11 +82,11 @@ fn measure_holes(alloc: Global, change: &Change, parts: &[Part]) -> Result<Growt
 
 fn measure_mapped(alloc: Global, change: &Change, pattern: &SharedPattern) -> Result<Growth, Fault>
     ensures ok { IfOk result (λ g. IsGrowth (made_count (changed.mapped (spec.entries_of change.now.vars.now change.now.step.now.action) pattern.now))
-        (grown.longest_in (changed.mapped (spec.entries_of change.now.vars.now change.now.step.now.action) pattern.now)) false g) }
+        (longest_made pattern.now (changed.mapped (spec.entries_of change.now.vars.now change.now.step.now.action) pattern.now)) false g) }
     ensures err { IfErr result (λ e. e ≡ Fault.Memory) }
 {
     let Some(text) = pattern.plain_text(alloc)? else {
-        return Ok(one_test());
+        return Ok(one_test(pattern.parts().len()));
     };
     match change.entry_of(&text) {
         Some(entry) => Ok(Growth {
@@ -93,13 +94,13 @@ fn measure_mapped(alloc: Global, change: &Change, pattern: &SharedPattern) -> Re
             longest: entry.longest as u128,
             lacking: false,
         }),
-        None => Ok(one_test()),
+        None => Ok(one_test(pattern.parts().len())),
     }
 }
 
 fn measure_pattern(alloc: Global, change: &Change, pattern: &SharedPattern) -> Result<Growth, Fault>
     ensures ok { IfOk result (λ g. IsGrowth (made_count (changed.made_of change.now.vars.now change.now.step.now.action pattern.now))
-        (grown.longest_in (changed.made_of change.now.vars.now change.now.step.now.action pattern.now))
+        (longest_made pattern.now (changed.made_of change.now.vars.now change.now.step.now.action pattern.now))
         (grown.leaves_open change.now.vars.now change.now.step.now.action pattern.now) g) }
     ensures err { IfErr result (λ e. e ≡ Fault.Memory) }
 {
@@ -115,7 +116,7 @@ fn measure_pattern(alloc: Global, change: &Change, pattern: &SharedPattern) -> R
         | Action::Add { .. }
         | Action::Source(_)
         | Action::FailRule(_)
-        | Action::FailItem(_) => Ok(one_test()),
+        | Action::FailItem(_) => Ok(one_test(pattern.parts().len())),
     }
 }
 
@@ -123,7 +124,7 @@ fn measure_pattern(alloc: Global, change: &Change, pattern: &SharedPattern) -> R
 #[tactic(auto, using(crate::proofs::Growing::grown_test))]
 fn measure_test(alloc: Global, change: &Change, test: &Test) -> Result<Growth, Fault>
     ensures ok { IfOk result (λ g. IsGrowth (length (changed.changed_test change.now.vars.now change.now.step.now.action test.now))
-        (grown.longest_test change.now.vars.now change.now.step.now.action test.now)
+        (longest_value (changed.changed_test change.now.vars.now change.now.step.now.action test.now))
         (grown.is_open change.now.vars.now change.now.step.now.action test.now) g) }
     ensures err { IfErr result (λ e. e ≡ Fault.Memory) }
 {
@@ -135,15 +136,15 @@ fn measure_test(alloc: Global, change: &Change, test: &Test) -> Result<Growth, F
         | Test::Inside(_)
         | Test::Compare { .. }
         | Test::SameAs(_)
-        | Test::Finds { .. } => Ok(one_test()),
+        | Test::Finds { .. } => Ok(one_test(0)),
     }
 }
 
 /// What the tests of a value grow to.
-#[tactic(auto, using(crate::proofs::Sums::flat_turn, crate::proofs::Sums::largest_turn))]
+#[tactic(auto, using(crate::proofs::Sums::flat_turn, crate::proofs::Sums::longest_turn, crate::proofs::Sums::any_turn))]
 fn measure_value(alloc: Global, change: &Change, value: &[Test]) -> Result<Growth, Fault>
     ensures ok { IfOk result (λ g. IsGrowth (length (changed.changed_value change.now.vars.now change.now.step.now.action value.now))
-        (grown.longest_value change.now.vars.now change.now.step.now.action value.now)
+        (longest_value (changed.changed_value change.now.vars.now change.now.step.now.action value.now))
         (list_any (grown.is_open change.now.vars.now change.now.step.now.action) value.now) g) }
     ensures err { IfErr result (λ e. e ≡ Fault.Memory) }
 {
@@ -164,10 +165,10 @@ fn measure_value(alloc: Global, change: &Change, value: &[Test]) -> Result<Growt
 }
 
 /// What the values of an item grow to.
-#[tactic(auto, using(crate::proofs::Sums::sum_turn, crate::proofs::Sums::largest_turn))]
+#[tactic(auto, using(crate::proofs::Sums::sum_turn, crate::proofs::Sums::most_turn))]
 pub fn measure_values(alloc: Global, change: &Change, values: &[Tests]) -> Result<Growth, Fault>
     ensures ok { IfOk result (λ g. IsGrowth (total length (list_map (changed.changed_value change.now.vars.now change.now.step.now.action) values.now))
-        (spec.largest (grown.longest_value change.now.vars.now change.now.step.now.action) values.now)
+        (spec.largest longest_value (list_map (changed.changed_value change.now.vars.now change.now.step.now.action) values.now))
         (list_any (list_any (grown.is_open change.now.vars.now change.now.step.now.action)) values.now) g) }
     ensures err { IfErr result (λ e. e ≡ Fault.Memory) }
 {
@@ -187,13 +188,46 @@ pub fn measure_values(alloc: Global, change: &Change, values: &[Tests]) -> Resul
     })
 }
 
-/// How many tests values have.
-pub fn count_tests(values: &[Tests]) -> u128
-    ensures { result ≡ capped (values_count values.now) }
+fn part_count(test: &Test) -> u128
+    ensures { result ≡ capped (part_count_of test.now) }
 {
-    let mut count = 0;
-    for value in values {
-        count = add(count, value.as_slice().len() as u128);
+    match test {
+        Test::Fits { pattern, cased: _ } => pattern.parts().len() as u128,
+        Test::Absent
+        | Test::Exists(_)
+        | Test::Equals(_)
+        | Test::Inside(_)
+        | Test::Compare { .. }
+        | Test::SameAs(_)
+        | Test::Finds { .. } => 0,
     }
-    count
+}
+
+#[tactic(auto, using(crate::proofs::Sums::largest_turn))]
+fn longest_kept(value: &[Test]) -> u128
+    ensures { result ≡ capped (longest_value value.now) }
+{
+    let mut longest = 0;
+    for test in value {
+        longest = larger(longest, part_count(test));
+    }
+    longest
+}
+
+/// How many tests values have that stay, and how long their longest pattern is.
+#[tactic(auto, using(crate::proofs::Sums::largest_turn))]
+pub fn measure_kept(values: &[Tests]) -> Growth
+    ensures { IsGrowth (total length values.now) (spec.largest longest_value values.now) false result }
+{
+    let mut tests = 0;
+    let mut longest = 0;
+    for value in values {
+        tests = add(tests, value.as_slice().len() as u128);
+        longest = larger(longest, longest_kept(value.as_slice()));
+    }
+    Growth {
+        tests,
+        longest,
+        lacking: false,
+    }
 }

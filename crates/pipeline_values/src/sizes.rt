@@ -1,17 +1,21 @@
 //! How large a rule becomes, and whether it may.
 
-ghost use Rattle.std.specs.Prelude.{ℕ, ◌≡◌, ◌+◌, ◌&&◌, nat_le, max, length, map as list_map};
+ghost use Rattle.std.specs.Prelude.{ℕ, ◌≡◌, ◌+◌, ◌&&◌, nat_le, max, List, length, map as list_map};
 ghost use Rattle.sig_base.specs.Judged.{Judged};
-ghost use Rattle.pipeline_names.specs.Sizes.{total, in_detection, of_items, names_in, name_count, test_count};
+ghost use Rattle.pipeline_model.specs.declared.pipeline.Var.{Var};
+ghost use Rattle.pipeline_model.specs.declared.step.Step.{Step};
+ghost use Rattle.pipeline_names.specs.Sizes.{total, in_detection, of_items, names_in, name_count, test_count, has_room as has_room_of};
 ghost use Rattle.pipeline_values.specs.Changed as changed;
 ghost use Rattle.pipeline_values.specs.Counts.{capped};
 ghost use Rattle.pipeline_values.specs.Entries.{largest};
 ghost use Rattle.pipeline_values.specs.Grown as grown;
+ghost use Rattle.pipeline_values.specs.Longest as spec;
 ghost use Rattle.pipeline_values.specs.Made.{IsSize};
 
 use crate::change::Change;
 use crate::growth::{Size, add, larger};
-use crate::measuring::{count_tests, measure_values};
+use crate::measuring::{measure_kept, measure_values};
+use pipeline_names::detections_legal;
 use rule_items::{Alternative, Detection, Fields, Item};
 use sig_base::{Code, Fault, Limits, Place, refused};
 use std::alloc::Global;
@@ -51,14 +55,15 @@ fn both(one: Size, other: Size) -> Size
 fn measure_item(alloc: Global, change: &Change, item: &Item) -> Result<Size, Fault>
     ensures { Judged (λ s. IsSize (name_count (changed.changed_item change.now.vars.now change.now.step.now item.now))
         (test_count (changed.changed_item change.now.vars.now change.now.step.now item.now))
-        (grown.longest_item change.now.vars.now change.now.step.now item.now) s) (grown.open_item change.now.vars.now change.now.step.now item.now) result }
+        (spec.longest_item (changed.changed_item change.now.vars.now change.now.step.now item.now)) s) (grown.open_item change.now.vars.now change.now.step.now item.now) result }
 {
     let names = count_names(&item.fields);
     if !change.acts_on(&item.fields) {
+        let kept = measure_kept(item.tests.as_slice());
         return Ok(Size {
             names,
-            tests: count_tests(item.tests.as_slice()),
-            longest: 0,
+            tests: kept.tests,
+            longest: kept.longest,
         });
     }
     let growth = measure_values(alloc, change, item.tests.as_slice())?;
@@ -72,11 +77,11 @@ fn measure_item(alloc: Global, change: &Change, item: &Item) -> Result<Size, Fau
     })
 }
 
-#[tactic(auto, using(crate::proofs::Sums::sum_turn, crate::proofs::Sums::largest_turn))]
+#[tactic(auto, using(crate::proofs::Sums::sum_turn, crate::proofs::Sums::most_turn))]
 fn measure_items(alloc: Global, change: &Change, items: &[Item]) -> Result<Size, Fault>
     ensures { Judged (λ s. IsSize (total name_count (changed.changed_items change.now.vars.now change.now.step.now items.now))
         (total test_count (changed.changed_items change.now.vars.now change.now.step.now items.now))
-        (grown.longest_items change.now.vars.now change.now.step.now items.now) s) (grown.open_items change.now.vars.now change.now.step.now items.now) result }
+        (spec.longest_items (changed.changed_items change.now.vars.now change.now.step.now items.now)) s) (grown.open_items change.now.vars.now change.now.step.now items.now) result }
 {
     let mut size = nothing();
     for item in items {
@@ -88,12 +93,12 @@ fn measure_items(alloc: Global, change: &Change, items: &[Item]) -> Result<Size,
 fn measure_detection(alloc: Global, change: &Change, detection: &Detection) -> Result<Size, Fault>
     ensures { Judged (λ s. IsSize (in_detection name_count (changed.changed_detection change.now.vars.now change.now.step.now detection.now))
         (in_detection test_count (changed.changed_detection change.now.vars.now change.now.step.now detection.now))
-        (grown.longest_detection change.now.vars.now change.now.step.now detection.now) s) (grown.open_detection change.now.vars.now change.now.step.now detection.now) result }
+        (spec.longest_detection (changed.changed_detection change.now.vars.now change.now.step.now detection.now)) s) (grown.open_detection change.now.vars.now change.now.step.now detection.now) result }
 {
     measure_alternatives(alloc, change, detection.alternatives.as_slice())
 }
 
-#[tactic(auto, using(crate::proofs::Sums::sum_turn, crate::proofs::Sums::largest_turn))]
+#[tactic(auto, using(crate::proofs::Sums::sum_turn, crate::proofs::Sums::most_turn))]
 fn measure_alternatives(
     alloc: Global,
     change: &Change,
@@ -101,7 +106,7 @@ fn measure_alternatives(
 ) -> Result<Size, Fault>
     ensures { Judged (λ s. IsSize (total (total name_count) (list_map (changed.changed_items change.now.vars.now change.now.step.now) alternatives.now))
         (total (total test_count) (list_map (changed.changed_items change.now.vars.now change.now.step.now) alternatives.now))
-        (largest (grown.longest_items change.now.vars.now change.now.step.now) alternatives.now) s)
+        (largest spec.longest_items (list_map (changed.changed_items change.now.vars.now change.now.step.now) alternatives.now)) s)
         (grown.first_of (grown.open_items change.now.vars.now change.now.step.now) alternatives.now) result }
 {
     let mut size = nothing();
@@ -111,7 +116,7 @@ fn measure_alternatives(
     Ok(size)
 }
 
-#[tactic(auto, using(crate::proofs::Sums::sum_turn, crate::proofs::Sums::largest_turn))]
+#[tactic(auto, using(crate::proofs::Sums::sum_turn, crate::proofs::Sums::most_turn))]
 fn measure_detections(
     alloc: Global,
     change: &Change,
@@ -119,7 +124,7 @@ fn measure_detections(
 ) -> Result<Size, Fault>
     ensures { Judged (λ s. IsSize (of_items name_count (changed.changed_detections change.now.vars.now change.now.step.now detections.now))
         (of_items test_count (changed.changed_detections change.now.vars.now change.now.step.now detections.now))
-        (grown.longest_put change.now.vars.now change.now.step.now detections.now) s) (grown.open_refusal change.now.vars.now change.now.step.now detections.now) result }
+        (spec.longest_pattern (changed.changed_detections change.now.vars.now change.now.step.now detections.now)) s) (grown.open_refusal change.now.vars.now change.now.step.now detections.now) result }
 {
     let mut size = nothing();
     for detection in detections {
@@ -138,8 +143,17 @@ fn fits(limits: &Limits, size: Size) -> bool
         && size.longest <= limits.value_chars as u128
 }
 
+/// Whether there is room for the rule that a step makes of these detections, where that is so large. Its names are theirs.
+fn has_room(limits: &Limits, size: Size, detections: &[Detection]) -> bool
+    ensures { (vars : List Var) (step : Step) → IsSize (of_items name_count (changed.changed_detections vars step detections.now))
+        (of_items test_count (changed.changed_detections vars step detections.now)) (spec.longest_pattern (changed.changed_detections vars step detections.now)) size
+        → result ≡ has_room_of limits.now (changed.changed_detections vars step detections.now) }
+{
+    fits(limits, size) && detections_legal(detections)
+}
+
 /// Why a step refuses a rule: code 98 at the first item with a placeholder that is chosen and has no variable, and then code 99
-/// at the place, where the rule would grow too large.
+/// at the place, where the rule that it makes would be too large, or have a name that isn't legal.
 pub fn judge(
     alloc: Global,
     limits: &Limits,
@@ -150,7 +164,7 @@ pub fn judge(
     ensures { Judged (λ done. Unit {0}) (grown.change_refusal limits.now change.now.vars.now change.now.step.now place detections.now) result }
 {
     let size = measure_detections(alloc, change, detections)?;
-    if fits(limits, size) {
+    if has_room(limits, size, detections) {
         return Ok(());
     }
     Err(refused(Code::GROWN, place))

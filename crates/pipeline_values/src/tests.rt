@@ -63,7 +63,7 @@ map a=x~~n:#5/=a/ab~n:#5/=a/ab
 map =x~~n:~n:x
 map a=x@m~~n:a&m:a~n:a&m:x";
 
-/// Rows under limits of four names, four tests and four parts of a pattern.
+/// Rows under limits of four names, four tests and four parts of a pattern; behind them names that aren't legal.
 const GROWN: &str = "\
 fill~a=x,y~n:%a%%a%~n:xx/xy/yx/yy
 fill~a=x,y,z~n:%a%%a%~99 3 5
@@ -76,7 +76,21 @@ fill~a=ab~n:%a%%a%~n:abab
 fill~a=ab~n:x%a%%a%~99 3 5
 fill~a=x,abc~n:%a%%a%~99 3 5
 fill~a=\\*\\*\\*\\*~n:%a%~n:\\*\\*\\*\\*
-fill~a=x~n:abcdef~n:abcdef
+fill~a=x~n:abcd~n:abcd
+fill~a=x~n:abcde~99 3 5
+fill~a=x~n:%a%/abcde~99 3 5
+fill~a=x~n:%a%|b/abcde~99 3 5
+fill~a=x~*:abcde&n:%a%~99 3 5
+fill~a=~n:abcd%a%~n:abcd
+fill +a~a=~n:%a%b%c%d%e%~n:b<c>d<e>
+fill~a=x~n:%b%&m:abcde~98 6 5
+fill~a=x~n:=abcde/#5/%a%~n:=abcde/#5/x
+fill @n~a=x~n:%a%&m:abcd~n:x&m:abcd
+fill @n~a=x~n:%a%&m:abcde~99 3 5
+fill @n~a=x~m:%a%bcd~m:<a>bcd
+fill @n~a=x~m:%a%bcde~99 3 5
+fill @n~~m:1&m:1|2/!abcde~99 3 5
+fill @n~~m:=abcde/#5~m:=abcde/#5
 fill~a=x~n:%b%&m:1/2/3/4/5~98 6 5
 fill~a=x~n:1/2/3/4/5~99 3 5
 fill~~n,m,o,p:1~n,m,o,p:1
@@ -87,7 +101,18 @@ wild~~n:%a%%a%%a%%a%%a%~99 3 5
 map a=b,c,d,e~~n:a~n:b/c/d/e
 map a=b,c,d,e,f~~n:a~99 3 5
 map a=abcde~~n:a~99 3 5
-map a=abcde~~n:b~n:b";
+map a=abcde~~n:b~n:b
+map abcde=x~~n:abcde~n:x
+map abcde=x~~n:abcdef~99 3 5
+map abcde=x@m~~n:abcde~99 3 5
+wild~~n:abcd%a%~99 3 5
+wild @m~~n:%a%&m:%a%~n:<a>&m:*
+fill~a=x~p|q:%a%~99 3 5
+fill~a=x~:%a%~99 3 5
+fill~a=x~n:=p\u{7f}q/%a%~99 3 5
+fill @n~a=x~n:%a%&p\u{1f}q:1~99 3 5
+fill @n~a=x~n:%a%&m:=~99 3 5
+fill @n~~m,p\u{7f}q:1~99 3 5";
 
 fn at(line: u32, column: u32) -> Place {
     Place { line, column }

@@ -1,5 +1,8 @@
 use native.Mathlib.Omega.{arith}
-use Rattle.pipeline_values.proofs.Products.{counted_turn, summed_turn, lacks_turn}
+use Rattle.std.proofs.Common.{sym, ◌∙◌}
+use Rattle.pipeline_values.specs.Filled.{lacks_values}
+use Rattle.pipeline_values.proofs.Products.{counted_turn, summed_turn}
+use Rattle.pipeline_values.proofs.Sums.{any_turn}
 use Rattle.pipeline_values.proofs.measuring.measure_fillings.Goals as goal
 
 pub loop-part-preserved : goal.loop-part-preserved
@@ -13,6 +16,6 @@ loop-part-preserved c = record {
       summed_turn c.args.change.now.vars.now c.args.change.now.step.now.action c.args.parts.now c.loop-part.part-index c.part-item.result c.in_ok-filling.filling c.loop-part.longest c.longest.result _ c.loop-part.invariant.sum c.loop-part-test.true c.part-item.is c.in_ok-filling.ensures.ok
       c.longest.ensures c.add-longest.ensures;
   lacking =
-      lacks_turn c.args.change.now.vars.now c.args.change.now.step.now.action c.args.parts.now c.loop-part.part-index c.part-item.result c.in_ok-filling.filling c.loop-part.lacking _ c.loop-part.invariant.lacking c.loop-part-test.true c.part-item.is c.in_ok-filling.ensures.ok
-      c.is_missing-lacking.ensures;
+      any_turn (lacks_values c.args.change.now.vars.now c.args.change.now.step.now.action) c.args.parts.now c.loop-part.part-index c.part-item.result c.loop-part.lacking _ c.loop-part.invariant.lacking c.loop-part-test.true c.part-item.is
+      (c.is_missing-lacking.ensures ∙ sym c.in_ok-filling.ensures.ok.lacks);
 }

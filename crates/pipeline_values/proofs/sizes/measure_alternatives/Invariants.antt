@@ -3,7 +3,8 @@ use Rattle.pipeline_values.specs.Counts.{capped}
 use Rattle.pipeline_names.specs.Sizes.{total, name_count, test_count}
 use Rattle.pipeline_values.specs.Changed.{changed_items}
 use Rattle.pipeline_values.specs.Entries.{largest}
-use Rattle.pipeline_values.specs.Grown.{longest_items, open_items, first_of}
+use Rattle.pipeline_values.specs.Longest.{longest_items}
+use Rattle.pipeline_values.specs.Grown.{open_items, first_of}
 use Rattle.pipeline_values.proofs.sizes.measure_alternatives.Given as goal
 
 abbrev pub invariant-loop-items : goal.invariant-loop-items
@@ -13,6 +14,6 @@ invariant-loop-items l = record {
   short : l.size.longest ≤ 2 ^ 127 - 1;
   names : capped (l.size.names + total (total name_count) (map (changed_items l.change.vars.now l.change.step.now) (drop l.items-index l.alternatives))) ≡ capped (total (total name_count) (map (changed_items l.change.vars.now l.change.step.now) l.alternatives));
   tests : capped (l.size.tests + total (total test_count) (map (changed_items l.change.vars.now l.change.step.now) (drop l.items-index l.alternatives))) ≡ capped (total (total test_count) (map (changed_items l.change.vars.now l.change.step.now) l.alternatives));
-  most : capped (max l.size.longest (largest (longest_items l.change.vars.now l.change.step.now) (drop l.items-index l.alternatives))) ≡ capped (largest (longest_items l.change.vars.now l.change.step.now) l.alternatives);
+  most : capped (max l.size.longest (largest longest_items (map (changed_items l.change.vars.now l.change.step.now) (drop l.items-index l.alternatives)))) ≡ capped (largest longest_items (map (changed_items l.change.vars.now l.change.step.now) l.alternatives));
   first : first_of (open_items l.change.vars.now l.change.step.now) (drop l.items-index l.alternatives) ≡ first_of (open_items l.change.vars.now l.change.step.now) l.alternatives;
 }

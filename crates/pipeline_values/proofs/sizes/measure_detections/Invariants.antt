@@ -3,7 +3,8 @@ use Rattle.pipeline_values.specs.Counts.{capped}
 use Rattle.pipeline_names.specs.Sizes.{total, in_detection, name_count, test_count}
 use Rattle.pipeline_values.specs.Changed.{changed_detection}
 use Rattle.pipeline_values.specs.Entries.{largest}
-use Rattle.pipeline_values.specs.Grown.{longest_detection, open_detection, first_of}
+use Rattle.pipeline_values.specs.Longest.{longest_detection}
+use Rattle.pipeline_values.specs.Grown.{open_detection, first_of}
 use Rattle.pipeline_values.proofs.sizes.measure_detections.Given as goal
 
 abbrev pub invariant-loop-detection : goal.invariant-loop-detection
@@ -13,6 +14,6 @@ invariant-loop-detection l = record {
   short : l.size.longest ≤ 2 ^ 127 - 1;
   names : capped (l.size.names + total (in_detection name_count) (map (changed_detection l.change.vars.now l.change.step.now) (drop l.detection-index l.detections))) ≡ capped (total (in_detection name_count) (map (changed_detection l.change.vars.now l.change.step.now) l.detections));
   tests : capped (l.size.tests + total (in_detection test_count) (map (changed_detection l.change.vars.now l.change.step.now) (drop l.detection-index l.detections))) ≡ capped (total (in_detection test_count) (map (changed_detection l.change.vars.now l.change.step.now) l.detections));
-  most : capped (max l.size.longest (largest (longest_detection l.change.vars.now l.change.step.now) (drop l.detection-index l.detections))) ≡ capped (largest (longest_detection l.change.vars.now l.change.step.now) l.detections);
+  most : capped (max l.size.longest (largest longest_detection (map (changed_detection l.change.vars.now l.change.step.now) (drop l.detection-index l.detections)))) ≡ capped (largest longest_detection (map (changed_detection l.change.vars.now l.change.step.now) l.detections));
   first : first_of (open_detection l.change.vars.now l.change.step.now) (drop l.detection-index l.detections) ≡ first_of (open_detection l.change.vars.now l.change.step.now) l.detections;
 }
