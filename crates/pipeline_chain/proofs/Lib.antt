@@ -1,0 +1,6 @@
+mod Placing
+mod Turns
+mod Keeping
+mod WholeChain
+mod Heads
+mod Naming

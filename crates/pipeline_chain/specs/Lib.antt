@@ -1,0 +1,4 @@
+pub mod Chained
+pub mod Priorities
+pub mod Kept
+pub mod View
