@@ -9,7 +9,7 @@ use Rattle.clap.specs.Simple.{built, is_simple}
 use Rattle.command_words.specs.Given.{Word, is_among}
 use Rattle.command_words.specs.declared.command_name.Count.{Count}
 use Rattle.command_words.specs.declared.command_name.Count.TheVariants.{NoName}
-use Rattle.command_words.specs.Table.{Row, takes_names, backend, schema, check, convert, run, query}
+use Rattle.command_words.specs.Table.{Row, takes_names, backend, schema, pipeline, check, convert, run, query}
 use Rattle.command_words.proofs.Shapes.{file_id, option_rule, file_rule, shape_with, IsName, IsOption, HasFiles, Serves}
 use Rattle.command_words.specs.Apps.{app_with}
 
@@ -48,6 +48,9 @@ backend_name = record { alone = refl; both = λ v. refl; no_end = refl; no_end_b
 schema_name : IsName schema
 schema_name = record { alone = refl; both = λ v. refl; no_end = refl; no_end_both = λ v. refl; same = refl; other = refl; other_way = refl }
 
+pipeline_name : IsName pipeline
+pipeline_name = record { alone = refl; both = λ v. refl; no_end = refl; no_end_both = λ v. refl; same = refl; other = refl; other_way = refl }
+
 pub check_served : IsServed check
 check_served = record {
   simple = refl;
@@ -65,11 +68,16 @@ convert_served = record {
   simple = refl;
   built_is = refl;
   no_name = refl;
-  serves = serves_by (rules_of_row convert) (backend ∷ schema ∷ []) true
-      (record { required = true; by_long = refl; by_id = refl; name = backend_name }, (record { required = false; by_long = refl; by_id = refl; name = schema_name }, tt))
+  serves = serves_by (rules_of_row convert) (backend ∷ schema ∷ pipeline ∷ []) true (
+    record { required = true; by_long = refl; by_id = refl; name = backend_name },
+    (
+      record { required = false; by_long = refl; by_id = refl; name = schema_name },
+      (record { required = false; by_long = refl; by_id = refl; name = pipeline_name }, tt),
+    ),
+  )
       (λ e. record { by_index = refl; by_id = refl });
   free = refl;
-  defaults = (refl, (refl, (refl, tt)));
+  defaults = (refl, (refl, (refl, (refl, tt))));
   pass = refl;
   known = (refl, tt);
 }
@@ -79,9 +87,11 @@ run_served = record {
   simple = refl;
   built_is = refl;
   no_name = refl;
-  serves = serves_by (rules_of_row run) (schema ∷ []) true (record { required = false; by_long = refl; by_id = refl; name = schema_name }, tt) (λ e. record { by_index = refl; by_id = refl });
+  serves = serves_by (rules_of_row run) (schema ∷ pipeline ∷ []) true
+      (record { required = false; by_long = refl; by_id = refl; name = schema_name }, (record { required = false; by_long = refl; by_id = refl; name = pipeline_name }, tt))
+      (λ e. record { by_index = refl; by_id = refl });
   free = refl;
-  defaults = (refl, (refl, tt));
+  defaults = (refl, (refl, (refl, tt)));
   pass = refl;
   known = tt;
 }

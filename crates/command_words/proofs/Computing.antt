@@ -1,14 +1,14 @@
 -- The items that are read word by word are those that the words give.
 use Rattle.std.proofs.Common.{◌≡◌, ◌∙◌, ◌⊎◌, inl, inr, ℕ, ◌==◌, Bool, true, false, not, ◌&&◌, ◌||◌, List, [], ◌∷◌, ◌++◌, map, Option, Some, None, cond, refl, sym, ap, subst}
 use Rattle.std.specs.Prelude.{is_some, ◌↔◌}
-use Rattle.std.specs.List.{list_all, list_any, before_first, after_first}
+use Rattle.std.specs.List.{list_all, AllByRecursion, list_any, before_first, after_first}
 use Rattle.std.specs.Str.{bytes_eq}
 use Rattle.std.proofs.lemmas.Slice.Eq.{bytes_eq-Decides}
 use Rattle.clap.proofs.CutLemmas.{Lacks, list_any-Lacks, list_any-at, before_first-at, after_first-at}
 use Rattle.command_words.specs.Given.{Word, Item, named, file, is_value, is_nonempty, dashed, joined, is_among, less, Reads, nothing, apart, together, placed, ended, value_of, names_of}
 use Rattle.command_words.specs.Clean.{behind_dashes}
 use Rattle.command_words.specs.Computed.{before, with_value, word_items, items_of, items_apart, is_all, if_all, given}
-use Rattle.command_words.specs.Table.{Row, row_of, backend, schema, takes_names, are_enough, IsGiven}
+use Rattle.command_words.specs.Table.{Row, row_of, backend, schema, pipeline, takes_names, are_enough, IsGiven}
 use Rattle.command_words.specs.declared.command_name.CommandName.{CommandName}
 use Rattle.command_words.specs.declared.command_name.CommandName.TheVariants as commands
 use Rattle.command_words.proofs.Fresh.{and_left, and_right, still_among}
@@ -183,19 +183,25 @@ lacks_of text none = by (cut_of text) where
       let bad : true ≡ false = sym has ∙ none in
       absurd cc
 
--- an option that is the backend's or the schema's
-one_of_both : (x : Word) → is_among x (backend ∷ schema ∷ []) ≡ true → IsOptionName x
-one_of_both x e = by (bytes_eq backend x) refl (bytes_eq schema x) refl e where
-  by : (b : Bool) → bytes_eq backend x ≡ b → (c : Bool) → bytes_eq schema x ≡ c → (b || (c || false)) ≡ true → IsOptionName x
-  by true same c is e = subst IsOptionName ((bytes_eq-Decides backend x).0 same) (refl, lacks_of backend refl)
-  by false same true is e = subst IsOptionName ((bytes_eq-Decides schema x).0 is) (refl, lacks_of schema refl)
-  by false same false is e = absurd cc
+-- one of these options
+each_name : (names : List Word) → AllByRecursion IsOptionName names → (x : Word) → is_among x names ≡ true → IsOptionName x
+each_name [] all x e = absurd cc
+each_name (y ∷ ys) all x e = by (bytes_eq y x) refl (each_name ys all.1 x) where
+  by : (b : Bool) → bytes_eq y x ≡ b → (is_among x ys ≡ true → IsOptionName x) → IsOptionName x
+  by true same below = subst IsOptionName ((bytes_eq-Decides y x).0 same) all.0
+  by false same below = let h : is_among x ys ≡ true = rw same at e in below h
+
+plain_backend : IsOptionName backend
+plain_backend = (refl, lacks_of backend refl)
+
+plain_schema : IsOptionName schema
+plain_schema = (refl, lacks_of schema refl)
+
+plain_pipeline : IsOptionName pipeline
+plain_pipeline = (refl, lacks_of pipeline refl)
 
 pub plain_names : (command : CommandName) → AreNames ((row_of command).required ++ (row_of command).optional)
 plain_names commands.Check x e = absurd cc
-plain_names commands.Convert x e = one_of_both x e
-plain_names commands.Run x e = by (bytes_eq schema x) refl e where
-  by : (b : Bool) → bytes_eq schema x ≡ b → (b || false) ≡ true → IsOptionName x
-  by true same e = subst IsOptionName ((bytes_eq-Decides schema x).0 same) (refl, lacks_of schema refl)
-  by false same e = absurd cc
-plain_names commands.Query x e = one_of_both x e
+plain_names commands.Convert x e = each_name (backend ∷ schema ∷ pipeline ∷ []) (plain_backend, (plain_schema, (plain_pipeline, tt))) x e
+plain_names commands.Run x e = each_name (schema ∷ pipeline ∷ []) (plain_schema, (plain_pipeline, tt)) x e
+plain_names commands.Query x e = each_name (backend ∷ schema ∷ []) (plain_backend, (plain_schema, tt)) x e

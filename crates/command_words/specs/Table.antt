@@ -20,15 +20,18 @@ backend = codes "backend"
 abbrev pub schema : Word
 schema = codes "schema"
 
+abbrev pub pipeline : Word
+pipeline = codes "pipeline"
+
 -- a row for each command
 abbrev pub check : Row
 check = record { name = codes "check"; required = []; optional = []; files = SomeNames }
 
 abbrev pub convert : Row
-convert = record { name = codes "convert"; required = backend ∷ []; optional = schema ∷ []; files = SomeNames }
+convert = record { name = codes "convert"; required = backend ∷ []; optional = schema ∷ pipeline ∷ []; files = SomeNames }
 
 abbrev pub run : Row
-run = record { name = codes "run"; required = []; optional = schema ∷ []; files = OneName }
+run = record { name = codes "run"; required = []; optional = schema ∷ pipeline ∷ []; files = OneName }
 
 abbrev pub query : Row
 query = record { name = codes "query"; required = backend ∷ schema ∷ []; optional = []; files = OneName }

@@ -24,7 +24,7 @@ static NO_OPTIONS: [&str; 0] = [];
 
 static BACKEND: [&str; 1] = ["backend"];
 
-static SCHEMA: [&str; 1] = ["schema"];
+static SCHEMA_AND_PIPELINE: [&str; 2] = ["schema", "pipeline"];
 
 static BACKEND_AND_SCHEMA: [&str; 2] = ["backend", "schema"];
 
@@ -58,7 +58,7 @@ impl CommandName {
     {
         match self {
             CommandName::Check | CommandName::Query => NO_OPTIONS.as_slice(),
-            CommandName::Convert | CommandName::Run => SCHEMA.as_slice(),
+            CommandName::Convert | CommandName::Run => SCHEMA_AND_PIPELINE.as_slice(),
         }
     }
 

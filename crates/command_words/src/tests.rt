@@ -4,7 +4,7 @@ use crate::{CommandName, read};
 use std::alloc::Global;
 use std::test::Fail;
 
-/// What the words behind a command's name give: the backend, the schema, and the files with a `;` behind each.
+/// What the words behind a command's name give: the backend, the schema, the pipelines, and the files with a `;` behind each.
 fn told(alloc: Global, command: CommandName, words: &[&str]) -> Result<String, Fail> {
     let mut all = String::new(alloc);
     let Ok(Some(matches)) = read(alloc, command, words) else {
@@ -18,6 +18,11 @@ fn told(alloc: Global, command: CommandName, words: &[&str]) -> Result<String, F
     if let Some(schema) = matches.get_str("schema") {
         all.push_str("under ")?;
         all.push_str(schema)?;
+        all.push_str(": ")?;
+    }
+    if let Some(pipeline) = matches.get_str("pipeline") {
+        all.push_str("by ")?;
+        all.push_str(pipeline)?;
         all.push_str(": ")?;
     }
     if let Some(files) = matches.get_raw("FILE") {
@@ -135,6 +140,60 @@ fn words_with_a_schema(rt: HostRuntime) -> Result<(), Fail> {
 }
 
 #[test]
+fn words_with_pipelines(rt: HostRuntime) -> Result<(), Fail> {
+    let alloc = rt.alloc();
+    for (words, want) in [
+        (
+            ["--pipeline", "p.yml", "--backend", "sqlite", "r.yml"].as_slice(),
+            "sqlite: by p.yml: r.yml;",
+        ),
+        (
+            [
+                "a",
+                "--backend=sqlite",
+                "--pipeline=p",
+                "--schema",
+                "s",
+                "b",
+            ]
+            .as_slice(),
+            "sqlite: under s: by p: a;b;",
+        ),
+        (
+            [
+                "--pipeline",
+                "p",
+                "--backend=sqlite",
+                "--pipeline",
+                "p",
+                "r",
+            ]
+            .as_slice(),
+            "not taken",
+        ),
+        (
+            ["--pipeline", "p", "--backend=sqlite"].as_slice(),
+            "not taken",
+        ),
+        (
+            ["--backend=sqlite", "r", "--pipeline"].as_slice(),
+            "not taken",
+        ),
+        (
+            ["--pipeline=", "--backend=sqlite", "r"].as_slice(),
+            "not taken",
+        ),
+        (
+            ["--pipelines", "p", "--backend=sqlite", "r"].as_slice(),
+            "not taken",
+        ),
+    ] {
+        assert_eq!(rt; told(alloc, CommandName::Convert, words)?.as_str(), want);
+    }
+    Ok(())
+}
+
+#[test]
 fn words_of_check(rt: HostRuntime) -> Result<(), Fail> {
     let alloc = rt.alloc();
     for (words, want) in [
@@ -145,6 +204,7 @@ fn words_of_check(rt: HostRuntime) -> Result<(), Fail> {
         (["--"].as_slice(), "not taken"),
         (["--backend", "sqlite", "a"].as_slice(), "not taken"),
         (["--schema", "s", "a"].as_slice(), "not taken"),
+        (["--pipeline", "p", "a"].as_slice(), "not taken"),
         (["-h"].as_slice(), "not taken"),
     ] {
         assert_eq!(rt; told(alloc, CommandName::Check, words)?.as_str(), want);
@@ -166,6 +226,11 @@ fn words_of_run(rt: HostRuntime) -> Result<(), Fail> {
             "under s.json: r.yml;",
         ),
         (["--schema=s", "--", "-r"].as_slice(), "under s: -r;"),
+        (["r", "--pipeline", "p"].as_slice(), "by p: r;"),
+        (
+            ["--pipeline=p", "--schema=s", "r"].as_slice(),
+            "under s: by p: r;",
+        ),
         (["--schema", "s"].as_slice(), "not taken"),
         (["a", "b"].as_slice(), "not taken"),
         (["--", "a", "b"].as_slice(), "not taken"),
@@ -192,6 +257,10 @@ fn words_of_query(rt: HostRuntime) -> Result<(), Fail> {
         (
             ["--schema=s", "--backend=sqlite", "--", "-q"].as_slice(),
             "sqlite: under s: -q;",
+        ),
+        (
+            ["--backend=sqlite", "--schema=s", "--pipeline=p", "q"].as_slice(),
+            "not taken",
         ),
         (["--backend=sqlite", "q"].as_slice(), "not taken"),
         (["--schema=s", "q"].as_slice(), "not taken"),

@@ -17,7 +17,7 @@ use Rattle.value_patterns.specs.Expressions.{is_same_place}
 use Rattle.yaml_tree.specs.Tree.{Tree}
 
 -- What the builder refused of a document: the places of values and the texts of their regular expressions when the document was read, and
--- the places of items and the texts of theirs when the rule was made ready.
+-- the places of items and the texts of theirs when the rule that pipelines made of it was made ready.
 pub record Unbuilt : Type 0 where
   pub values : List Place
   pub refused_values : List (List ℕ)
@@ -47,17 +47,17 @@ ArePlacesOf Is refused places = AllZip (λ text place. Is (record { place = plac
 abbrev pub IsOneOf : List Expression → Expression → Type 0
 IsOneOf expressions expression = SomeOf (λ e. e ≡ expression) expressions
 
--- a regular expression of an item of the rule that a document is
-abbrev pub IsOfItem : Tree → Expression → Type 0
-IsOfItem t expression = (rule : PlainRule) × IsRule t rule × IsOneOf (rule_expressions rule) expression
+-- a regular expression of an item of what is made of the rule that a document is
+abbrev pub IsOfItem : (PlainRule → PlainRule → Type 0) → Tree → Expression → Type 0
+IsOfItem IsMade t expression = (rule : PlainRule) × IsRule t rule × (made : PlainRule) × IsMade rule made × IsOneOf (rule_expressions made) expression
 
 -- each of these regular expressions that the grammar doesn't read is among the texts that the builder refused
 abbrev pub AreIllRefused : List Expression → List (List ℕ) → Type 0
 AreIllRefused expressions refused = EachOf (λ e. is_pattern e.text ≡ false → IsAmong e.text refused) expressions
 
--- What these places and texts are: of each round its own. And where the document was answered to its end, the builder refused each regular
--- expression of its values that the grammar doesn't read.
-pub record AreUnbuilt (limits : Limits) (t : Tree) (ended : Bool) (unbuilt : Unbuilt) : Type 0 where
+-- What these places and texts are, of each round its own; `IsMade` says what is made of a rule. And where the document was answered to its
+-- end, the builder refused each regular expression of its values that the grammar doesn't read.
+pub record AreUnbuilt (IsMade : PlainRule → PlainRule → Type 0) (limits : Limits) (t : Tree) (ended : Bool) (unbuilt : Unbuilt) : Type 0 where
   pub values : ArePlacesOf (IsOneOf (document_expressions limits t)) unbuilt.refused_values unbuilt.values
-  pub items : ArePlacesOf (IsOfItem t) unbuilt.refused_items unbuilt.items
+  pub items : ArePlacesOf (IsOfItem IsMade t) unbuilt.refused_items unbuilt.items
   pub ill : ended ≡ true → AreIllRefused (document_expressions limits t) unbuilt.refused_values

@@ -1,5 +1,5 @@
 -- Why a rule has no query, line by line.
-use Rattle.std.proofs.Common.{ℕ, ◌≡◌, Bool, List, [], ◌∷◌, Option, Some, None, sym, subst, ◌∙◌, append-nil}
+use Rattle.std.proofs.Common.{ℕ, ◌≡◌, Bool, List, [], ◌∷◌, Option, Some, None, refl, sym, subst, ◌∙◌, append-nil}
 use Rattle.std.specs.Prelude.{min, ◌^◌, ◌-◌, option_map, Result, Ok, Err}
 use Rattle.backend_core.proofs.Checks.{parts, rest_decides, line_decides}
 use Rattle.backend_core.specs.Trees.{Plain}
@@ -7,6 +7,8 @@ use Rattle.backend_core.specs.Writing.{at_most, write_checks, write_refusal, Wri
 use Rattle.backend_core.specs.declared.lack.Lack.{Lack}
 use Rattle.backend_core.specs.declared.tree.Leaf.{Leaf}
 use Rattle.event_schema.specs.declared.schema.Schema.{Schema}
+use Rattle.pipeline_chain.specs.Chained.{run_pipelines, Makes, Gives}
+use Rattle.pipeline_model.specs.declared.pipeline.Pipeline.{Pipeline}
 use Rattle.rule_lowering.specs.Leaves.{leaves}
 use Rattle.rule_lowering.specs.Refused.{leaves_refusal}
 use Rattle.rule_lowering.specs.TreeOf.{tree_of}
@@ -19,10 +21,10 @@ use Rattle.rule_building.specs.Unbuilt.{Unbuilt, of_values, IsOneOf, IsOfItem, u
 use Rattle.rule_items.specs.declared.expression.Expression.{Expression}
 use Rattle.rule_model.specs.Expressions.{document_expressions, rule_expressions}
 use Rattle.rule_model.specs.Plain.{PlainRule, rule_with}
-use Rattle.rule_model.specs.Rules.{lone_refusal, IsRule}
+use Rattle.rule_model.specs.Rules.{lone_refusal, IsRule, IsLoneRule}
 use Rattle.rule_queries.specs.Queries.{rule_tree, query_under, query_of, query_refusal, filled_checks, checks_under, query_checks}
-use Rattle.rule_queries.specs.Rebuilt.{Rebuilt}
-use Rattle.rule_queries.specs.Verdicts.{CheckAnswers, ConvertAnswers, no_rule, no_query}
+use Rattle.rule_queries.specs.Rebuilt.{Rebuilt, IsUnmade, ForChained, makes_none, makes_one}
+use Rattle.rule_queries.specs.Verdicts.{CheckAnswers, ConvertAnswers, no_rule, not_made, no_query}
 use Rattle.rule_schema.specs.Inferred.{schema_for, open_refusal, made_refusal, fit_refusal}
 use Rattle.sig_base.proofs.Firsts.{judged_as}
 use Rattle.sig_base.specs.Judged.{first, Judged}
@@ -133,25 +135,33 @@ module _ (missing : Schema → Leaf → Option Lack) (text : Schema → Plain �
   given_none schema_of (Some x) unbuilt limits rule r none judged = absurd cc
 
   -- what a node's conversion answers
-  pub node_answers : (unbuilt : Unbuilt) (limits : Limits) (given : Option Schema) (t : Tree) (rule : PlainRule) (r : Result (List ℕ) Fault) → (lone_refusal unbuilt.values limits t ≡ None) × IsRule t rule
-      → Judged (λ bytes. bytes ≡ query_of text given rule) (query_refusal missing text too_deep unbuilt.items limits given rule) r → ConvertAnswers missing text too_deep unbuilt limits given t r
-  node_answers unbuilt limits given t rule (Ok bytes) is j = (rule, record { lone = record { taken = is.0; is = is.1 }; written = j.0 }, j.1)
-  node_answers unbuilt limits given t rule (Err Memory) is j = tt
-  node_answers unbuilt limits given t rule (Err (Refused r)) is j = no_query rule (record { taken = is.0; is = is.1 }) j
+  pub node_answers : (unbuilt : Unbuilt) (limits : Limits) (ps : List Pipeline) (given : Option Schema) (t : Tree) (rule made : PlainRule) (r : Result (List ℕ) Fault)
+      → IsLoneRule unbuilt.values limits t rule → Makes limits ps rule made
+      → Judged (λ bytes. bytes ≡ query_of text given made) (query_refusal missing text too_deep unbuilt.items limits given made) r → ConvertAnswers missing text too_deep unbuilt limits ps given t r
+  node_answers unbuilt limits ps given t rule made (Ok bytes) lone makes j = (made, record { rule = rule; lone = lone; makes = makes; written = j.0 }, j.1)
+  node_answers unbuilt limits ps given t rule made (Err Memory) lone makes j = tt
+  node_answers unbuilt limits ps given t rule made (Err (Refused r)) lone makes j = no_query rule made lone makes j
 
-  -- the same of a rule that was read without the other entries of its head, which no query asks for
-  pub bare_answers : (unbuilt : Unbuilt) (limits : Limits) (given : Option Schema) (t : Tree) (rest : List Member) (rule : PlainRule) (r : Result (List ℕ) Fault)
-      → (lone_refusal unbuilt.values limits t ≡ None) × IsRule t (rule_with rest rule)
-      → Judged (λ bytes. bytes ≡ query_of text given rule) (query_refusal missing text too_deep unbuilt.items limits given rule) r → ConvertAnswers missing text too_deep unbuilt limits given t r
+  -- the same of what is made of a rule that was read without the other entries of its head, which no query asks for
+  pub bare_answers : (unbuilt : Unbuilt) (limits : Limits) (ps : List Pipeline) (given : Option Schema) (t : Tree) (rest : List Member) (rule made : PlainRule) (r : Result (List ℕ) Fault)
+      → IsLoneRule unbuilt.values limits t (rule_with rest rule) → Makes limits ps (rule_with rest rule) (rule_with rest made)
+      → Judged (λ bytes. bytes ≡ query_of text given made) (query_refusal missing text too_deep unbuilt.items limits given made) r → ConvertAnswers missing text too_deep unbuilt limits ps given t r
   unfolding query_under rule_tree
-  bare_answers unbuilt limits None t rest rule r is j = node_answers unbuilt limits None t (rule_with rest rule) r is j
-  bare_answers unbuilt limits (Some schema) t rest rule r is j = node_answers unbuilt limits (Some schema) t (rule_with rest rule) r is j
+  bare_answers unbuilt limits ps None t rest rule made r lone makes j = node_answers unbuilt limits ps None t (rule_with rest rule) (rule_with rest made) r lone makes j
+  bare_answers unbuilt limits ps (Some schema) t rest rule made r lone makes j = node_answers unbuilt limits ps (Some schema) t (rule_with rest rule) (rule_with rest made) r lone makes j
+
+  -- no rule is made
+  pub unmade_answers : (unbuilt : Unbuilt) (limits : Limits) (ps : List Pipeline) (given : Option Schema) (t : Tree) (rule : PlainRule) (r : Result (List ℕ) Fault)
+      → IsLoneRule unbuilt.values limits t rule → IsUnmade (run_pipelines limits ps rule) r → ConvertAnswers missing text too_deep unbuilt limits ps given t r
+  unmade_answers unbuilt limits ps given t rule (Ok bytes) lone none = absurd none
+  unmade_answers unbuilt limits ps given t rule (Err Memory) lone none = tt
+  unmade_answers unbuilt limits ps given t rule (Err (Refused r)) lone none = not_made rule lone none
 
   -- no rule was read
-  pub unread_answers : {X : Type 0} (unbuilt : Unbuilt) (limits : Limits) (given : Option Schema) (t : Tree) (P : X → Type 0) (fault : Fault)
-      → Judged P (lone_refusal unbuilt.values limits t) (Err fault) → ConvertAnswers missing text too_deep unbuilt limits given t (Err fault)
-  unread_answers unbuilt limits given t P Memory j = tt
-  unread_answers unbuilt limits given t P (Refused r) j = no_rule j
+  pub unread_answers : {X : Type 0} (unbuilt : Unbuilt) (limits : Limits) (ps : List Pipeline) (given : Option Schema) (t : Tree) (P : X → Type 0) (fault : Fault)
+      → Judged P (lone_refusal unbuilt.values limits t) (Err fault) → ConvertAnswers missing text too_deep unbuilt limits ps given t (Err fault)
+  unread_answers unbuilt limits ps given t P Memory j = tt
+  unread_answers unbuilt limits ps given t P (Refused r) j = no_rule j
 
   -- a placeholder of the rule stands open
   pub stands_open : (limits : Limits) (given : Option Schema) (rule : PlainRule) (texts : List (List ℕ)) (r : Refusal) → open_refusal rule ≡ Some r
@@ -226,16 +236,17 @@ module _ (es : List Expression) where
       let at = built_at Is es before after r built in
       record { unbuilt = at.items; refused = at.refused; follows = at.follows; places = at.places; says = f at.items at.judged }
 
--- for a rule that was read of the document without the other entries of its head
-pub rebuilt_items : (t : Tree) (rest : List Member) (rule : PlainRule) (values : List Place) (before after : List (List ℕ)) (P : List Place → Type 0) (Q : Unbuilt → Type 0) → IsRule t (rule_with rest rule)
+-- for a rule that was made of the document's
+pub rebuilt_items : (IsMade : PlainRule → PlainRule → Type 0) (t : Tree) (rule made : PlainRule) (values : List Place) (before after : List (List ℕ)) (P : List Place → Type 0) (Q : Unbuilt → Type 0)
+    → IsRule t rule → IsMade rule made
     → ((earlier refused : List (List ℕ)) (items : List Place) → P items → Q (record { values = values; refused_values = earlier; items = items; refused_items = refused }))
-    → Rebuilt (rule_expressions rule) before after P → ForItems t values before after Q
-rebuilt_items t rest rule values before after P Q is f h = record {
+    → Rebuilt (rule_expressions made) before after P → ForItems IsMade t values before after Q
+rebuilt_items IsMade t rule made values before after P Q is makes f h = record {
   items = h.unbuilt;
   refused = h.refused;
   follows = h.follows;
-  are = zip_map (λ text place. IsOneOf (rule_expressions rule) (record { place = place; text = text })) (λ text place. IsOfItem t (record { place = place; text = text }))
-      (λ text place one. (rule_with rest rule, is, one)) h.refused h.unbuilt h.places;
+  are = zip_map (λ text place. IsOneOf (rule_expressions made) (record { place = place; text = text })) (λ text place. IsOfItem IsMade t (record { place = place; text = text }))
+      (λ text place one. (rule, is, made, makes, one)) h.refused h.unbuilt h.places;
   says = λ earlier. f earlier h.refused h.unbuilt h.says;
 }
 
@@ -243,42 +254,72 @@ rebuilt_items t rest rule values before after P Q is f h = record {
 
 module _ (limits : Limits) (t : Tree) (values slice : List Place) (same : slice ≡ values) (before mid : List (List ℕ))
     (found : FoundUnbuilt (document_expressions limits t) before mid (Ok values)) where
-  pub node_converted : (after : List (List ℕ)) (ended : Bool) (Says : Unbuilt → Type 0) → ForItems t slice mid after Says → ForUnbuilt limits t before after ended Says
-  node_converted after ended Says h =
-      found_items limits t values before mid after ended Says found (subst (λ (places : List Place). ForItems t places mid after Says) same h)
+  pub node_converted : (IsMade : PlainRule → PlainRule → Type 0) (after : List (List ℕ)) (ended : Bool) (Says : Unbuilt → Type 0)
+      → ForItems IsMade t slice mid after Says → ForUnbuilt IsMade limits t before after ended Says
+  node_converted IsMade after ended Says h =
+      found_items IsMade limits t values before mid after ended Says found (subst (λ (places : List Place). ForItems IsMade t places mid after Says) same h)
 
   pub node_checked : (r : Result Place Fault) → ((earlier : List (List ℕ)) → CheckAnswers (of_values slice earlier) limits t r)
-      → ForUnbuilt limits t before mid (is_answered r) (λ unbuilt. CheckAnswers unbuilt limits t r)
+      → ForUnbuilt (Makes limits []) limits t before mid (is_answered r) (λ unbuilt. CheckAnswers unbuilt limits t r)
   node_checked r h =
-      found_only limits t values before mid (is_answered r) (λ unbuilt. CheckAnswers unbuilt limits t r) found
+      found_only (Makes limits []) limits t values before mid (is_answered r) (λ unbuilt. CheckAnswers unbuilt limits t r) found
       (subst (λ (places : List Place). (earlier : List (List ℕ)) → CheckAnswers (of_values places earlier) limits t r) same h)
 
 -- the places aren't found, for want of memory
 pub none_checked : (limits : Limits) (t : Tree) (before after : List (List ℕ)) (fault : Fault) → FoundUnbuilt (document_expressions limits t) before after (Err fault)
-    → ForUnbuilt limits t before after (is_answered {X = Place} (Err fault)) (λ unbuilt. CheckAnswers unbuilt limits t (Err fault))
+    → ForUnbuilt (Makes limits []) limits t before after (is_answered {X = Place} (Err fault)) (λ unbuilt. CheckAnswers unbuilt limits t (Err fault))
 none_checked limits t before after fault found =
-    found_none limits t {X = Place} before after (λ unbuilt r. CheckAnswers unbuilt limits t r) fault found (λ unbuilt. tt)
+    found_none (Makes limits []) limits t {X = Place} before after (λ unbuilt r. CheckAnswers unbuilt limits t r) fault found (λ unbuilt. tt)
 
+-- what pipelines make of a rule, with the other entries of its head
+abbrev MadeWith : Limits → List Pipeline → Type 0
+MadeWith limits ps = (rest : List Member) (rule made : PlainRule) → Makes limits ps rule made → Makes limits ps (rule_with rest rule) (rule_with rest made)
+
+abbrev RefusedWith : Limits → List Pipeline → Type 0
+RefusedWith limits ps = (rest : List Member) (rule : PlainRule) (r : Refusal) → run_pipelines limits ps rule ≡ Err r → run_pipelines limits ps (rule_with rest rule) ≡ Err r
+
+-- no rule is made of one
 module _ (missing : Schema → Leaf → Option Lack) (text : Schema → Plain → List ℕ) (too_deep : Limits → Schema → Plain → Place → Option Refusal) where
-  pub none_converted : (limits : Limits) (given : Option Schema) (t : Tree) (before after : List (List ℕ)) (fault : Fault) → FoundUnbuilt (document_expressions limits t) before after (Err fault)
-      → ForUnbuilt limits t before after (is_answered {X = List ℕ} (Err fault)) (λ unbuilt. ConvertAnswers missing text too_deep unbuilt limits given t (Err fault))
-  none_converted limits given t before after fault found =
-      found_none limits t {X = List ℕ} before after (λ unbuilt r. ConvertAnswers missing text too_deep unbuilt limits given t r) fault found (λ unbuilt. tt)
+  pub chain_unmade : (limits : Limits) (ps : List Pipeline) (given : Option Schema) (rule : PlainRule) (texts : List (List ℕ)) (fault : Fault) → Gives (run_pipelines limits ps rule) (Err fault)
+      → ForChained missing text too_deep limits ps given rule texts texts (Err fault)
+  chain_unmade limits ps given rule texts Memory gives = makes_none tt refl
+  chain_unmade limits ps given rule texts (Refused r) gives = makes_none gives refl
+
+unmade_with : (limits : Limits) (ps : List Pipeline) (rest : List Member) (rule : PlainRule) (r : Result (List ℕ) Fault) → RefusedWith limits ps
+    → IsUnmade (run_pipelines limits ps rule) r → IsUnmade (run_pipelines limits ps (rule_with rest rule)) r
+unmade_with limits ps rest rule (Ok bytes) kept none = none
+unmade_with limits ps rest rule (Err Memory) kept none = none
+unmade_with limits ps rest rule (Err (Refused r)) kept none = kept rest rule r none
+
+module _ (missing : Schema → Leaf → Option Lack) (text : Schema → Plain → List ℕ) (too_deep : Limits → Schema → Plain → Place → Option Refusal) (limits : Limits) (ps : List Pipeline)
+    (given : Option Schema) (t : Tree) where
+  abbrev Answered : Result (List ℕ) Fault → Unbuilt → Type 0
+  Answered r unbuilt = ConvertAnswers missing text too_deep unbuilt limits ps given t r
+
+  pub none_converted : (before after : List (List ℕ)) (fault : Fault) → FoundUnbuilt (document_expressions limits t) before after (Err fault)
+      → ForUnbuilt (Makes limits ps) limits t before after (is_answered {X = List ℕ} (Err fault)) (Answered (Err fault))
+  none_converted before after fault found =
+      found_none (Makes limits ps) limits t {X = List ℕ} before after (λ unbuilt r. Answered r unbuilt) fault found (λ unbuilt. tt)
 
   -- no rule was read of the document
-  pub none_read : {X : Type 0} (limits : Limits) (given : Option Schema) (t : Tree) (values : List Place) (texts : List (List ℕ)) (P : X → Type 0) (fault : Fault)
-      → Judged P (lone_refusal values limits t) (Err fault)
-      → ForItems t values texts texts (λ places. ConvertAnswers missing text too_deep places limits given t (Err fault))
-  none_read limits given t values texts P fault judged =
-      no_items limits t values texts (λ places. ConvertAnswers missing text too_deep places limits given t (Err fault))
-      (λ earlier. unread_answers missing text too_deep (of_values values earlier) limits given t P fault judged)
+  pub none_read : {X : Type 0} (values : List Place) (texts : List (List ℕ)) (P : X → Type 0) (fault : Fault)
+      → Judged P (lone_refusal values limits t) (Err fault) → ForItems (Makes limits ps) t values texts texts (Answered (Err fault))
+  none_read values texts P fault judged =
+      no_items (Makes limits ps) limits t values texts (Answered (Err fault))
+      (λ earlier. unread_answers missing text too_deep (of_values values earlier) limits ps given t P fault judged)
 
-  -- a rule was read of it, and converted
-  pub one_read : (limits : Limits) (given : Option Schema) (t : Tree) (rest : List Member) (rule : PlainRule)
-      (values : List Place) (before after : List (List ℕ)) (r : Result (List ℕ) Fault) → (lone_refusal values limits t ≡ None) × IsRule t (rule_with rest rule)
-      → Rebuilt (rule_expressions rule) before after (λ items. Judged (λ bytes. bytes ≡ query_of text given rule) (query_refusal missing text too_deep items limits given rule) r)
-      → ForItems t values before after (λ places. ConvertAnswers missing text too_deep places limits given t r)
-  one_read limits given t rest rule values before after r is h =
-      rebuilt_items t rest rule values before after (λ items. Judged (λ bytes. bytes ≡ query_of text given rule) (query_refusal missing text too_deep items limits given rule) r)
-      (λ places. ConvertAnswers missing text too_deep places limits given t r) is.1
-      (λ earlier refused items judged. bare_answers missing text too_deep (record { values = values; refused_values = earlier; items = items; refused_items = refused }) limits given t rest rule r is judged) h
+  -- a rule was read of it, and what pipelines make of it is converted
+  pub one_read : (rest : List Member) (rule : PlainRule) (values : List Place) (before after : List (List ℕ)) (r : Result (List ℕ) Fault) → MadeWith limits ps → RefusedWith limits ps
+      → (lone_refusal values limits t ≡ None) × IsRule t (rule_with rest rule) → ForChained missing text too_deep limits ps given rule before after r
+      → ForItems (Makes limits ps) t values before after (Answered r)
+  one_read rest rule values before after r made_with refused_with is (makes_none none same) =
+      subst (λ (texts : List (List ℕ)). ForItems (Makes limits ps) t values before texts (Answered r)) (sym same)
+      (no_items (Makes limits ps) limits t values before (Answered r)
+      (λ earlier. unmade_answers missing text too_deep (of_values values earlier) limits ps given t (rule_with rest rule) r (record { taken = is.0; is = is.1 })
+      (unmade_with limits ps rest rule r refused_with none)))
+  one_read rest rule values before after r made_with refused_with is (makes_one made so h) =
+      let with_rest = made_with rest rule made so in
+      rebuilt_items (Makes limits ps) t (rule_with rest rule) (rule_with rest made) values before after
+      (λ items. Judged (λ bytes. bytes ≡ query_of text given made) (query_refusal missing text too_deep items limits given made) r) (Answered r) is.1 with_rest
+      (λ earlier refused items judged. bare_answers missing text too_deep (record { values = values; refused_values = earlier; items = items; refused_items = refused }) limits ps given t rest rule made r
+      (record { taken = is.0; is = is.1 }) with_rest judged) h

@@ -11,9 +11,13 @@ use Rattle.backend_core.specs.Writing.{write_refusal}
 use Rattle.backend_core.specs.declared.lack.Lack.{Lack}
 use Rattle.backend_core.specs.declared.tree.Leaf.{Leaf}
 use Rattle.event_schema.specs.Events.{IsEvent}
+use Rattle.event_schema.specs.Lists.{EachOf}
 use Rattle.event_schema.specs.Schemas.{AreApart, IsSchema, names_of}
 use Rattle.event_schema.specs.declared.schema.Schema.{Schema}
 use Rattle.event_schema.specs.declared.value.Value.{Value}
+use Rattle.pipeline_chain.specs.Chained.{Makes}
+use Rattle.pipeline_chain.specs.Kept.{IsWholePipeline}
+use Rattle.pipeline_model.specs.declared.pipeline.Pipeline.{Pipeline}
 use Rattle.rule_lowering.specs.TreeOf.{tree_of}
 use Rattle.rule_matching.specs.Matching.{Matches}
 use Rattle.rule_building.specs.Unbuilt.{Unbuilt}
@@ -33,6 +37,9 @@ use Rattle.yaml_tree.specs.Tree.{Tree}
 
 abbrev WholeRules : Type 0
 WholeRules = (unbuilt : List Place) (limits : Limits) (t : Tree) (rule : PlainRule) → rule_refusal unbuilt limits t ≡ None → IsRule t rule → HasScalarTexts t → IsWhole rule
+
+abbrev StayWhole : Type 0
+StayWhole = (limits : Limits) (ps : List Pipeline) (rule made : PlainRule) → EachOf IsWholePipeline ps → IsWhole rule → Makes limits ps rule made → IsWhole made
 
 abbrev TreesMean : Type 0
 TreesMean = (schema : Schema) (rule : PlainRule) (row : List (List Value)) → IsWhole rule → fit_refusal schema rule ≡ None → IsEvent schema.fields row
@@ -65,21 +72,22 @@ module _ (missing : Schema → Leaf → Option Lack) (text : Schema → Plain �
       → write_refusal missing text too_deep limits schema t place ≡ None
       → Means is_query is_within picks limits schema (λ row. TreeHolds row t) (text schema t)
 
-  pub query_means : WholeRules → TreesMean → TreesSound → TextsMean
-      → (unbuilt : Unbuilt) (limits : Limits) (given : Option Schema) (t : Tree) (rule : PlainRule) → IfSome given IsSchema → HasScalarTexts t
-      → IsConverted missing text too_deep unbuilt limits given t rule → Converts is_query is_within picks limits given rule (query_of text given rule)
+  pub query_means : WholeRules → StayWhole → TreesMean → TreesSound → TextsMean
+      → (unbuilt : Unbuilt) (limits : Limits) (ps : List Pipeline) (given : Option Schema) (t : Tree) (made : PlainRule) → IfSome given IsSchema → HasScalarTexts t
+      → EachOf IsWholePipeline ps → IsConverted missing text too_deep unbuilt limits ps given t made → Converts is_query is_within picks limits given made (query_of text given made)
   unfolding query_under rule_tree
-  query_means wholes means sounds texts_mean unbuilt limits given t rule is texts converted =
-      let lines = no_line missing text too_deep unbuilt.items limits given rule converted.written in
+  query_means wholes stay means sounds texts_mean unbuilt limits ps given t made is texts whole_ps converted =
+      let lines = no_line missing text too_deep unbuilt.items limits given made converted.written in
       let taken = (parts (correlation_refusal t) (rule_refusal unbuilt.values limits t ∷ []) converted.lone.taken).1 in
-      let whole = wholes unbuilt.values limits t rule (parts (rule_refusal unbuilt.values limits t) [] taken).0 converted.lone.is texts in
-      let schema = schema_for given rule in
-      let sound = sounds schema rule whole lines.filled lines.fits in
-      let query = texts_mean limits schema (tree_of schema rule) rule.head.place (schema_named given rule is whole lines.made) sound lines.written in
+      let rule_whole = wholes unbuilt.values limits t converted.rule (parts (rule_refusal unbuilt.values limits t) [] taken).0 converted.lone.is texts in
+      let whole = stay limits ps converted.rule made whole_ps rule_whole converted.makes in
+      let schema = schema_for given made in
+      let sound = sounds schema made whole lines.filled lines.fits in
+      let query = texts_mean limits schema (tree_of schema made) made.head.place (schema_named given made is whole lines.made) sound lines.written in
       record {
         query = query.query;
         reads = query.reads;
         within = query.within;
         only = query.only;
-        selects = λ row event. both_ways (query.selects row event) (means schema rule row whole lines.fits event);
+        selects = λ row event. both_ways (query.selects row event) (means schema made row whole lines.fits event);
       }

@@ -13,6 +13,7 @@ use Rattle.lucene_queries.specs.Queries as lucene_queries
 use Rattle.lucene_writer.specs.Lacking.{lucene_lacks}
 use Rattle.lucene_writer.specs.Queries as lucene
 use Rattle.lucene_writer.specs.Refused as lucene_refused
+use Rattle.pipeline_model.specs.declared.pipeline.Pipeline.{Pipeline}
 use Rattle.rule_building.specs.Unbuilt.{Unbuilt}
 use Rattle.rule_model.specs.Plain.{PlainRule}
 use Rattle.rule_queries.specs.Queries as queries
@@ -81,11 +82,11 @@ query_refusal backend unbuilt limits given rule = queries.query_refusal (missing
 abbrev pub Converts : BackendName → Limits → Option Schema → PlainRule → List ℕ → Type 0
 Converts backend limits given rule bytes = queries.Converts (is_query backend) (is_within backend) (picks backend) limits given rule bytes
 
-abbrev pub IsConverted : BackendName → Unbuilt → Limits → Option Schema → Tree → PlainRule → Type 0
-IsConverted backend unbuilt limits given t rule = verdicts.IsConverted (missing backend) (text backend) (too_deep backend) unbuilt limits given t rule
+abbrev pub IsConverted : BackendName → Unbuilt → Limits → List Pipeline → Option Schema → Tree → PlainRule → Type 0
+IsConverted backend unbuilt limits ps given t made = verdicts.IsConverted (missing backend) (text backend) (too_deep backend) unbuilt limits ps given t made
 
-abbrev pub IsRefused : BackendName → Unbuilt → Limits → Option Schema → Tree → Refusal → Type 0
-IsRefused backend unbuilt limits given t refusal = verdicts.IsRefused (missing backend) (text backend) (too_deep backend) unbuilt limits given t refusal
+abbrev pub IsRefused : BackendName → Unbuilt → Limits → List Pipeline → Option Schema → Tree → Refusal → Type 0
+IsRefused backend unbuilt limits ps given t refusal = verdicts.IsRefused (missing backend) (text backend) (too_deep backend) unbuilt limits ps given t refusal
 
-abbrev pub ConvertAnswers : BackendName → Unbuilt → Limits → Option Schema → Tree → Result (List ℕ) Fault → Type 0
-ConvertAnswers backend unbuilt limits given t result = verdicts.ConvertAnswers (missing backend) (text backend) (too_deep backend) unbuilt limits given t result
+abbrev pub ConvertAnswers : BackendName → Unbuilt → Limits → List Pipeline → Option Schema → Tree → Result (List ℕ) Fault → Type 0
+ConvertAnswers backend unbuilt limits ps given t result = verdicts.ConvertAnswers (missing backend) (text backend) (too_deep backend) unbuilt limits ps given t result

@@ -1,9 +1,12 @@
 //! Nodes of documents as rules, and rules as queries.
 
-ghost use Rattle.std.specs.Prelude.{◌≡◌, ◌∷◌, List, ℕ, None, option_map};
+ghost use Rattle.std.specs.Prelude.{◌≡◌, ◌∷◌, [], List, ℕ, None, option_map};
 ghost use Rattle.backend_core.specs.Sound.{IsSound};
 ghost use Rattle.backend_core.specs.View.{tree_view};
 ghost use Rattle.backend_core.specs.Writing.{write_checks};
+ghost use Rattle.event_schema.specs.Lists.{EachOf};
+ghost use Rattle.pipeline_chain.specs.Chained.{Makes};
+ghost use Rattle.pipeline_chain.specs.Kept.{IsWholePipeline};
 ghost use Rattle.rule_building.specs.ForUnbuilt.{ForItems, ForUnbuilt, is_answered};
 ghost use Rattle.rule_building.specs.Unbuilt.{of_values, unbuilt_refusal};
 ghost use Rattle.rule_model.specs.Expressions.{rule_expressions};
@@ -11,7 +14,7 @@ ghost use Rattle.rule_schema.specs.Inferred.{fit_refusal, open_refusal};
 ghost use Rattle.rule_model.specs.Plain.{rule_view};
 ghost use Rattle.rule_model.specs.Whole.{IsWhole};
 ghost use Rattle.rule_queries.specs.Queries.{query_of, query_under, query_refusal, filled_checks, checks_under, query_checks};
-ghost use Rattle.rule_queries.specs.Rebuilt.{Rebuilt};
+ghost use Rattle.rule_queries.specs.Rebuilt.{Rebuilt, ForChained};
 ghost use Rattle.rule_queries.specs.Verdicts.{ConvertAnswers, CheckAnswers};
 ghost use Rattle.sig_base.specs.Judged.{Judged, first};
 ghost use Rattle.yaml_tree.specs.View.{node_view};
@@ -19,6 +22,8 @@ ghost use Rattle.yaml_tree.specs.View.{node_view};
 use backend_core::{Backend, Tree};
 use event_schema::Schema;
 use languages::Builder;
+use pipeline_chain::run_pipelines;
+use pipeline_model::Pipeline;
 use rule_building::{build_items, find_unbuilt};
 use rule_lowering::lower;
 use rule_model::Rule;
@@ -148,24 +153,28 @@ fn convert_rule<B: Backend, C: Builder>(
     }
 }
 
-/// The query of the rule that a node is, under the given schema or else the one that is made of the rule. What is refused is
-/// refused as `Rule::read_lone` says, and then 98, 80 (where no schema is given), 81, 82 or 83, 110, 48, 111, 112 or 113, and 114.
+/// The query of the rule that pipelines make of the one that a node is, under the given schema or else the one that is made of that rule.
+/// The pipelines are run as they stand here; `pipeline_chain::by_priority` puts them in their order. What is refused is refused as `Rule::read_lone` says, as `run_pipelines` says, and then 98, 80 (where no schema is given), 81, 82 or
+/// 83, 110, 48, 111, 112 or 113, and 114.
 pub fn convert_node<B: Backend, C: Builder>(
     backend: &B,
     alloc: Global,
     limits: &Limits,
+    pipelines: &[Pipeline],
     given: Option<&Schema>,
     node: &Node,
     builder: &mut C,
 ) -> Result<Bytes, Fault>
-    ensures { ForUnbuilt limits.now (node_view node.now) (C.refused builder.old) (C.refused builder.new) (is_answered result)
-        (λ unbuilt. ConvertAnswers B.missing B.text B.too_deep unbuilt limits.now (option_map (λ s. s.now) given.entry) (node_view node.now) result) }
+    requires { EachOf IsWholePipeline pipelines.now }
+    ensures { ForUnbuilt (Makes limits.now pipelines.now) limits.now (node_view node.now) (C.refused builder.old) (C.refused builder.new) (is_answered result)
+        (λ unbuilt. ConvertAnswers B.missing B.text B.too_deep unbuilt limits.now pipelines.now (option_map (λ s. s.now) given.entry) (node_view node.now) result) }
 {
     match find_unbuilt(alloc, limits, node, builder) {
         Ok(unbuilt) => convert_read(
             backend,
             alloc,
             limits,
+            pipelines,
             given,
             unbuilt.as_slice(),
             node,
@@ -180,16 +189,40 @@ fn convert_read<B: Backend, C: Builder>(
     backend: &B,
     alloc: Global,
     limits: &Limits,
+    pipelines: &[Pipeline],
     given: Option<&Schema>,
     unbuilt: &[Place],
     node: &Node,
     builder: &mut C,
 ) -> Result<Bytes, Fault>
-    ensures { ForItems (node_view node.now) unbuilt.now (C.refused builder.old) (C.refused builder.new)
-        (λ places. ConvertAnswers B.missing B.text B.too_deep places limits.now (option_map (λ s. s.now) given.entry) (node_view node.now) result) }
+    requires { EachOf IsWholePipeline pipelines.now }
+    ensures { ForItems (Makes limits.now pipelines.now) (node_view node.now) unbuilt.now (C.refused builder.old) (C.refused builder.new)
+        (λ places. ConvertAnswers B.missing B.text B.too_deep places limits.now pipelines.now (option_map (λ s. s.now) given.entry) (node_view node.now) result) }
 {
+    pipeline_chain::heads_are_kept();
     match Rule::read_lone(alloc, limits, unbuilt, node) {
-        Ok(rule) => convert_rule(backend, alloc, limits, &rule, given, builder),
+        Ok(rule) => convert_chained(backend, alloc, limits, pipelines, given, rule, builder),
+        Err(fault) => Err(fault),
+    }
+}
+
+/// The query of the rule that pipelines make of a rule.
+fn convert_chained<B: Backend, C: Builder>(
+    backend: &B,
+    alloc: Global,
+    limits: &Limits,
+    pipelines: &[Pipeline],
+    given: Option<&Schema>,
+    rule: Rule,
+    builder: &mut C,
+) -> Result<Bytes, Fault>
+    requires pipelines { EachOf IsWholePipeline pipelines.now }
+    requires rule { IsWhole (rule_view rule) }
+    ensures { ForChained B.missing B.text B.too_deep limits.now pipelines.now (option_map (λ s. s.now) given.entry) (rule_view rule) (C.refused builder.old) (C.refused builder.new) result }
+{
+    pipeline_chain::whole_rules_stay_whole();
+    match run_pipelines(alloc, limits, pipelines, rule) {
+        Ok(made) => convert_rule(backend, alloc, limits, &made, given, builder),
         Err(fault) => Err(fault),
     }
 }
@@ -201,7 +234,7 @@ pub fn check_node<C: Builder>(
     node: &Node,
     builder: &mut C,
 ) -> Result<Place, Fault>
-    ensures { ForUnbuilt limits.now (node_view node.now) (C.refused builder.old) (C.refused builder.new) (is_answered result)
+    ensures { ForUnbuilt (Makes limits.now []) limits.now (node_view node.now) (C.refused builder.old) (C.refused builder.new) (is_answered result)
         (λ unbuilt. CheckAnswers unbuilt limits.now (node_view node.now) result) }
 {
     match find_unbuilt(alloc, limits, node, builder) {

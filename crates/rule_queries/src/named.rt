@@ -1,8 +1,12 @@
 //! Rules converted by a backend that goes by its name, and what their queries mean.
 
-ghost use Rattle.std.specs.Prelude.{Option, IfSome, option_map};
+ghost use Rattle.std.specs.Prelude.{List, Option, IfSome, option_map};
+ghost use Rattle.event_schema.specs.Lists.{EachOf};
 ghost use Rattle.event_schema.specs.Schemas.{IsSchema};
 ghost use Rattle.event_schema.specs.declared.schema.Schema.{Schema as SchemaData};
+ghost use Rattle.pipeline_chain.specs.Chained.{Makes};
+ghost use Rattle.pipeline_chain.specs.Kept.{IsWholePipeline};
+ghost use Rattle.pipeline_model.specs.declared.pipeline.Pipeline.{Pipeline as PipelineData};
 ghost use Rattle.rule_building.specs.ForUnbuilt.{ForUnbuilt, is_answered};
 ghost use Rattle.rule_building.specs.Unbuilt.{Unbuilt};
 ghost use Rattle.rule_model.specs.Plain.{PlainRule};
@@ -18,6 +22,7 @@ use crate::{converting, law};
 use event_schema::Schema;
 use languages::Builder;
 use lucene_writer::LuceneText;
+use pipeline_model::Pipeline;
 use sig_base::{Bytes, Fault, Limits};
 use sqlite_writer::Sqlite;
 use std::alloc::Global;
@@ -28,21 +33,24 @@ pub fn convert_node<C: Builder>(
     backend: BackendName,
     alloc: Global,
     limits: &Limits,
+    pipelines: &[Pipeline],
     given: Option<&Schema>,
     node: &Node,
     builder: &mut C,
 ) -> Result<Bytes, Fault>
-    ensures { ForUnbuilt limits.now (node_view node.now) (C.refused builder.old) (C.refused builder.new) (is_answered result)
-        (λ unbuilt. ConvertAnswers backend unbuilt limits.now (option_map (λ s. s.now) given.entry) (node_view node.now) result) }
+    requires { EachOf IsWholePipeline pipelines.now }
+    ensures { ForUnbuilt (Makes limits.now pipelines.now) limits.now (node_view node.now) (C.refused builder.old) (C.refused builder.new) (is_answered result)
+        (λ unbuilt. ConvertAnswers backend unbuilt limits.now pipelines.now (option_map (λ s. s.now) given.entry) (node_view node.now) result) }
 {
     match backend {
         BackendName::Sqlite => converting::convert_node(
-            &Sqlite, alloc, limits, given, node, builder,
+            &Sqlite, alloc, limits, pipelines, given, node, builder,
         ),
         BackendName::Lucene => converting::convert_node(
             &LuceneText,
             alloc,
             limits,
+            pipelines,
             given,
             node,
             builder,
@@ -52,8 +60,8 @@ pub fn convert_node<C: Builder>(
 
 /// The query of each rule that has one means the rule, whichever the backend.
 pub fn queries_mean_rules()
-    ensures { (backend : NameData) (unbuilt : Unbuilt) (limits : LimitsData) (given : Option SchemaData) (t : Tree) (rule : PlainRule) → IfSome given IsSchema
-        → HasScalarTexts t → IsConverted backend unbuilt limits given t rule → Converts backend limits given rule (query_of backend given rule) }
+    ensures { (backend : NameData) (unbuilt : Unbuilt) (limits : LimitsData) (ps : List PipelineData) (given : Option SchemaData) (t : Tree) (made : PlainRule) → IfSome given IsSchema
+        → HasScalarTexts t → EachOf IsWholePipeline ps → IsConverted backend unbuilt limits ps given t made → Converts backend limits given made (query_of backend given made) }
 {
     law::queries_mean_rules::<Sqlite>();
     law::queries_mean_rules::<LuceneText>();

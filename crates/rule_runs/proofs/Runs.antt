@@ -2,6 +2,8 @@
 use Rattle.std.proofs.Common.{◌≡◌, ℕ, Bool, true, false, List, [], ◌∷◌, refl, ap, sym, ◌∙◌, subst, append-nil, Option, Some, None, Result, Ok, Err, inl, inr}
 use Rattle.std.specs.Prelude.{◌⊎◌}
 use Rattle.event_schema.specs.declared.schema.Schema.{Schema}
+use Rattle.pipeline_chain.specs.Chained.{run_pipelines, Makes, Gives}
+use Rattle.pipeline_model.specs.declared.pipeline.Pipeline.{Pipeline}
 use Rattle.rule_building.specs.Building.{FoundUnbuilt}
 use Rattle.rule_building.specs.ForUnbuilt.{is_answered}
 use Rattle.rule_building.specs.Unbuilt.{Unbuilt, none_unbuilt, of_values, AreUnbuilt, unbuilt_refusal}
@@ -12,7 +14,7 @@ use Rattle.rule_model.specs.declared.rule.Rule.{Rule}
 use Rattle.rule_runs.specs.Answers.{Answers, ForTree, ForDocuments, ForValues, IsBare}
 use Rattle.rule_runs.specs.Files.{yaml_refusal, single_tree}
 use Rattle.rule_runs.specs.Laws.{EachRun}
-use Rattle.rule_runs.specs.Runs.{AreDocuments, IsOnly, IsNoneOnly, no_tree, no_rule, IsSingleRule, IsFilledRule, IsNoSingleRule, as_one, by_document, IsFit, IsUnfit, no_single, unfit, IsRun, IsNotRun, no_fit, not_built, AreOfTree, AreOfSingle}
+use Rattle.rule_runs.specs.Runs.{AreDocuments, IsOnly, IsNoneOnly, no_tree, no_rule, IsSingleRule, IsMadeRule, IsNoMadeRule, no_single, unmade, IsFilledRule, IsNoSingleRule, as_one, by_document, IsFit, IsUnfit, no_made, unfit, IsRun, IsNotRun, no_fit, not_built, AreOfTree, AreOfSingle}
 use Rattle.rule_schema.specs.Inferred.{open_refusal, unfit_refusal, schema_refusal, fit_refusal, inferred_schema}
 use Rattle.sig_base.specs.declared.limits.Limits.{Limits}
 use Rattle.sig_base.specs.Judged.{Judged, first}
@@ -61,31 +63,45 @@ each_single each read values limits bytes = by (read limits.file_bytes limits.do
     by (inl (documents, taken)) = judged documents taken (each_only each values limits documents)
     by (inr (p, is)) = inr (yaml_refusal p, as_one p is refl)
 
-each_fit : EachLone → yaml.EachVerdict → (values : List Place) (limits : Limits) (given : Option Schema) (bytes : List ℕ)
-    → ((rule : PlainRule) × IsFit values limits given bytes rule) ⊎ ((r : Refusal) × IsUnfit values limits given bytes r)
-each_fit each read values limits given bytes = by (each_single each read values limits bytes)
+each_made : EachLone → yaml.EachVerdict → (values : List Place) (limits : Limits) (ps : List Pipeline) (bytes : List ℕ)
+    → ((made : PlainRule) × IsMadeRule values limits ps bytes made) ⊎ ((r : Refusal) × IsNoMadeRule values limits ps bytes r)
+each_made each read values limits ps bytes = by (each_single each read values limits bytes)
   where
-    fitted : (rule : PlainRule) → IsSingleRule values limits bytes rule → (o : Option Refusal) → unfit_refusal given rule ≡ o
-        → ((rule : PlainRule) × IsFit values limits given bytes rule) ⊎ ((r : Refusal) × IsUnfit values limits given bytes r)
-    fitted rule single None is = inl (rule, record { single = single; fits = is })
-    fitted rule single (Some r) is = inr (r, unfit rule single is)
+    run : (rule : PlainRule) → IsSingleRule values limits bytes rule → (result : Result PlainRule Refusal) → run_pipelines limits ps rule ≡ result
+        → ((made : PlainRule) × IsMadeRule values limits ps bytes made) ⊎ ((r : Refusal) × IsNoMadeRule values limits ps bytes r)
+    run rule single (Ok made) is = inl (made, record { rule = rule; single = single; makes = is })
+    run rule single (Err r) is = inr (r, unmade rule single is)
 
     by : ((rule : PlainRule) × IsSingleRule values limits bytes rule) ⊎ ((r : Refusal) × IsNoSingleRule values limits bytes r)
-        → ((rule : PlainRule) × IsFit values limits given bytes rule) ⊎ ((r : Refusal) × IsUnfit values limits given bytes r)
-    by (inl (rule, single)) = fitted rule single (unfit_refusal given rule) refl
+        → ((made : PlainRule) × IsMadeRule values limits ps bytes made) ⊎ ((r : Refusal) × IsNoMadeRule values limits ps bytes r)
+    by (inl (rule, single)) = run rule single (run_pipelines limits ps rule) refl
     by (inr (r, is)) = inr (r, no_single is)
 
-pub each_run : EachLone → yaml.EachVerdict → EachRun
-each_run each read unbuilt limits given bytes = by (each_fit each read unbuilt.values limits given bytes)
+each_fit : EachLone → yaml.EachVerdict → (values : List Place) (limits : Limits) (ps : List Pipeline) (given : Option Schema) (bytes : List ℕ)
+    → ((made : PlainRule) × IsFit values limits ps given bytes made) ⊎ ((r : Refusal) × IsUnfit values limits ps given bytes r)
+each_fit each read values limits ps given bytes = by (each_made each read values limits ps bytes)
   where
-    built : (rule : PlainRule) → IsFit unbuilt.values limits given bytes rule → (o : Option Refusal) → unbuilt_refusal unbuilt.items (rule_expressions rule) ≡ o
-        → ((rule : PlainRule) × IsRun unbuilt limits given bytes rule) ⊎ ((r : Refusal) × IsNotRun unbuilt limits given bytes r)
-    built rule fit None is = inl (rule, record { fit = fit; built = is })
-    built rule fit (Some r) is = inr (r, not_built rule fit is)
+    fitted : (made : PlainRule) → IsMadeRule values limits ps bytes made → (o : Option Refusal) → unfit_refusal given made ≡ o
+        → ((made : PlainRule) × IsFit values limits ps given bytes made) ⊎ ((r : Refusal) × IsUnfit values limits ps given bytes r)
+    fitted made rule None is = inl (made, record { rule = rule; fits = is })
+    fitted made rule (Some r) is = inr (r, unfit made rule is)
 
-    by : ((rule : PlainRule) × IsFit unbuilt.values limits given bytes rule) ⊎ ((r : Refusal) × IsUnfit unbuilt.values limits given bytes r)
-        → ((rule : PlainRule) × IsRun unbuilt limits given bytes rule) ⊎ ((r : Refusal) × IsNotRun unbuilt limits given bytes r)
-    by (inl (rule, fit)) = built rule fit (unbuilt_refusal unbuilt.items (rule_expressions rule)) refl
+    by : ((made : PlainRule) × IsMadeRule values limits ps bytes made) ⊎ ((r : Refusal) × IsNoMadeRule values limits ps bytes r)
+        → ((made : PlainRule) × IsFit values limits ps given bytes made) ⊎ ((r : Refusal) × IsUnfit values limits ps given bytes r)
+    by (inl (made, rule)) = fitted made rule (unfit_refusal given made) refl
+    by (inr (r, is)) = inr (r, no_made is)
+
+pub each_run : EachLone → yaml.EachVerdict → EachRun
+each_run each read unbuilt limits ps given bytes = by (each_fit each read unbuilt.values limits ps given bytes)
+  where
+    built : (made : PlainRule) → IsFit unbuilt.values limits ps given bytes made → (o : Option Refusal) → unbuilt_refusal unbuilt.items (rule_expressions made) ≡ o
+        → ((made : PlainRule) × IsRun unbuilt limits ps given bytes made) ⊎ ((r : Refusal) × IsNotRun unbuilt limits ps given bytes r)
+    built made fit None is = inl (made, record { fit = fit; built = is })
+    built made fit (Some r) is = inr (r, not_built made fit is)
+
+    by : ((made : PlainRule) × IsFit unbuilt.values limits ps given bytes made) ⊎ ((r : Refusal) × IsUnfit unbuilt.values limits ps given bytes r)
+        → ((made : PlainRule) × IsRun unbuilt limits ps given bytes made) ⊎ ((r : Refusal) × IsNotRun unbuilt limits ps given bytes r)
+    by (inl (made, fit)) = built made fit (unbuilt_refusal unbuilt.items (rule_expressions made)) refl
     by (inr (r, is)) = inr (r, no_fit is)
 
 -- ---- one
@@ -112,6 +128,30 @@ not_both : (result : Result Tree Refusal) (t : Tree) (r : Refusal) → result �
 not_both result t r first second = apart (sym first ∙ second)
   where
     apart : ok t ≡ err r → ⊥
+    apart same = cc
+
+abbrev made_ok : PlainRule → Result PlainRule Refusal
+made_ok made = Ok made
+
+abbrev made_err : Refusal → Result PlainRule Refusal
+made_err r = Err r
+
+made_is : (result : Result PlainRule Refusal) (a b : PlainRule) → result ≡ Ok a → result ≡ Ok b → a ≡ b
+made_is result a b first second = by (sym first ∙ second)
+  where
+    by : made_ok a ≡ made_ok b → a ≡ b
+    by same = cc
+
+unmade_is : (result : Result PlainRule Refusal) (a b : Refusal) → result ≡ Err a → result ≡ Err b → a ≡ b
+unmade_is result a b first second = by (sym first ∙ second)
+  where
+    by : made_err a ≡ made_err b → a ≡ b
+    by same = cc
+
+made_not_err : (result : Result PlainRule Refusal) (made : PlainRule) (r : Refusal) → result ≡ Ok made → result ≡ Err r → ⊥
+made_not_err result made r first second = apart (sym first ∙ second)
+  where
+    apart : made_ok made ≡ made_err r → ⊥
     apart same = cc
 
 some_is : (o : Option Refusal) (a b : Refusal) → o ≡ Some a → o ≡ Some b → a ≡ b
@@ -156,6 +196,10 @@ module _ (one : OneLone) (limits : Limits) where
         one_only u v first.documents a b first.only
         (subst (λ (ds : List Answer). IsOnly v limits ds b) (same_documents second.documents first.documents second.taken first.taken) second.only)
 
+    pub one_made : (ps : List Pipeline) (u v : List Place) (a b : PlainRule) → IsMadeRule u limits ps bytes a → IsMadeRule v limits ps bytes b → a ≡ b
+    one_made ps u v a b first second =
+        made_is (run_pipelines limits ps first.rule) a b first.makes (ap (run_pipelines limits ps) (one_single u v first.rule second.rule first.single second.single) ∙ second.makes)
+
     module _ (values : List Place) where
       single_never : (rule : PlainRule) (r : Refusal) → IsSingleRule values limits bytes rule → IsNoSingleRule values limits bytes r → ⊥
       single_never rule r single (as_one p is same) = never limits.file_bytes limits.documents limits.yaml_depth bytes single.documents p single.taken is
@@ -170,35 +214,48 @@ module _ (one : OneLone) (limits : Limits) where
       single_cause a b (by_document documents taken none) (by_document others others_taken none_too) =
           none_one values documents a b none (subst (λ (ds : List Answer). IsNoneOnly values limits ds b) (same_documents others documents others_taken taken) none_too)
 
-      module _ (given : Option Schema) where
-        fit_never : (rule : PlainRule) (r : Refusal) → IsFit values limits given bytes rule → IsUnfit values limits given bytes r → ⊥
-        fit_never rule r fit (no_single is) = single_never rule r fit.single is
-        fit_never rule r fit (unfit other single is) =
-            not_none (unfit_refusal given other) r (ap (unfit_refusal given) (one_single values values other rule single fit.single) ∙ fit.fits) is
+      module _ (ps : List Pipeline) where
+        made_never : (made : PlainRule) (r : Refusal) → IsMadeRule values limits ps bytes made → IsNoMadeRule values limits ps bytes r → ⊥
+        made_never made r rule (no_single is) = single_never rule.rule r rule.single is
+        made_never made r rule (unmade other single is) =
+            made_not_err (run_pipelines limits ps other) made r (ap (run_pipelines limits ps) (one_single values values other rule.rule single rule.single) ∙ rule.makes) is
 
-        unfit_cause : (a b : Refusal) → IsUnfit values limits given bytes a → IsUnfit values limits given bytes b → a ≡ b
-        unfit_cause a b (no_single is) (no_single too) = single_cause a b is too
-        unfit_cause a b (no_single is) (unfit rule single too) = absurd (single_never rule a single is)
-        unfit_cause a b (unfit rule single is) (no_single too) = absurd (single_never rule b single too)
-        unfit_cause a b (unfit rule single is) (unfit other other_single too) =
-            some_is (unfit_refusal given rule) a b is (ap (unfit_refusal given) (one_single values values rule other single other_single) ∙ too)
+        made_cause : (a b : Refusal) → IsNoMadeRule values limits ps bytes a → IsNoMadeRule values limits ps bytes b → a ≡ b
+        made_cause a b (no_single is) (no_single too) = single_cause a b is too
+        made_cause a b (no_single is) (unmade rule single too) = absurd (single_never rule a single is)
+        made_cause a b (unmade rule single is) (no_single too) = absurd (single_never rule b single too)
+        made_cause a b (unmade rule single is) (unmade other other_single too) =
+            unmade_is (run_pipelines limits ps rule) a b is (ap (run_pipelines limits ps) (one_single values values rule other single other_single) ∙ too)
 
-    module _ (unbuilt : Unbuilt) (given : Option Schema) where
+      module _ (ps : List Pipeline) (given : Option Schema) where
+        fit_never : (made : PlainRule) (r : Refusal) → IsFit values limits ps given bytes made → IsUnfit values limits ps given bytes r → ⊥
+        fit_never made r fit (no_made is) = made_never ps made r fit.rule is
+        fit_never made r fit (unfit other rule is) =
+            not_none (unfit_refusal given other) r (ap (unfit_refusal given) (one_made ps values values other made rule fit.rule) ∙ fit.fits) is
+
+        unfit_cause : (a b : Refusal) → IsUnfit values limits ps given bytes a → IsUnfit values limits ps given bytes b → a ≡ b
+        unfit_cause a b (no_made is) (no_made too) = made_cause ps a b is too
+        unfit_cause a b (no_made is) (unfit made rule too) = absurd (made_never ps made a rule is)
+        unfit_cause a b (unfit made rule is) (no_made too) = absurd (made_never ps made b rule too)
+        unfit_cause a b (unfit made rule is) (unfit other other_rule too) =
+            some_is (unfit_refusal given made) a b is (ap (unfit_refusal given) (one_made ps values values made other rule other_rule) ∙ too)
+
+    module _ (unbuilt : Unbuilt) (ps : List Pipeline) (given : Option Schema) where
       abbrev line : PlainRule → Option Refusal
-      line rule = unbuilt_refusal unbuilt.items (rule_expressions rule)
+      line made = unbuilt_refusal unbuilt.items (rule_expressions made)
 
-      one_fit : (a b : PlainRule) → IsFit unbuilt.values limits given bytes a → IsFit unbuilt.values limits given bytes b → a ≡ b
-      one_fit a b first second = one_single unbuilt.values unbuilt.values a b first.single second.single
+      one_fit : (a b : PlainRule) → IsFit unbuilt.values limits ps given bytes a → IsFit unbuilt.values limits ps given bytes b → a ≡ b
+      one_fit a b first second = one_made ps unbuilt.values unbuilt.values a b first.rule second.rule
 
-      pub run_never : (rule : PlainRule) (r : Refusal) → IsRun unbuilt limits given bytes rule → IsNotRun unbuilt limits given bytes r → ⊥
-      run_never rule r run (no_fit is) = fit_never unbuilt.values given rule r run.fit is
-      run_never rule r run (not_built other fit is) = not_none (line other) r (ap line (one_fit other rule fit run.fit) ∙ run.built) is
+      pub run_never : (made : PlainRule) (r : Refusal) → IsRun unbuilt limits ps given bytes made → IsNotRun unbuilt limits ps given bytes r → ⊥
+      run_never made r run (no_fit is) = fit_never unbuilt.values ps given made r run.fit is
+      run_never made r run (not_built other fit is) = not_none (line other) r (ap line (one_fit other made fit run.fit) ∙ run.built) is
 
-      pub run_cause : (a b : Refusal) → IsNotRun unbuilt limits given bytes a → IsNotRun unbuilt limits given bytes b → a ≡ b
-      run_cause a b (no_fit is) (no_fit too) = unfit_cause unbuilt.values given a b is too
-      run_cause a b (no_fit is) (not_built rule fit too) = absurd (fit_never unbuilt.values given rule a fit is)
-      run_cause a b (not_built rule fit is) (no_fit too) = absurd (fit_never unbuilt.values given rule b fit too)
-      run_cause a b (not_built rule fit is) (not_built other other_fit too) = some_is (line rule) a b is (ap line (one_fit rule other fit other_fit) ∙ too)
+      pub run_cause : (a b : Refusal) → IsNotRun unbuilt limits ps given bytes a → IsNotRun unbuilt limits ps given bytes b → a ≡ b
+      run_cause a b (no_fit is) (no_fit too) = unfit_cause unbuilt.values ps given a b is too
+      run_cause a b (no_fit is) (not_built made fit too) = absurd (fit_never unbuilt.values ps given made a fit is)
+      run_cause a b (not_built made fit is) (no_fit too) = absurd (fit_never unbuilt.values ps given made b fit too)
+      run_cause a b (not_built made fit is) (not_built other other_fit too) = some_is (line made) a b is (ap line (one_fit made other fit other_fit) ∙ too)
 
 -- ---- what the readers answer
 
@@ -227,12 +284,6 @@ file_answers values limits bytes (Refused r) (plain, is) = as_one (r.code, recor
 
 -- ---- the file as a rule, and whether it fits
 
--- what is no single rule is none that fits
-pub isnt_single : {X Y : Type 0} (values : List Place) (limits : Limits) (given : Option Schema) (bytes : List ℕ) (P : X → Type 0) (Q : Y → Type 0) (fault : Fault)
-    → Answers {X = X} P (IsNoSingleRule values limits bytes) (Err fault) → Answers {X = Y} Q (IsUnfit values limits given bytes) (Err fault)
-isnt_single values limits given bytes P Q Memory answers = tt
-isnt_single values limits given bytes P Q (Refused r) answers = no_single answers
-
 first_is : (o a b : Option Refusal) (r : Refusal) → o ≡ Some r → first (o ∷ a ∷ b ∷ []) ≡ Some r
 first_is o a b r is = rw is refl
 
@@ -246,52 +297,52 @@ pub none_is : (o a b : Option Refusal) → o ≡ None → a ≡ None → b ≡ N
 none_is o a b filled none also = rw (filled, none, also) refl
 
 -- a placeholder of the rule stands open, whatever schema is given
-isnt_filled : (values : List Place) (limits : Limits) (bytes : List ℕ) (rule : Rule) (r : Refusal) → IsBare (IsSingleRule values limits bytes) rule
-    → open_refusal (rule_view rule) ≡ Some r → (given : Option Schema) → IsUnfit values limits given bytes r
-isnt_filled values limits bytes rule r (rest, single) is None =
-    unfit (rule_with rest (rule_view rule)) single
+isnt_filled : (values : List Place) (limits : Limits) (ps : List Pipeline) (bytes : List ℕ) (rule : Rule) (r : Refusal) → IsBare (IsMadeRule values limits ps bytes) rule
+    → open_refusal (rule_view rule) ≡ Some r → (given : Option Schema) → IsUnfit values limits ps given bytes r
+isnt_filled values limits ps bytes rule r (rest, made) is None =
+    unfit (rule_with rest (rule_view rule)) made
     (first_is (open_refusal (rule_view rule)) (schema_refusal (rule_view rule)) (fit_refusal (inferred_schema (rule_view rule)) (rule_view rule)) r is)
-isnt_filled values limits bytes rule r (rest, single) is (Some schema) =
-    unfit (rule_with rest (rule_view rule)) single (first_is (open_refusal (rule_view rule)) None (fit_refusal schema (rule_view rule)) r is)
+isnt_filled values limits ps bytes rule r (rest, made) is (Some schema) =
+    unfit (rule_with rest (rule_view rule)) made (first_is (open_refusal (rule_view rule)) None (fit_refusal schema (rule_view rule)) r is)
 
 -- no schema is made of the rule
-pub isnt_made : {X Y : Type 0} (values : List Place) (limits : Limits) (bytes : List ℕ) (rule : Rule) (P : X → Type 0) (Q : Y → Type 0) (fault : Fault) → IsBare (IsFilledRule values limits bytes) rule
-    → Judged {X = X} P (schema_refusal (rule_view rule)) (Err fault) → Answers {X = Y} Q (IsUnfit values limits None bytes) (Err fault)
-isnt_made values limits bytes rule P Q Memory is_filled judged = tt
-isnt_made values limits bytes rule P Q (Refused r) (rest, is_filled) is =
-    unfit (rule_with rest (rule_view rule)) is_filled.single
+pub isnt_made : {X Y : Type 0} (values : List Place) (limits : Limits) (ps : List Pipeline) (bytes : List ℕ) (rule : Rule) (P : X → Type 0) (Q : Y → Type 0) (fault : Fault) → IsBare (IsFilledRule values limits ps bytes) rule
+    → Judged {X = X} P (schema_refusal (rule_view rule)) (Err fault) → Answers {X = Y} Q (IsUnfit values limits ps None bytes) (Err fault)
+isnt_made values limits ps bytes rule P Q Memory is_filled judged = tt
+isnt_made values limits ps bytes rule P Q (Refused r) (rest, is_filled) is =
+    unfit (rule_with rest (rule_view rule)) is_filled.rule
     (second_is (open_refusal (rule_view rule)) (schema_refusal (rule_view rule)) (fit_refusal (inferred_schema (rule_view rule)) (rule_view rule)) r is_filled.filled is)
 
 -- the rule doesn't fit the given schema
-pub isnt_fit : (values : List Place) (limits : Limits) (schema : Schema) (bytes : List ℕ) (rule : Rule) (r : Refusal) → IsBare (IsFilledRule values limits bytes) rule → fit_refusal schema (rule_view rule) ≡ Some r
-    → IsUnfit values limits (Some schema) bytes r
-isnt_fit values limits schema bytes rule r (rest, is_filled) is =
-    unfit (rule_with rest (rule_view rule)) is_filled.single (third_is (open_refusal (rule_view rule)) None (fit_refusal schema (rule_view rule)) r is_filled.filled refl is)
+pub isnt_fit : (values : List Place) (limits : Limits) (ps : List Pipeline) (schema : Schema) (bytes : List ℕ) (rule : Rule) (r : Refusal) → IsBare (IsFilledRule values limits ps bytes) rule → fit_refusal schema (rule_view rule) ≡ Some r
+    → IsUnfit values limits ps (Some schema) bytes r
+isnt_fit values limits ps schema bytes rule r (rest, is_filled) is =
+    unfit (rule_with rest (rule_view rule)) is_filled.rule (third_is (open_refusal (rule_view rule)) None (fit_refusal schema (rule_view rule)) r is_filled.filled refl is)
 
 -- or it does
-fits_so : (values : List Place) (limits : Limits) (schema : Schema) (bytes : List ℕ) (rule : Rule) → IsBare (IsFilledRule values limits bytes) rule → fit_refusal schema (rule_view rule) ≡ None
-    → IsBare (IsFit values limits (Some schema) bytes) rule
-fits_so values limits schema bytes rule (rest, is_filled) is =
-    (rest, record { single = is_filled.single; fits = none_is (open_refusal (rule_view rule)) None (fit_refusal schema (rule_view rule)) is_filled.filled refl is })
+fits_so : (values : List Place) (limits : Limits) (ps : List Pipeline) (schema : Schema) (bytes : List ℕ) (rule : Rule) → IsBare (IsFilledRule values limits ps bytes) rule → fit_refusal schema (rule_view rule) ≡ None
+    → IsBare (IsFit values limits ps (Some schema) bytes) rule
+fits_so values limits ps schema bytes rule (rest, is_filled) is =
+    (rest, record { rule = is_filled.rule; fits = none_is (open_refusal (rule_view rule)) None (fit_refusal schema (rule_view rule)) is_filled.filled refl is })
 
 -- the same of the schema that is made of it
-pub isnt_fit_alone : {Y : Type 0} (values : List Place) (limits : Limits) (bytes : List ℕ) (rule : Rule) (schema : Schema) (Q : Y → Type 0) (fault : Fault)
-    → IsBare (IsFilledRule values limits bytes) rule → (schema_refusal (rule_view rule) ≡ None) × (schema ≡ inferred_schema (rule_view rule))
-    → Judged {X = Unit {0}} (λ done. Unit {0}) (fit_refusal schema (rule_view rule)) (Err fault) → Answers {X = Y} Q (IsUnfit values limits None bytes) (Err fault)
-isnt_fit_alone values limits bytes rule schema Q Memory is_filled made judged = tt
-isnt_fit_alone values limits bytes rule schema Q (Refused r) (rest, is_filled) made is =
-    unfit (rule_with rest (rule_view rule)) is_filled.single
+pub isnt_fit_alone : {Y : Type 0} (values : List Place) (limits : Limits) (ps : List Pipeline) (bytes : List ℕ) (rule : Rule) (schema : Schema) (Q : Y → Type 0) (fault : Fault)
+    → IsBare (IsFilledRule values limits ps bytes) rule → (schema_refusal (rule_view rule) ≡ None) × (schema ≡ inferred_schema (rule_view rule))
+    → Judged {X = Unit {0}} (λ done. Unit {0}) (fit_refusal schema (rule_view rule)) (Err fault) → Answers {X = Y} Q (IsUnfit values limits ps None bytes) (Err fault)
+isnt_fit_alone values limits ps bytes rule schema Q Memory is_filled made judged = tt
+isnt_fit_alone values limits ps bytes rule schema Q (Refused r) (rest, is_filled) made is =
+    unfit (rule_with rest (rule_view rule)) is_filled.rule
     (third_is (open_refusal (rule_view rule)) (schema_refusal (rule_view rule)) (fit_refusal (inferred_schema (rule_view rule)) (rule_view rule)) r is_filled.filled made.0
     (subst (λ (s : Schema). fit_refusal s (rule_view rule) ≡ Some r) made.1 is))
 
 -- the rule fits the schema that is made of it
-pub fits_alone : (values : List Place) (limits : Limits) (bytes : List ℕ) (rule : Rule) (schema : Schema)
-    → IsBare (IsFilledRule values limits bytes) rule → (schema_refusal (rule_view rule) ≡ None) × (schema ≡ inferred_schema (rule_view rule))
-    → fit_refusal schema (rule_view rule) ≡ None → IsBare (IsFit values limits None bytes) rule
-fits_alone values limits bytes rule schema (rest, is_filled) made fits = (
+pub fits_alone : (values : List Place) (limits : Limits) (ps : List Pipeline) (bytes : List ℕ) (rule : Rule) (schema : Schema)
+    → IsBare (IsFilledRule values limits ps bytes) rule → (schema_refusal (rule_view rule) ≡ None) × (schema ≡ inferred_schema (rule_view rule))
+    → fit_refusal schema (rule_view rule) ≡ None → IsBare (IsFit values limits ps None bytes) rule
+fits_alone values limits ps bytes rule schema (rest, is_filled) made fits = (
   rest,
   record {
-    single = is_filled.single;
+    rule = is_filled.rule;
     fits = none_is (open_refusal (rule_view rule)) (schema_refusal (rule_view rule)) (fit_refusal (inferred_schema (rule_view rule)) (rule_view rule)) is_filled.filled made.0
         (subst (λ (s : Schema). fit_refusal s (rule_view rule) ≡ None) made.1 fits);
   },
@@ -303,26 +354,26 @@ untrue : false ≡ true → ⊥
 untrue e = cc
 
 -- where the answer was cut off, there may be none
-pub none_are : (limits : Limits) (t : Tree) → AreUnbuilt limits t false none_unbuilt
-none_are limits t = record { values = tt; items = tt; ill = λ e. absurd (untrue e) }
+pub none_are : (limits : Limits) (ps : List Pipeline) (t : Tree) → AreUnbuilt (Makes limits ps) limits t false none_unbuilt
+none_are limits ps t = record { values = tt; items = tt; ill = λ e. absurd (untrue e) }
 
-pub none_of_single : (limits : Limits) (bytes : List ℕ) → AreOfSingle limits bytes false none_unbuilt
-none_of_single limits bytes = record { tree = λ documents taken. by (single_tree documents); whole = λ p is. refl }
+pub none_of_single : (limits : Limits) (ps : List Pipeline) (bytes : List ℕ) → AreOfSingle limits ps bytes false none_unbuilt
+none_of_single limits ps bytes = record { tree = λ documents taken. by (single_tree documents); whole = λ p is. refl }
   where
-    by : (r : Result Tree Refusal) → AreOfTree limits r false none_unbuilt
-    by (Ok t) = none_are limits t
+    by : (r : Result Tree Refusal) → AreOfTree limits ps r false none_unbuilt
+    by (Ok t) = none_are limits ps t
     by (Err r) = refl
 
 -- what came to its end may also have been cut off
-module _ (limits : Limits) (ended later : Bool) (so : later ≡ true → ended ≡ true) (unbuilt : Unbuilt) where
-  pub unbuilt_later : (t : Tree) → AreUnbuilt limits t ended unbuilt → AreUnbuilt limits t later unbuilt
+module _ (limits : Limits) (ps : List Pipeline) (ended later : Bool) (so : later ≡ true → ended ≡ true) (unbuilt : Unbuilt) where
+  pub unbuilt_later : (t : Tree) → AreUnbuilt (Makes limits ps) limits t ended unbuilt → AreUnbuilt (Makes limits ps) limits t later unbuilt
   unbuilt_later t are = record { values = are.values; items = are.items; ill = λ e. are.ill (so e) }
 
-  tree_later : (r : Result Tree Refusal) → AreOfTree limits r ended unbuilt → AreOfTree limits r later unbuilt
+  tree_later : (r : Result Tree Refusal) → AreOfTree limits ps r ended unbuilt → AreOfTree limits ps r later unbuilt
   tree_later (Ok t) are = unbuilt_later t are
   tree_later (Err r) none = none
 
-  pub single_later : (bytes : List ℕ) → AreOfSingle limits bytes ended unbuilt → AreOfSingle limits bytes later unbuilt
+  pub single_later : (bytes : List ℕ) → AreOfSingle limits ps bytes ended unbuilt → AreOfSingle limits ps bytes later unbuilt
   single_later bytes are = record { tree = λ documents taken. tree_later (single_tree documents) (are.tree documents taken); whole = are.whole }
 
 -- a document's places are those of the one tree
@@ -333,7 +384,7 @@ of_documents limits documents t rest before after result single h = record {
   values = h.values;
   refused = h.refused;
   follows = h.follows;
-  are = subst (λ (r : Result Tree Refusal). AreOfTree limits r (is_answered result) (of_values h.values h.refused)) (sym single) h.are;
+  are = subst (λ (r : Result Tree Refusal). AreOfTree limits [] r (is_answered result) (of_values h.values h.refused)) (sym single) h.are;
   says = only_answers h.values limits documents t rest result single h.says;
 }
 
@@ -344,7 +395,7 @@ of_no_tree limits documents texts r none = record {
   values = [];
   refused = [];
   follows = sym (append-nil texts);
-  are = subst (λ (x : Result Tree Refusal). AreOfTree limits x true none_unbuilt) (sym none) refl;
+  are = subst (λ (x : Result Tree Refusal). AreOfTree limits [] x true none_unbuilt) (sym none) refl;
   says = no_tree none;
 }
 
@@ -358,7 +409,7 @@ module _ (limits : Limits) (bytes : List ℕ) (never : yaml.NeverBoth) where
     refused = h.refused;
     follows = h.follows;
     are = record {
-      tree = λ others others_taken. subst (λ (ds : List Answer). AreOfTree limits (single_tree ds) (is_answered result) (of_values h.values h.refused))
+      tree = λ others others_taken. subst (λ (ds : List Answer). AreOfTree limits [] (single_tree ds) (is_answered result) (of_values h.values h.refused))
           (list limits.file_bytes limits.documents limits.yaml_depth bytes documents others taken others_taken) h.are;
       whole = λ p is. absurd (never limits.file_bytes limits.documents limits.yaml_depth bytes documents p taken is);
     };
@@ -369,7 +420,7 @@ module _ (limits : Limits) (bytes : List ℕ) (never : yaml.NeverBoth) where
   pub of_no_file : (texts : List (List ℕ)) (fault : Fault) → IfRefused fault (IsCallRefusal limits.file_bytes limits.documents bytes)
       → ForValues limits bytes texts texts (is_answered {X = Rule} (Err fault)) (λ values. Answers {X = Rule} (IsBare (IsSingleRule values limits bytes)) (IsNoSingleRule values limits bytes) (Err fault))
   of_no_file texts Memory is =
-      record { values = []; refused = []; follows = sym (append-nil texts); are = none_of_single limits bytes; says = tt }
+      record { values = []; refused = []; follows = sym (append-nil texts); are = none_of_single limits [] bytes; says = tt }
   of_no_file texts (Refused r) is = record {
     values = [];
     refused = [];
@@ -426,77 +477,109 @@ module _ (limits : Limits) (bytes : List ℕ) (before after : List (List ℕ)) w
       → ForValues limits bytes before after ended P → ForValues limits bytes before after ended Q
   with_values ended P Q f h = record { values = h.values; refused = h.refused; follows = h.follows; are = h.are; says = f h.values h.says }
 
-  -- no rule was read, so there is none that fits any schema
-  pub unfilled_single : {X Y : Type 0} (IsX : List Place → X → Type 0) (IsY : List Place → Y → Type 0) (fault : Fault)
-      → ForValues limits bytes before after (is_answered {X = X} (Err fault)) (λ values. Answers {X = X} (IsX values) (IsNoSingleRule values limits bytes) (Err fault))
+  -- want of memory says nothing
+  cut_values : (P Q : List Place → Type 0) → ((values : List Place) → Q values) → ForValues limits bytes before after true P → ForValues limits bytes before after false Q
+  cut_values P Q all h = record {
+    values = h.values;
+    refused = h.refused;
+    follows = h.follows;
+    are = single_later limits [] true false (λ e. absurd (untrue e)) (of_values h.values h.refused) bytes h.are;
+    says = all h.values;
+  }
+
+-- what pipelines make of a rule, with the other entries of its head
+abbrev pub MadeWith : Limits → List Pipeline → Type 0
+MadeWith limits ps = (rest : List Member) (rule made : PlainRule) → Makes limits ps rule made → Makes limits ps (rule_with rest rule) (rule_with rest made)
+
+abbrev pub RefusedWith : Limits → List Pipeline → Type 0
+RefusedWith limits ps = (rest : List Member) (rule : PlainRule) (r : Refusal) → run_pipelines limits ps rule ≡ Err r → run_pipelines limits ps (rule_with rest rule) ≡ Err r
+
+module _ (limits : Limits) (ps : List Pipeline) (bytes : List ℕ) (before after : List (List ℕ)) where
+  -- the pipelines make a rule of the one that was read, or none
+  pub made_single : (rule : Rule) (result : Result Rule Fault) → MadeWith limits ps → RefusedWith limits ps → Gives (run_pipelines limits ps (rule_view rule)) result
+      → ForValues limits bytes before after true (λ values. IsBare (IsSingleRule values limits bytes) rule)
+      → ForValues limits bytes before after (is_answered result) (λ values. Answers (IsBare (IsMadeRule values limits ps bytes)) (IsNoMadeRule values limits ps bytes) result)
+  made_single rule (Ok made) made_with refused_with gives read =
+      with_values limits bytes before after true (λ values. IsBare (IsSingleRule values limits bytes) rule) (λ values. IsBare (IsMadeRule values limits ps bytes) made)
+      (λ values a. (a.0, record { rule = rule_with a.0 (rule_view rule); single = a.1; makes = made_with a.0 (rule_view rule) (rule_view made) gives })) read
+  made_single rule (Err Memory) made_with refused_with gives read = cut_values limits bytes before after (λ values. IsBare (IsSingleRule values limits bytes) rule) (λ values. Unit {0}) (λ values. tt) read
+  made_single rule (Err (Refused r)) made_with refused_with gives read =
+      with_values limits bytes before after true (λ values. IsBare (IsSingleRule values limits bytes) rule) (λ values. IsNoMadeRule values limits ps bytes r)
+      (λ values a. unmade (rule_with a.0 (rule_view rule)) a.1 (refused_with a.0 (rule_view rule) r gives)) read
+
+  -- there is no rule of which they could make one
+  pub none_made : (fault : Fault)
+      → ForValues limits bytes before after (is_answered {X = Rule} (Err fault)) (λ values. Answers {X = Rule} (IsBare (IsSingleRule values limits bytes)) (IsNoSingleRule values limits bytes) (Err fault))
+      → ForValues limits bytes before after (is_answered {X = Rule} (Err fault)) (λ values. Answers {X = Rule} (IsBare (IsMadeRule values limits ps bytes)) (IsNoMadeRule values limits ps bytes) (Err fault))
+  none_made Memory h = with_values limits bytes before after false (λ values. Unit {0}) (λ values. Unit {0}) (λ values a. tt) h
+  none_made (Refused r) h =
+      with_values limits bytes before after true (λ values. IsNoSingleRule values limits bytes r) (λ values. IsNoMadeRule values limits ps bytes r) (λ values a. no_single a) h
+
+  -- no rule was made, so there is none that fits any schema
+  pub unfilled_made : {X Y : Type 0} (IsX : List Place → X → Type 0) (IsY : List Place → Y → Type 0) (fault : Fault)
+      → ForValues limits bytes before after (is_answered {X = X} (Err fault)) (λ values. Answers {X = X} (IsX values) (IsNoMadeRule values limits ps bytes) (Err fault))
       → ForValues limits bytes before after (is_answered {X = Y} (Err fault))
-      (λ values. Answers {X = Y} (IsY values) (λ r. (given : Option Schema) → IsUnfit values limits given bytes r) (Err fault))
-  unfilled_single {X} {Y} IsX IsY Memory h = with_values false (λ values. Unit {0}) (λ values. Unit {0}) (λ values a. tt) h
-  unfilled_single {X} {Y} IsX IsY (Refused r) h =
-      with_values true (λ values. IsNoSingleRule values limits bytes r) (λ values. (given : Option Schema) → IsUnfit values limits given bytes r) (λ values a given. no_single a) h
+      (λ values. Answers {X = Y} (IsY values) (λ r. (given : Option Schema) → IsUnfit values limits ps given bytes r) (Err fault))
+  unfilled_made {X} {Y} IsX IsY Memory h = with_values limits bytes before after false (λ values. Unit {0}) (λ values. Unit {0}) (λ values a. tt) h
+  unfilled_made {X} {Y} IsX IsY (Refused r) h =
+      with_values limits bytes before after true (λ values. IsNoMadeRule values limits ps bytes r) (λ values. (given : Option Schema) → IsUnfit values limits ps given bytes r) (λ values a given. no_made a) h
 
   -- said of one schema
-  pub unfit_single : {X Y : Type 0} (given : Option Schema) (IsX : List Place → X → Type 0) (IsY : List Place → Y → Type 0) (fault : Fault)
+  pub unfit_made_at : {X Y : Type 0} (given : Option Schema) (IsX : List Place → X → Type 0) (IsY : List Place → Y → Type 0) (fault : Fault)
       → ForValues limits bytes before after (is_answered {X = X} (Err fault))
-      (λ values. Answers {X = X} (IsX values) (λ r. (other : Option Schema) → IsUnfit values limits other bytes r) (Err fault))
-      → ForValues limits bytes before after (is_answered {X = Y} (Err fault)) (λ values. Answers {X = Y} (IsY values) (IsUnfit values limits given bytes) (Err fault))
-  unfit_single {X} {Y} given IsX IsY Memory h = with_values false (λ values. Unit {0}) (λ values. Unit {0}) (λ values a. tt) h
-  unfit_single {X} {Y} given IsX IsY (Refused r) h =
-      with_values true (λ values. (other : Option Schema) → IsUnfit values limits other bytes r) (λ values. IsUnfit values limits given bytes r) (λ values a. a given) h
+      (λ values. Answers {X = X} (IsX values) (λ r. (other : Option Schema) → IsUnfit values limits ps other bytes r) (Err fault))
+      → ForValues limits bytes before after (is_answered {X = Y} (Err fault)) (λ values. Answers {X = Y} (IsY values) (IsUnfit values limits ps given bytes) (Err fault))
+  unfit_made_at {X} {Y} given IsX IsY Memory h = with_values limits bytes before after false (λ values. Unit {0}) (λ values. Unit {0}) (λ values a. tt) h
+  unfit_made_at {X} {Y} given IsX IsY (Refused r) h =
+      with_values limits bytes before after true (λ values. (other : Option Schema) → IsUnfit values limits ps other bytes r) (λ values. IsUnfit values limits ps given bytes r) (λ values a. a given) h
 
   -- a rule was read, of which a placeholder stands open, or none does
-  module _ (rule : Rule) (read : ForValues limits bytes before after true (λ values. IsBare (IsSingleRule values limits bytes) rule)) where
+  module _ (rule : Rule) (read : ForValues limits bytes before after true (λ values. IsBare (IsMadeRule values limits ps bytes) rule)) where
     pub stands_open : (r : Refusal) → open_refusal (rule_view rule) ≡ Some r
-        → ForValues limits bytes before after true (λ values. (given : Option Schema) → IsUnfit values limits given bytes r)
+        → ForValues limits bytes before after true (λ values. (given : Option Schema) → IsUnfit values limits ps given bytes r)
     stands_open r is =
-        with_values true (λ values. IsBare (IsSingleRule values limits bytes) rule) (λ values. (given : Option Schema) → IsUnfit values limits given bytes r)
-        (λ values a. isnt_filled values limits bytes rule r a is) read
+        with_values limits bytes before after true (λ values. IsBare (IsMadeRule values limits ps bytes) rule) (λ values. (given : Option Schema) → IsUnfit values limits ps given bytes r)
+        (λ values a. isnt_filled values limits ps bytes rule r a is) read
 
-    pub stands_filled : open_refusal (rule_view rule) ≡ None → ForValues limits bytes before after true (λ values. IsBare (IsFilledRule values limits bytes) rule)
+    pub stands_filled : open_refusal (rule_view rule) ≡ None → ForValues limits bytes before after true (λ values. IsBare (IsFilledRule values limits ps bytes) rule)
     stands_filled is =
-        with_values true (λ values. IsBare (IsSingleRule values limits bytes) rule) (λ values. IsBare (IsFilledRule values limits bytes) rule)
-        (λ values a. (a.0, record { single = a.1; filled = is })) read
+        with_values limits bytes before after true (λ values. IsBare (IsMadeRule values limits ps bytes) rule) (λ values. IsBare (IsFilledRule values limits ps bytes) rule)
+        (λ values a. (a.0, record { rule = a.1; filled = is })) read
 
-  module _ (rule : Rule) (read : ForValues limits bytes before after true (λ values. IsBare (IsFilledRule values limits bytes) rule)) where
+  module _ (rule : Rule) (read : ForValues limits bytes before after true (λ values. IsBare (IsFilledRule values limits ps bytes) rule)) where
     -- the rule doesn't fit the given schema, or it does
-    pub unfit_given : (schema : Schema) (r : Refusal) → fit_refusal schema (rule_view rule) ≡ Some r → ForValues limits bytes before after true (λ values. IsUnfit values limits (Some schema) bytes r)
+    pub unfit_given : (schema : Schema) (r : Refusal) → fit_refusal schema (rule_view rule) ≡ Some r → ForValues limits bytes before after true (λ values. IsUnfit values limits ps (Some schema) bytes r)
     unfit_given schema r is =
-        with_values true (λ values. IsBare (IsFilledRule values limits bytes) rule) (λ values. IsUnfit values limits (Some schema) bytes r) (λ values a. isnt_fit values limits schema bytes rule r a is) read
+        with_values limits bytes before after true (λ values. IsBare (IsFilledRule values limits ps bytes) rule) (λ values. IsUnfit values limits ps (Some schema) bytes r) (λ values a. isnt_fit values limits ps schema bytes rule r a is) read
 
-    pub fits_given : (schema : Schema) → fit_refusal schema (rule_view rule) ≡ None → ForValues limits bytes before after true (λ values. IsBare (IsFit values limits (Some schema) bytes) rule)
+    pub fits_given : (schema : Schema) → fit_refusal schema (rule_view rule) ≡ None → ForValues limits bytes before after true (λ values. IsBare (IsFit values limits ps (Some schema) bytes) rule)
     fits_given schema is =
-        with_values true (λ values. IsBare (IsFilledRule values limits bytes) rule) (λ values. IsBare (IsFit values limits (Some schema) bytes) rule)
-        (λ values a. fits_so values limits schema bytes rule a is) read
+        with_values limits bytes before after true (λ values. IsBare (IsFilledRule values limits ps bytes) rule) (λ values. IsBare (IsFit values limits ps (Some schema) bytes) rule)
+        (λ values a. fits_so values limits ps schema bytes rule a is) read
 
     -- want of memory says nothing
     unended : (P : List Place → Type 0) → ((values : List Place) → P values) → ForValues limits bytes before after false P
-    unended P all = record {
-      values = read.values;
-      refused = read.refused;
-      follows = read.follows;
-      are = single_later limits true false (λ e. absurd (untrue e)) (of_values read.values read.refused) bytes read.are;
-      says = all read.values;
-    }
+    unended P all = cut_values limits bytes before after (λ values. IsBare (IsFilledRule values limits ps bytes) rule) P all read
 
     -- no schema is made of it
-    pub unmade : {X Y : Type 0} (P : X → Type 0) (Q : List Place → Y → Type 0) (fault : Fault) → Judged {X = X} P (schema_refusal (rule_view rule)) (Err fault)
-        → ForValues limits bytes before after (is_answered {X = Y} (Err fault)) (λ values. Answers {X = Y} (Q values) (IsUnfit values limits None bytes) (Err fault))
-    unmade {X} {Y} P Q Memory judged = unended (λ values. Unit {0}) (λ values. tt)
-    unmade {X} {Y} P Q (Refused r) judged =
-        with_values true (λ values. IsBare (IsFilledRule values limits bytes) rule) (λ values. IsUnfit values limits None bytes r)
-        (λ values a. isnt_made values limits bytes rule P (Q values) (Refused r) a judged) read
+    pub unschemed : {X Y : Type 0} (P : X → Type 0) (Q : List Place → Y → Type 0) (fault : Fault) → Judged {X = X} P (schema_refusal (rule_view rule)) (Err fault)
+        → ForValues limits bytes before after (is_answered {X = Y} (Err fault)) (λ values. Answers {X = Y} (Q values) (IsUnfit values limits ps None bytes) (Err fault))
+    unschemed {X} {Y} P Q Memory judged = unended (λ values. Unit {0}) (λ values. tt)
+    unschemed {X} {Y} P Q (Refused r) judged =
+        with_values limits bytes before after true (λ values. IsBare (IsFilledRule values limits ps bytes) rule) (λ values. IsUnfit values limits ps None bytes r)
+        (λ values a. isnt_made values limits ps bytes rule P (Q values) (Refused r) a judged) read
 
     -- it doesn't fit the schema that is made of it, or it does
     pub unfit_made : {Y : Type 0} (schema : Schema) (Q : List Place → Y → Type 0) (fault : Fault) → (schema_refusal (rule_view rule) ≡ None) × (schema ≡ inferred_schema (rule_view rule))
         → Judged {X = Unit {0}} (λ done. Unit {0}) (fit_refusal schema (rule_view rule)) (Err fault)
-        → ForValues limits bytes before after (is_answered {X = Y} (Err fault)) (λ values. Answers {X = Y} (Q values) (IsUnfit values limits None bytes) (Err fault))
+        → ForValues limits bytes before after (is_answered {X = Y} (Err fault)) (λ values. Answers {X = Y} (Q values) (IsUnfit values limits ps None bytes) (Err fault))
     unfit_made {Y} schema Q Memory made judged = unended (λ values. Unit {0}) (λ values. tt)
     unfit_made {Y} schema Q (Refused r) made judged =
-        with_values true (λ values. IsBare (IsFilledRule values limits bytes) rule) (λ values. IsUnfit values limits None bytes r)
-        (λ values a. isnt_fit_alone values limits bytes rule schema (Q values) (Refused r) a made judged) read
+        with_values limits bytes before after true (λ values. IsBare (IsFilledRule values limits ps bytes) rule) (λ values. IsUnfit values limits ps None bytes r)
+        (λ values a. isnt_fit_alone values limits ps bytes rule schema (Q values) (Refused r) a made judged) read
 
     pub fits_made : (schema : Schema) → (schema_refusal (rule_view rule) ≡ None) × (schema ≡ inferred_schema (rule_view rule)) → fit_refusal schema (rule_view rule) ≡ None
-        → ForValues limits bytes before after true (λ values. IsBare (IsFit values limits None bytes) rule × (schema ≡ inferred_schema (rule_view rule)))
+        → ForValues limits bytes before after true (λ values. IsBare (IsFit values limits ps None bytes) rule × (schema ≡ inferred_schema (rule_view rule)))
     fits_made schema made fits =
-        with_values true (λ values. IsBare (IsFilledRule values limits bytes) rule) (λ values. IsBare (IsFit values limits None bytes) rule × (schema ≡ inferred_schema (rule_view rule)))
-        (λ values a. (fits_alone values limits bytes rule schema a made fits, made.1)) read
+        with_values limits bytes before after true (λ values. IsBare (IsFilledRule values limits ps bytes) rule) (λ values. IsBare (IsFit values limits ps None bytes) rule × (schema ≡ inferred_schema (rule_view rule)))
+        (λ values a. (fits_alone values limits ps bytes rule schema a made fits, made.1)) read

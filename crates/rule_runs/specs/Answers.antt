@@ -1,5 +1,6 @@
 -- What reading a file as the rule that is run answers.
-use Rattle.std.specs.Prelude.{◌≡◌, ⊤, ℕ, Bool, List, ◌++◌, Result, Ok, Err}
+use Rattle.std.specs.Prelude.{◌≡◌, ⊤, ℕ, Bool, List, [], ◌++◌, Result, Ok, Err}
+use Rattle.pipeline_chain.specs.Chained.{Makes}
 use Rattle.rule_model.specs.Plain.{PlainRule, rule_view, rule_with}
 use Rattle.rule_model.specs.declared.rule.Rule.{Rule}
 use Rattle.sig_base.specs.declared.limits.Limits.{Limits}
@@ -33,10 +34,10 @@ pub record ForPlaces (Are : Unbuilt → Type 0) (before after : List (List ℕ))
 
 -- said of a tree, of the one tree of some documents, and of that of a file
 abbrev pub ForTree : Limits → Tree → List (List ℕ) → List (List ℕ) → Bool → (List Place → Type 0) → Type 0
-ForTree limits t before after ended = ForPlaces (AreUnbuilt limits t ended) before after
+ForTree limits t before after ended = ForPlaces (AreUnbuilt (Makes limits []) limits t ended) before after
 
 abbrev pub ForDocuments : Limits → List Answer → List (List ℕ) → List (List ℕ) → Bool → (List Place → Type 0) → Type 0
-ForDocuments limits documents before after ended = ForPlaces (AreOfTree limits (single_tree documents) ended) before after
+ForDocuments limits documents before after ended = ForPlaces (AreOfTree limits [] (single_tree documents) ended) before after
 
 abbrev pub ForValues : Limits → List ℕ → List (List ℕ) → List (List ℕ) → Bool → (List Place → Type 0) → Type 0
-ForValues limits bytes before after ended = ForPlaces (AreOfSingle limits bytes ended) before after
+ForValues limits bytes before after ended = ForPlaces (AreOfSingle limits [] bytes ended) before after

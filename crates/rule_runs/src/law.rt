@@ -2,7 +2,7 @@
 
 ghost use Rattle.rule_runs.specs.Laws.{EachRun, NeverBoth, OneRun, OneCause};
 
-/// Each file is run as one rule, or it isn't run for one cause.
+/// Each file is run as one rule under these pipelines, or it isn't run for one cause.
 pub fn one_run()
     ensures each { EachRun }
     ensures never_both { NeverBoth }

@@ -8,13 +8,15 @@ ghost use Rattle.rule_head.specs.Heads.{rest_of};
 ghost use Rattle.rule_model.specs.Plain.{rule_view, rule_with};
 ghost use Rattle.rule_model.specs.Rules.{IsRule, lone_refusal};
 ghost use Rattle.rule_runs.specs.Answers.{Answers, ForTree, ForDocuments, ForValues, IsBare};
-ghost use Rattle.rule_runs.specs.Runs.{IsOnly, IsNoneOnly, IsSingleRule, IsNoSingleRule, IsFilledRule, IsUnfit};
+ghost use Rattle.rule_runs.specs.Runs.{IsOnly, IsNoneOnly, IsSingleRule, IsNoSingleRule, IsMadeRule, IsNoMadeRule, IsFilledRule, IsUnfit};
 ghost use Rattle.sig_base.specs.Judged.{Judged};
 ghost use Rattle.yaml_documents.specs.Given.{IsPlain, answers_view};
 ghost use Rattle.yaml_tree.specs.View.{node_view};
 
 use crate::single::single_node;
 use languages::Builder;
+use pipeline_chain::run_pipelines;
+use pipeline_model::Pipeline;
 use rule_building::find_unbuilt;
 use rule_model::Rule;
 use rule_schema::check_filled;
@@ -75,17 +77,36 @@ fn read_single_rule<B: Builder>(
     }
 }
 
-/// The same, where a rule of which a placeholder stands open is refused 98 at the item.
-pub(crate) fn read_filled_rule<B: Builder>(
+/// The rule that pipelines make of the one that a file is, refused as that one is and then as the pipelines refuse it.
+fn read_made_rule<B: Builder>(
     alloc: Global,
     limits: &Limits,
+    pipelines: &[Pipeline],
     bytes: &[u8],
     builder: &mut B,
 ) -> Result<Rule, Fault>
     ensures { ForValues limits.now bytes.now (B.refused builder.old) (B.refused builder.new) (is_answered result)
-        (λ values. Answers (IsBare (IsFilledRule values limits.now bytes.now)) (λ r. (given : Option Schema) → IsUnfit values limits.now given bytes.now r) result) }
+        (λ values. Answers (IsBare (IsMadeRule values limits.now pipelines.now bytes.now)) (IsNoMadeRule values limits.now pipelines.now bytes.now) result) }
 {
-    let rule = match read_single_rule(alloc, limits, bytes, builder) {
+    pipeline_chain::heads_are_kept();
+    match read_single_rule(alloc, limits, bytes, builder) {
+        Ok(rule) => run_pipelines(alloc, limits, pipelines, rule),
+        Err(fault) => Err(fault),
+    }
+}
+
+/// The same, where a rule of which a placeholder stands open is refused 98 at the item.
+pub(crate) fn read_filled_rule<B: Builder>(
+    alloc: Global,
+    limits: &Limits,
+    pipelines: &[Pipeline],
+    bytes: &[u8],
+    builder: &mut B,
+) -> Result<Rule, Fault>
+    ensures { ForValues limits.now bytes.now (B.refused builder.old) (B.refused builder.new) (is_answered result)
+        (λ values. Answers (IsBare (IsFilledRule values limits.now pipelines.now bytes.now)) (λ r. (given : Option Schema) → IsUnfit values limits.now pipelines.now given bytes.now r) result) }
+{
+    let rule = match read_made_rule(alloc, limits, pipelines, bytes, builder) {
         Ok(rule) => rule,
         Err(fault) => return Err(fault),
     };

@@ -10,6 +10,7 @@ ghost use Rattle.rule_schema.specs.Inferred.{inferred_schema};
 use crate::reading::read_filled_rule;
 use event_schema::Schema;
 use languages::Builder;
+use pipeline_model::Pipeline;
 use rule_model::Rule;
 use rule_schema::{fit_indexed, fit_schema, infer_schema};
 use sig_base::{Fault, Limits};
@@ -22,19 +23,21 @@ pub struct SchemedRule {
     pub schema: Schema,
 }
 
-/// The rule that a file is run as under a schema. In this order it's refused 2, 1, 7, 84, by YAML, 146, as a rule, 98, and
-/// 81, 82 or 83. (48 at an item comes where the rule is made ready.)
+/// The rule that a file is run as under a schema, which pipelines make of the one that it is, run as they stand here
+/// (`pipeline_chain::by_priority` puts them in their order). In this order it's refused 2, 1, 7, 84, by
+/// YAML, 146, as a rule, by the pipelines, 98, and 81, 82 or 83. (48 at an item comes where the rule is made ready.)
 pub fn rule_under<B: Builder>(
     alloc: Global,
     limits: &Limits,
+    pipelines: &[Pipeline],
     schema: &Schema,
     bytes: &[u8],
     builder: &mut B,
 ) -> Result<Rule, Fault>
     ensures { ForValues limits.now bytes.now (B.refused builder.old) (B.refused builder.new) (is_answered result)
-        (λ values. Answers (IsBare (IsFit values limits.now (Some schema.now) bytes.now)) (IsUnfit values limits.now (Some schema.now) bytes.now) result) }
+        (λ values. Answers (IsBare (IsFit values limits.now pipelines.now (Some schema.now) bytes.now)) (IsUnfit values limits.now pipelines.now (Some schema.now) bytes.now) result) }
 {
-    let rule = match read_filled_rule(alloc, limits, bytes, builder) {
+    let rule = match read_filled_rule(alloc, limits, pipelines, bytes, builder) {
         Ok(rule) => rule,
         Err(fault) => return Err(fault),
     };
@@ -44,18 +47,20 @@ pub fn rule_under<B: Builder>(
     }
 }
 
-/// The rule that a file is run as, with the schema that is made of it. In this order it's refused 2, 1, 7, 84, by YAML, 146, as a
-/// rule, 98, 80, 82 and 83.
+/// The rule that a file is run as, which pipelines, run as they stand here, make of the one that it is, with the schema that is made of
+/// it. In this order it's refused
+/// 2, 1, 7, 84, by YAML, 146, as a rule, by the pipelines, 98, 80, 82 and 83.
 pub fn rule_alone<B: Builder>(
     alloc: Global,
     limits: &Limits,
+    pipelines: &[Pipeline],
     bytes: &[u8],
     builder: &mut B,
 ) -> Result<SchemedRule, Fault>
     ensures { ForValues limits.now bytes.now (B.refused builder.old) (B.refused builder.new) (is_answered result)
-        (λ values. Answers (λ found. IsBare (IsFit values limits.now None bytes.now) found.rule × (found.schema ≡ inferred_schema (rule_view found.rule))) (IsUnfit values limits.now None bytes.now) result) }
+        (λ values. Answers (λ found. IsBare (IsFit values limits.now pipelines.now None bytes.now) found.rule × (found.schema ≡ inferred_schema (rule_view found.rule))) (IsUnfit values limits.now pipelines.now None bytes.now) result) }
 {
-    let rule = match read_filled_rule(alloc, limits, bytes, builder) {
+    let rule = match read_filled_rule(alloc, limits, pipelines, bytes, builder) {
         Ok(rule) => rule,
         Err(fault) => return Err(fault),
     };

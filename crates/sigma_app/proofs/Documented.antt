@@ -1,5 +1,7 @@
 -- What answering the documents of a file leaves.
 use Rattle.std.proofs.Common.{◌≡◌, ℕ, suc, ◌+◌, ◌<◌, ◌≤◌, Bool, true, false, List, [], ◌∷◌, ◌++◌, length, take, drop, get_or, refl, ap, sym, ◌∙◌, subst, append-nil, Result, Ok, Err, inl, inr}
+use Rattle.pipeline_files.specs.Paired.{paired}
+use Rattle.pipeline_model.specs.declared.pipeline.Pipeline.{Pipeline}
 use Rattle.std.specs.Prelude.{◌||◌, ◌⊎◌}
 use Rattle.std.proofs.lemmas.List.{map-append}
 use Rattle.answer_parts.proofs.Rows.{around, before_and, each_all, all_one, one_share}
@@ -22,7 +24,7 @@ use Rattle.sigma_app.proofs.Placed.{firsts, of_both, follows_both, paired_of, no
 use Rattle.sigma_app.proofs.Trees.{cut}
 use Rattle.sigma_app.specs.Laws.{EachTree, EachDocument, EachFile, OneTree, OneDocument, OneFile}
 use Rattle.sigma_app.specs.Reports.{refusal_share}
-use Rattle.sigma_app.specs.RuleFiles.{ByTree, ByUnbuilt, BySome, DocumentGives, FileGivesAt, as_one_at, by_document_at, paired, AreOfDocument, DocumentsBySome, FileBySome}
+use Rattle.sigma_app.specs.RuleFiles.{ByTree, ByUnbuilt, BySome, DocumentGives, FileGivesAt, as_one_at, by_document_at, AreOfDocument, DocumentsBySome, FileBySome}
 use Rattle.yaml_documents.specs.Given.{answers_view}
 use Rattle.yaml_documents.specs.Verdicts as yaml
 use Rattle.yaml_files.specs.Call.{IsCallRefusal, IsTaken}
@@ -51,18 +53,18 @@ module _ {X : Type 0} (gives : X → Share → Type 0) where
   shares_append (x ∷ xs) ys [] b first second = absurd first
   shares_append (x ∷ xs) ys (s ∷ a) b first second = (first.0, shares_append xs ys a b first.1 second)
 
-  all_append : (xs ys : List X) (share : Share) → Both (AllShares gives xs) (AllShares gives ys) share → AllShares gives (xs ++ ys) share
+  pub all_append : (xs ys : List X) (share : Share) → Both (AllShares gives xs) (AllShares gives ys) share → AllShares gives (xs ++ ys) share
   all_append xs ys share (a, b, (ss, first, is), (ts, second, is_too), both) =
       (ss ++ ts, shares_append xs ys ss ts first second, both ∙ (ap (λ (s : Share). join s b) is ∙ (ap (λ (s : Share). join (joined ss) s) is_too ∙ sym (joined_append ss ts))))
 
 -- ---- document by document, in a file of this name
 
-module _ (by : ByUnbuilt) (limits : Limits) (name : List ℕ) where
+module _ (by : ByUnbuilt) (limits : Limits) (ps : List Pipeline) (name : List ℕ) where
   abbrev Given : Unbuilt × Answer → Share → Type 0
   Given d share = DocumentGives (by d.0) name d.1 share
 
   abbrev pub Documents : List (List ℕ) → List (List ℕ) → Bool → List Answer → Share → Type 0
-  Documents before after ended documents share = DocumentsBySome by limits before after ended name documents share
+  Documents before after ended documents share = DocumentsBySome by limits ps before after ended name documents share
 
   -- documents, and then others
   documents_both : (a b c : List (List ℕ)) (ended : Bool) (xs ys : List Answer) (share : Share) → Both (Documents a b ended xs) (Documents b c ended ys) share → Documents a c ended (xs ++ ys) share
@@ -70,14 +72,14 @@ module _ (by : ByUnbuilt) (limits : Limits) (name : List ℕ) where
     placed = first.placed ++ second.placed;
     of = of_both first.placed second.placed xs ys first.of second.of;
     follows = follows_both refused_texts first.placed second.placed a b c first.follows second.follows;
-    are = each_joined (AreOfDocument limits ended) first.placed second.placed first.are second.are;
+    are = each_joined (AreOfDocument limits ps ended) first.placed second.placed first.are second.are;
     gives = all_append Given first.placed second.placed share (s, t, first.gives, second.gives, is);
   }
 
   -- an answer that may have been cut off
   documents_cut : (before after : List (List ℕ)) (ended : Bool) (documents : List Answer) (share : Share) → Documents before after ended documents share → Documents before after false documents share
   documents_cut before after ended documents share d =
-      record { placed = d.placed; of = d.of; follows = d.follows; are = documents_later limits ended false cut d.placed d.are; gives = d.gives }
+      record { placed = d.placed; of = d.of; follows = d.follows; are = documents_later limits ps ended false cut d.placed d.are; gives = d.gives }
 
   -- documents that aren't reached
   documents_left : ((unbuilt : Unbuilt) → EachTree (by unbuilt)) → (texts : List (List ℕ)) (documents : List Answer) → (share : Share) × Documents texts texts false documents share
@@ -89,13 +91,13 @@ module _ (by : ByUnbuilt) (limits : Limits) (name : List ℕ) where
           placed = placed;
           of = beside_of none_unbuilt documents;
           follows = beside_follows refused_texts none_unbuilt refl documents texts;
-          are = none_of_documents limits documents;
+          are = none_of_documents limits ps documents;
           gives = all.1;
         },
       )
 
   -- a document that is this tree
-  pub document_answered : (before after : List (List ℕ)) (ended : Bool) (t : Tree) (share : Share) → BySome by limits before after ended name t share → Documents before after ended (tree t ∷ []) share
+  pub document_answered : (before after : List (List ℕ)) (ended : Bool) (t : Tree) (share : Share) → BySome by limits ps before after ended name t share → Documents before after ended (tree t ∷ []) share
   document_answered before after ended t share some = record {
     placed = (some.unbuilt, tree t) ∷ [];
     of = refl;
@@ -153,7 +155,7 @@ module _ (by : ByUnbuilt) (limits : Limits) (name : List ℕ) where
 
   module _ (bytes : List ℕ) where
     abbrev pub Whole : List (List ℕ) → List (List ℕ) → Bool → Share → Type 0
-    Whole before after ended share = FileBySome by limits before after ended name bytes share
+    Whole before after ended share = FileBySome by limits ps before after ended name bytes share
 
     pub file_answered : yaml.NeverBoth → yaml.OneList → (before after : List (List ℕ)) (ended : Bool) (documents : List Answer) (result : Result Bool Stop) (old new : State)
         → IsTaken limits.file_bytes limits.documents limits.yaml_depth bytes documents → Writes (Documents before after ended documents) result old new → Writes (Whole before after ended) result old new
@@ -167,9 +169,9 @@ module _ (by : ByUnbuilt) (limits : Limits) (name : List ℕ) where
               unbuilt = firsts d.placed;
               follows = d.follows;
               are = record {
-                each = λ others taken_too. subst (λ (ds : List Answer). EachOf (AreOfDocument limits ended) (paired none_unbuilt (firsts d.placed) ds) × (length (firsts d.placed) ≤ length ds))
+                each = λ others taken_too. subst (λ (ds : List Answer). EachOf (AreOfDocument limits ps ended) (paired none_unbuilt (firsts d.placed) ds) × (length (firsts d.placed) ≤ length ds))
                     (list limits.file_bytes limits.documents limits.yaml_depth bytes documents others taken taken_too)
-                    (subst (EachOf (AreOfDocument limits ended)) (sym same) d.are, no_more d.placed documents d.of);
+                    (subst (EachOf (AreOfDocument limits ps ended)) (sym same) d.are, no_more d.placed documents d.of);
                 whole = λ p is. absurd (never limits.file_bytes limits.documents limits.yaml_depth bytes documents p taken is);
               };
               gives = by_document_at documents taken (subst (λ (l : List (Unbuilt × Answer)). AllShares Given l share) (sym same) d.gives);
@@ -194,7 +196,7 @@ module _ (by : ByUnbuilt) (limits : Limits) (name : List ℕ) where
     pub file_left : EachFile by → (texts : List (List ℕ)) → (share : Share) × Whole texts texts false share
     file_left each texts =
         let one = each limits [] name bytes in
-        (one.0, record { unbuilt = []; follows = sym (append-nil texts); are = none_of_file limits bytes; gives = one.1 })
+        (one.0, record { unbuilt = []; follows = sym (append-nil texts); are = none_of_file limits ps bytes; gives = one.1 })
 
     pub file_memory : EachFile by → (texts : List (List ℕ)) (s : State) → Writes (Whole texts texts false) (Err Memory) s s
     file_memory each texts s = writes_memory (Whole texts texts false) s (file_left each texts)

@@ -1,5 +1,8 @@
 -- What answering one file leaves, and one file after the other.
 use Rattle.std.proofs.Common.{◌≡◌, ℕ, suc, ◌+◌, ◌<◌, Bool, true, false, List, [], ◌∷◌, ◌++◌, length, take, drop, get_or, refl, ap, sym, ◌∙◌, subst, arith, append-nil, Option, Some, None, Result, Ok, Err, inl, inr}
+use Rattle.pipeline_files.specs.Paired.{paired}
+use Rattle.pipeline_files.specs.Places.{file_texts}
+use Rattle.pipeline_model.specs.declared.pipeline.Pipeline.{Pipeline}
 use Rattle.std.specs.Prelude.{◌||◌, MatchOption, unwrap_or, Contains}
 use Rattle.std.proofs.lemmas.Bool.{cases_lt}
 use Rattle.std.proofs.lemmas.List.{take_all, length-take-le}
@@ -20,7 +23,7 @@ use Rattle.sig_base.specs.declared.limits.Limits.{Limits}
 use Rattle.sigma_app.proofs.Placed.{firsts, of_both, follows_both, paired_of, no_more, beside, beside_of, beside_follows, none_of_files, each_later}
 use Rattle.sigma_app.proofs.Trees.{cut}
 use Rattle.sigma_app.specs.Laws.{EachFile, OneFile}
-use Rattle.sigma_app.specs.RuleFiles.{ByUnbuilt, FileGivesAt, as_one_at, by_document_at, RuleFileAt, AreOfFile, AreOfFiles, FileBySome, FilesBySome, all_texts, file_texts, contents, paired}
+use Rattle.sigma_app.specs.RuleFiles.{ByUnbuilt, FileGivesAt, as_one_at, by_document_at, RuleFileAt, AreOfFile, AreOfFiles, FileBySome, FilesBySome, all_texts, contents}
 use Rattle.yaml_files.specs.Call.{IsCallRefusal}
 use Rattle.yaml_tree.specs.Tree.{At}
 
@@ -33,7 +36,7 @@ parts_as P Q f (x ∷ xs) world (p ∷ parts) each = (f x world p each.0, parts_
 
 -- ---- a file's first bytes, up to one past the limit, are answered as the file
 
-module _ (by : ByUnbuilt) (limits : Limits) (name : List ℕ) where
+module _ (by : ByUnbuilt) (limits : Limits) (ps : List Pipeline) (name : List ℕ) where
   module _ (all : List ℕ) where
     abbrev front : List ℕ
     front = take (limits.file_bytes + 1) all
@@ -55,32 +58,32 @@ module _ (by : ByUnbuilt) (limits : Limits) (name : List ℕ) where
     gives_too unbuilt share large (as_one_at p is same) = as_one_at p (refused_too p is large) same
     gives_too unbuilt share large (by_document_at ds taken each) = let small = taken.within in absurd (omega (arith, past large, small))
 
-    are_too : (ended : Bool) (unbuilt : List Unbuilt) → limits.file_bytes < length all → AreOfFile limits front ended unbuilt → AreOfFile limits all ended unbuilt
+    are_too : (ended : Bool) (unbuilt : List Unbuilt) → limits.file_bytes < length all → AreOfFile limits ps front ended unbuilt → AreOfFile limits ps all ended unbuilt
     are_too ended unbuilt large are = record {
       each = λ documents taken. let small = taken.within in absurd (omega (arith, large, small));
       whole = λ p is. are.whole p (refused_first p is large);
     }
 
-    pub front_answers : (before after : List (List ℕ)) (ended : Bool) (share : Share) → FileBySome by limits before after ended name front share → FileBySome by limits before after ended name all share
+    pub front_answers : (before after : List (List ℕ)) (ended : Bool) (share : Share) → FileBySome by limits ps before after ended name front share → FileBySome by limits ps before after ended name all share
     front_answers before after ended share file =
-        elim (cases_lt limits.file_bytes (length all)) as (λ _. FileBySome by limits before after ended name all share) [
+        elim (cases_lt limits.file_bytes (length all)) as (λ _. FileBySome by limits ps before after ended name all share) [
           | inl large ↦ record { unbuilt = file.unbuilt; follows = file.follows; are = are_too ended file.unbuilt large file.are; gives = gives_too file.unbuilt share large file.gives }
-          | inr small ↦ subst (λ (b : List ℕ). FileBySome by limits before after ended name b share) (take_all (limits.file_bytes + 1) all (omega (arith, small))) file
+          | inr small ↦ subst (λ (b : List ℕ). FileBySome by limits ps before after ended name b share) (take_all (limits.file_bytes + 1) all (omega (arith, small))) file
         ]
 
   module _ (before after : List (List ℕ)) (ended : Bool) where
     -- what was read of a file that is told answers the file
     read_answers : (files : Option (List (List ℕ × List ℕ))) (told : List (List ℕ × List ℕ)) (bytes : List ℕ) (share : Share) → files ≡ Some told → IsFront files name (limits.file_bytes + 1) bytes
-        → FileBySome by limits before after ended name bytes share → FileBySome by limits before after ended name (contents told name) share
+        → FileBySome by limits ps before after ended name bytes share → FileBySome by limits ps before after ended name (contents told name) share
     read_answers files told bytes share is front file = found (file_at told name) (subst (λ f. IsFront f name (limits.file_bytes + 1) bytes) is front)
       where
-        found : (at : Option (List ℕ)) → MatchOption at ⊥ (λ all. bytes ≡ take (limits.file_bytes + 1) all) → FileBySome by limits before after ended name (unwrap_or at []) share
+        found : (at : Option (List ℕ)) → MatchOption at ⊥ (λ all. bytes ≡ take (limits.file_bytes + 1) all) → FileBySome by limits ps before after ended name (unwrap_or at []) share
         found None bad = absurd bad
-        found (Some all) same = front_answers all before after ended share (subst (λ (b : List ℕ). FileBySome by limits before after ended name b share) same file)
+        found (Some all) same = front_answers all before after ended share (subst (λ (b : List ℕ). FileBySome by limits ps before after ended name b share) same file)
 
     -- the part of a file
-    one_file : (world : World) (share : Share) → FileBySome by limits before after ended name (contents world.files name) share
-        → FilesBySome by limits before after ended (name ∷ []) world (record { input = Some (File name); share = share } ∷ [])
+    one_file : (world : World) (share : Share) → FileBySome by limits ps before after ended name (contents world.files name) share
+        → FilesBySome by limits ps before after ended (name ∷ []) world (record { input = Some (File name); share = share } ∷ [])
     one_file world share file = record {
       placed = (file.unbuilt, name) ∷ [];
       of = refl;
@@ -91,16 +94,16 @@ module _ (by : ByUnbuilt) (limits : Limits) (name : List ℕ) where
 
     -- the file was read, and its documents answered
     pub file_read : (needs : Needs) (bytes : List ℕ) (result : Result Bool Stop) (old new : State) → Contains needs.names name → IsFront old.inputs.files name (limits.file_bytes + 1) bytes
-        → Writes (FileBySome by limits before after ended name bytes) result old new → Ends (files_of needs) (FilesBySome by limits before after ended (name ∷ [])) result old new
+        → Writes (FileBySome by limits ps before after ended name bytes) result old new → Ends (files_of needs) (FilesBySome by limits ps before after ended (name ∷ [])) result old new
     file_read needs bytes result old new there front wrote =
-        ends_written (files_of needs) (FilesBySome by limits before after ended (name ∷ [])) (FileBySome by limits before after ended name bytes) (Some (File name)) result old new
+        ends_written (files_of needs) (FilesBySome by limits ps before after ended (name ∷ [])) (FileBySome by limits ps before after ended name bytes) (Some (File name)) result old new
         (λ world told share file. one_file world share (read_answers old.inputs.files world.files bytes share (told.files name there) front file)) wrote
 
     -- the file couldn't be read
-    pub file_unread : ((bytes : List ℕ) → (share : Share) × FileBySome by limits before after ended name bytes share) → (needs : Needs) (stop : Stop) (old new : State) → Contains needs.names name
-        → StopsBefore name stop old new → Ends (files_of needs) (FilesBySome by limits before after ended (name ∷ [])) (Err stop) old new
+    pub file_unread : ((bytes : List ℕ) → (share : Share) × FileBySome by limits ps before after ended name bytes share) → (needs : Needs) (stop : Stop) (old new : State) → Contains needs.names name
+        → StopsBefore name stop old new → Ends (files_of needs) (FilesBySome by limits ps before after ended (name ∷ [])) (Err stop) old new
     file_unread each needs stop old new there stops =
-        ends_unread (files_of needs) (FilesBySome by limits before after ended (name ∷ [])) name old new there stop
+        ends_unread (files_of needs) (FilesBySome by limits ps before after ended (name ∷ [])) name old new there stop
         (λ world. let one = each (contents world.files name) in
         let part : Part = record { input = Some (File name); share = one.0 } in
         (part ∷ [], one_file world one.0 one.1, (part, [], refl, refl))) stops
@@ -124,12 +127,12 @@ one_part by limits one file world p q first second =
 pub there : (names : List (List ℕ)) (i : ℕ) (x : List ℕ) → i < length names → x ≡ get_or names i x → Contains names x
 there names i x below is = (i, below, sym is)
 
-module _ (by : ByUnbuilt) (limits : Limits) where
+module _ (by : ByUnbuilt) (limits : Limits) (ps : List Pipeline) where
   abbrev pub Files : List (List ℕ) → List (List ℕ) → Bool → List (List ℕ) → World → List Part → Type 0
-  Files before after ended names = FilesBySome by limits before after ended names
+  Files before after ended names = FilesBySome by limits ps before after ended names
 
   abbrev IsOfFile : Bool → World → List Unbuilt × List ℕ → Type 0
-  IsOfFile ended world file = AreOfFile limits (contents world.files file.1) ended file.0
+  IsOfFile ended world file = AreOfFile limits ps (contents world.files file.1) ended file.0
 
   -- files, and then others
   files_both : (a b c : List (List ℕ)) (ended : Bool) (xs ys : List (List ℕ)) (world : World) (parts : List Part) → Then (Files a b ended xs) (Files b c ended ys) world parts
@@ -146,7 +149,7 @@ module _ (by : ByUnbuilt) (limits : Limits) where
   -- an answer that may have been cut off
   files_cut : (before after : List (List ℕ)) (ended : Bool) (names : List (List ℕ)) (world : World) (parts : List Part) → Files before after ended names world parts → Files before after false names world parts
   files_cut before after ended names world parts f =
-      record { placed = f.placed; of = f.of; follows = f.follows; are = each_later limits ended false cut world f.placed f.are; each = f.each }
+      record { placed = f.placed; of = f.of; follows = f.follows; are = each_later limits ps ended false cut world f.placed f.are; each = f.each }
 
   -- files that aren't reached
   pub files_left : EachFile by → (texts : List (List ℕ)) (names : List (List ℕ)) → EachHas (Files texts texts false names)
@@ -154,7 +157,7 @@ module _ (by : ByUnbuilt) (limits : Limits) where
       let placed : List (List Unbuilt × List ℕ) = beside [] names in
       let all = each_parts (RuleFileAt by limits) (each_part by limits each) placed world in (
         all.0,
-        record { placed = placed; of = beside_of [] names; follows = beside_follows file_texts [] refl names texts; are = none_of_files limits world names; each = all.1 },
+        record { placed = placed; of = beside_of [] names; follows = beside_follows file_texts [] refl names texts; are = none_of_files limits ps world names; each = all.1 },
       )
 
   -- the events decide nothing of it
@@ -198,7 +201,7 @@ module _ (by : ByUnbuilt) (limits : Limits) where
   -- ---- the places of the files
 
   pub files_placed : (before after : List (List ℕ)) (ended : Bool) (names : List (List ℕ)) (world : World) (parts : List Part) → Files before after ended names world parts
-      → (unbuilt : List (List Unbuilt)) × ((after ≡ before ++ all_texts unbuilt) × AreOfFiles limits ended world unbuilt names) × EachPart (RuleFileAt by limits) (paired [] unbuilt names) world parts
+      → (unbuilt : List (List Unbuilt)) × ((after ≡ before ++ all_texts unbuilt) × AreOfFiles limits ps ended world unbuilt names) × EachPart (RuleFileAt by limits) (paired [] unbuilt names) world parts
   files_placed before after ended names world parts f =
       let same : paired [] (firsts f.placed) names ≡ f.placed = paired_of [] f.placed names f.of in (
         firsts f.placed,

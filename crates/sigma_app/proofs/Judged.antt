@@ -1,7 +1,9 @@
 -- That each tree has exactly one answer under each command.
-use Rattle.std.proofs.Common.{◌≡◌, ℕ, List, refl, ap, sym, ◌∙◌, Option, Some, None}
+use Rattle.std.proofs.Common.{◌≡◌, ℕ, List, refl, ap, sym, ◌∙◌, Option, Some, None, Result, Ok, Err}
 use Rattle.answer_parts.specs.Parts.{Share}
 use Rattle.event_schema.specs.declared.schema.Schema.{Schema}
+use Rattle.pipeline_chain.specs.Chained.{run_pipelines, Makes}
+use Rattle.pipeline_model.specs.declared.pipeline.Pipeline.{Pipeline}
 use Rattle.rule_building.specs.Unbuilt.{Unbuilt}
 use Rattle.rule_model.specs.Plain.{PlainRule}
 use Rattle.rule_model.specs.Rules.{rule_refusal, lone_refusal, IsLoneRule}
@@ -23,16 +25,21 @@ each_checks each limits unbuilt name t = by (rule_refusal unbuilt.values limits 
     by None is = let rule = each unbuilt limits t is in (line_share (ok_line name rule.0.head.place), is_rule rule.0 rule.1 refl)
     by (Some r) is = (refusal_share name r, no_rule r is refl)
 
-pub each_converts : EachLone → (backend : BackendName) (limits : Limits) (given : Option Schema) (unbuilt : Unbuilt) → EachTree (ConvertGives backend limits given unbuilt)
-each_converts each backend limits given unbuilt name t = by (lone_refusal unbuilt.values limits t) refl
+pub each_converts : EachLone → (backend : BackendName) (limits : Limits) (ps : List Pipeline) (given : Option Schema) (unbuilt : Unbuilt) → EachTree (ConvertGives backend limits ps given unbuilt)
+each_converts each backend limits ps given unbuilt name t = by (lone_refusal unbuilt.values limits t) refl
   where
-    queried : (rule : PlainRule) → IsLoneRule unbuilt.values limits t rule → (r : Option Refusal) → query_refusal backend unbuilt.items limits given rule ≡ r
-        → (share : Share) × ConvertGives backend limits given unbuilt name t share
-    queried rule lone None is = (line_share (query_of backend given rule), has_query rule (record { lone = lone; written = is }) refl)
-    queried rule lone (Some r) is = (refusal_share name r, no_query r (rules.no_query rule lone is) refl)
+    queried : (rule made : PlainRule) → IsLoneRule unbuilt.values limits t rule → Makes limits ps rule made → (r : Option Refusal) → query_refusal backend unbuilt.items limits given made ≡ r
+        → (share : Share) × ConvertGives backend limits ps given unbuilt name t share
+    queried rule made lone makes None is = (line_share (query_of backend given made), has_query made (record { rule = rule; lone = lone; makes = makes; written = is }) refl)
+    queried rule made lone makes (Some r) is = (refusal_share name r, no_query r (rules.no_query rule made lone makes is) refl)
 
-    by : (r : Option Refusal) → lone_refusal unbuilt.values limits t ≡ r → (share : Share) × ConvertGives backend limits given unbuilt name t share
-    by None is = let rule = each unbuilt.values limits t is in queried rule.0 rule.1 (query_refusal backend unbuilt.items limits given rule.0) refl
+    chained : (rule : PlainRule) → IsLoneRule unbuilt.values limits t rule → (result : Result PlainRule Refusal) → run_pipelines limits ps rule ≡ result
+        → (share : Share) × ConvertGives backend limits ps given unbuilt name t share
+    chained rule lone (Ok made) is = queried rule made lone is (query_refusal backend unbuilt.items limits given made) refl
+    chained rule lone (Err r) is = (refusal_share name r, no_query r (rules.not_made rule lone is) refl)
+
+    by : (r : Option Refusal) → lone_refusal unbuilt.values limits t ≡ r → (share : Share) × ConvertGives backend limits ps given unbuilt name t share
+    by None is = let rule = each unbuilt.values limits t is in chained rule.0 rule.1 (run_pipelines limits ps rule.0) refl
     by (Some r) is = (refusal_share name r, no_query r (rules.no_rule is) refl)
 
 -- ---- one answer
@@ -59,26 +66,69 @@ one_checks one limits unbuilt name t a b (is_rule rule checked is) (no_rule r so
 one_checks one limits unbuilt name t a b (no_rule r so is) (is_rule rule checked too) = absurd (not_none _ r checked.taken so)
 one_checks one limits unbuilt name t a b (no_rule r so is) (no_rule s so_too too) = same_refusal name r s a b (one_cause _ r s so so_too) is too
 
-module _ (one : OneLone) (backend : BackendName) (limits : Limits) (given : Option Schema) (unbuilt : Unbuilt) where
-  one_lone : (t : Tree) (a b : PlainRule) → IsLoneRule unbuilt.values limits t a → IsLoneRule unbuilt.values limits t b → a ≡ b
-  one_lone t a b first second = one unbuilt.values unbuilt.values limits t a b first second
+abbrev made_ok : PlainRule → Result PlainRule Refusal
+made_ok made = Ok made
+
+abbrev made_err : Refusal → Result PlainRule Refusal
+made_err r = Err r
+
+made_is : (result : Result PlainRule Refusal) (a b : PlainRule) → result ≡ Ok a → result ≡ Ok b → a ≡ b
+made_is result a b first second = by (sym first ∙ second)
+  where
+    by : made_ok a ≡ made_ok b → a ≡ b
+    by same = cc
+
+unmade_is : (result : Result PlainRule Refusal) (a b : Refusal) → result ≡ Err a → result ≡ Err b → a ≡ b
+unmade_is result a b first second = by (sym first ∙ second)
+  where
+    by : made_err a ≡ made_err b → a ≡ b
+    by same = cc
+
+made_not_err : (result : Result PlainRule Refusal) (made : PlainRule) (r : Refusal) → result ≡ Ok made → result ≡ Err r → ⊥
+made_not_err result made r first second = apart (sym first ∙ second)
+  where
+    apart : made_ok made ≡ made_err r → ⊥
+    apart same = cc
+
+module _ (one : OneLone) (backend : BackendName) (limits : Limits) (ps : List Pipeline) (given : Option Schema) (unbuilt : Unbuilt) where
+  abbrev Lone : Tree → PlainRule → Type 0
+  Lone t rule = IsLoneRule unbuilt.values limits t rule
+
+  abbrev refused_by : PlainRule → Option Refusal
+  refused_by made = query_refusal backend unbuilt.items limits given made
+
+  -- what pipelines make of the one rule
+  same_chain : (t : Tree) (a b : PlainRule) → Lone t a → Lone t b → run_pipelines limits ps a ≡ run_pipelines limits ps b
+  same_chain t a b first second = ap (run_pipelines limits ps) (one unbuilt.values unbuilt.values limits t a b first second)
+
+  same_made : (t : Tree) (a b made other : PlainRule) → Lone t a → Lone t b → Makes limits ps a made → Makes limits ps b other → made ≡ other
+  same_made t a b made other first second makes makes_too = made_is (run_pipelines limits ps a) made other makes (same_chain t a b first second ∙ makes_too)
 
   -- what has a query isn't refused
-  not_both : (t : Tree) (rule : PlainRule) (r : Refusal) → IsConverted backend unbuilt limits given t rule → IsRefused backend unbuilt limits given t r → ⊥
-  not_both t rule r converted (rules.no_rule is) = not_none _ r converted.lone.taken is
-  not_both t rule r converted (rules.no_query other lone is) =
-      not_none _ r (ap (query_refusal backend unbuilt.items limits given) (one_lone t other rule lone converted.lone) ∙ converted.written) is
+  not_both : (t : Tree) (made : PlainRule) (r : Refusal) → IsConverted backend unbuilt limits ps given t made → IsRefused backend unbuilt limits ps given t r → ⊥
+  not_both t made r converted (rules.no_rule is) = not_none _ r converted.lone.taken is
+  not_both t made r converted (rules.not_made rule lone is) =
+      made_not_err (run_pipelines limits ps rule) made r (same_chain t rule converted.rule lone converted.lone ∙ converted.makes) is
+  not_both t made r converted (rules.no_query rule other lone makes is) =
+      not_none _ r (ap refused_by (same_made t rule converted.rule other made lone converted.lone makes converted.makes) ∙ converted.written) is
 
-  one_refusal : (t : Tree) (r s : Refusal) → IsRefused backend unbuilt limits given t r → IsRefused backend unbuilt limits given t s → r ≡ s
+  one_refusal : (t : Tree) (r s : Refusal) → IsRefused backend unbuilt limits ps given t r → IsRefused backend unbuilt limits ps given t s → r ≡ s
   one_refusal t r s (rules.no_rule is) (rules.no_rule too) = one_cause _ r s is too
-  one_refusal t r s (rules.no_rule is) (rules.no_query rule lone too) = absurd (not_none _ r lone.taken is)
-  one_refusal t r s (rules.no_query rule lone is) (rules.no_rule too) = absurd (not_none _ s lone.taken too)
-  one_refusal t r s (rules.no_query rule lone is) (rules.no_query other lone_too too) =
-      one_cause _ r s is (ap (query_refusal backend unbuilt.items limits given) (one_lone t rule other lone lone_too) ∙ too)
+  one_refusal t r s (rules.no_rule is) (rules.not_made rule lone too) = absurd (not_none _ r lone.taken is)
+  one_refusal t r s (rules.no_rule is) (rules.no_query rule made lone makes too) = absurd (not_none _ r lone.taken is)
+  one_refusal t r s (rules.not_made rule lone is) (rules.no_rule too) = absurd (not_none _ s lone.taken too)
+  one_refusal t r s (rules.not_made rule lone is) (rules.not_made other lone_too too) = unmade_is (run_pipelines limits ps rule) r s is (same_chain t rule other lone lone_too ∙ too)
+  one_refusal t r s (rules.not_made rule lone is) (rules.no_query other made lone_too makes too) =
+      absurd (made_not_err (run_pipelines limits ps rule) made r (same_chain t rule other lone lone_too ∙ makes) is)
+  one_refusal t r s (rules.no_query rule made lone makes is) (rules.no_rule too) = absurd (not_none _ s lone.taken too)
+  one_refusal t r s (rules.no_query rule made lone makes is) (rules.not_made other lone_too too) =
+      absurd (made_not_err (run_pipelines limits ps other) made s (same_chain t other rule lone_too lone ∙ makes) too)
+  one_refusal t r s (rules.no_query rule made lone makes is) (rules.no_query other made_too lone_too makes_too too) =
+      one_cause _ r s is (ap refused_by (same_made t rule other made made_too lone lone_too makes makes_too) ∙ too)
 
-  pub one_converts : OneTree (ConvertGives backend limits given unbuilt)
-  one_converts name t a b (has_query rule so is) (has_query other so_too too) =
-      is ∙ (ap (λ (r : PlainRule). line_share (query_of backend given r)) (one_lone t rule other so.lone so_too.lone) ∙ sym too)
-  one_converts name t a b (has_query rule so is) (no_query r so_too too) = absurd (not_both t rule r so so_too)
-  one_converts name t a b (no_query r so is) (has_query rule so_too too) = absurd (not_both t rule r so_too so)
+  pub one_converts : OneTree (ConvertGives backend limits ps given unbuilt)
+  one_converts name t a b (has_query made so is) (has_query other so_too too) =
+      is ∙ (ap (λ (r : PlainRule). line_share (query_of backend given r)) (same_made t so.rule so_too.rule made other so.lone so_too.lone so.makes so_too.makes) ∙ sym too)
+  one_converts name t a b (has_query made so is) (no_query r so_too too) = absurd (not_both t made r so so_too)
+  one_converts name t a b (no_query r so is) (has_query made so_too too) = absurd (not_both t made r so_too so)
   one_converts name t a b (no_query r so is) (no_query s so_too too) = same_refusal name r s a b (one_refusal t r s so so_too) is too

@@ -5,6 +5,7 @@ pub mod Judged
 pub mod Laws
 pub mod Lifted
 pub mod Named
+pub mod Piped
 pub mod Placed
 pub mod Queried
 pub mod Ran

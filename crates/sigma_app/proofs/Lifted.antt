@@ -8,20 +8,27 @@ use Rattle.answer_parts.specs.State.{State}
 use Rattle.answer_parts.specs.declared.stop.Stop.{Stop}
 use Rattle.event_reading.specs.SchemaOf.{schema_of}
 use Rattle.event_schema.specs.declared.schema.Schema.{Schema}
+use Rattle.pipeline_chain.specs.Priorities.{by_priority}
+use Rattle.pipeline_files.specs.Laws as files
+use Rattle.pipeline_files.specs.Outcomes.{ArePipelines, AreCauses}
+use Rattle.pipeline_model.specs.declared.pipeline.Pipeline.{Pipeline}
 use Rattle.rule_building.specs.Unbuilt.{Unbuilt, none_unbuilt}
 use Rattle.rule_queries.specs.declared.backend_name.BackendName.{BackendName}
 use Rattle.rule_runs.proofs.Runs.{single_later}
 use Rattle.sig_base.specs.declared.limits.Limits.{Limits}
+use Rattle.sig_base.specs.declared.refusal.Refusal.{Refusal}
 use Rattle.sigma_app.proofs.Filed.{files_placed}
+use Rattle.sigma_app.proofs.Piped.{piped_later}
 use Rattle.sigma_app.proofs.Placed.{files_later}
 use Rattle.sigma_app.proofs.Trees.{cut}
 use Rattle.sigma_app.specs.Answers.{Places, IsSchemed, AreChecked, AreRun, ArePlaces, Answers}
 use Rattle.sigma_app.specs.Check.{CheckGives}
 use Rattle.sigma_app.specs.Convert.{ConvertGives}
-use Rattle.sigma_app.specs.Converted.{RulesBySome}
+use Rattle.sigma_app.specs.Converted.{RulesAt, RulesBySome, PipedRules}
 use Rattle.sigma_app.specs.Languages.{AskedBy, AreOfQuery}
-use Rattle.sigma_app.specs.Ran.{RanBySome}
+use Rattle.sigma_app.specs.Ran.{RanUnder, RanBySome, PipedRun}
 use Rattle.sigma_app.specs.RuleFiles.{FilesBySome, contents}
+use Rattle.sigma_app.specs.UnderPipelines.{UnderPipelines, unpiped, piped_by, not_piped, ArePiped, ByPipelines, PipedBuilder, PipedPlaces}
 use Rattle.sigma_app.specs.UnderSchema.{UnderSchema, without, under, refused, IsUnschemed, UnderBuilder}
 use Rattle.sigma_app.specs.declared.request.Request.{Request}
 use Rattle.sigma_app.specs.declared.request.Request.TheVariants.{Check, Convert, Run, Query}
@@ -30,24 +37,24 @@ use Rattle.text_places.specs.Places.{CodeAt}
 -- ---- places of one kind
 
 abbrev pub nowhere : Places
-nowhere = record { documents = []; rule = none_unbuilt; query = [] }
+nowhere = record { pipelines = []; documents = []; rule = none_unbuilt; query = [] }
 
-abbrev pub in_documents : List (List Unbuilt) → Places
-in_documents documents = record { documents = documents; rule = none_unbuilt; query = [] }
+abbrev pub in_documents : List Unbuilt → List (List Unbuilt) → Places
+in_documents pipelines documents = record { pipelines = pipelines; documents = documents; rule = none_unbuilt; query = [] }
 
-abbrev pub in_rule : Unbuilt → Places
-in_rule rule = record { documents = []; rule = rule; query = [] }
+abbrev pub in_rule : List Unbuilt → Unbuilt → Places
+in_rule pipelines rule = record { pipelines = pipelines; documents = []; rule = rule; query = [] }
 
 abbrev pub in_query : List CodeAt → Places
-in_query query = record { documents = []; rule = none_unbuilt; query = query }
+in_query query = record { pipelines = []; documents = []; rule = none_unbuilt; query = query }
 
 -- ---- rule files that are checked
 
 pub check_answers : (limits : Limits) (rules : List (List ℕ)) (before after : List (List ℕ)) (ended : Bool) (needs : Needs) (result : Result Bool Stop) (old new : State)
-    → Ends needs (FilesBySome (CheckGives limits) limits before after ended rules) result old new → Ends needs (Answers limits before after ended (Check rules)) result old new
+    → Ends needs (FilesBySome (CheckGives limits) limits [] before after ended rules) result old new → Ends needs (Answers limits before after ended (Check rules)) result old new
 check_answers limits rules before after ended needs result old new e =
-    ends_as needs (FilesBySome (CheckGives limits) limits before after ended rules) (Answers limits before after ended (Check rules)) result old new
-    (λ w ps some. let placed = files_placed (CheckGives limits) limits before after ended rules w ps some in (in_documents placed.0, placed.1, placed.2)) e
+    ends_as needs (FilesBySome (CheckGives limits) limits [] before after ended rules) (Answers limits before after ended (Check rules)) result old new
+    (λ w ps some. let placed = files_placed (CheckGives limits) limits [] before after ended rules w ps some in (in_documents [] placed.0, placed.1, placed.2)) e
 
 -- ---- a schema's file
 
@@ -78,38 +85,119 @@ not_schemed : (limits : Limits) (schema : Option (List ℕ)) (file : List ℕ) (
 not_schemed limits schema file world code is so schemed =
     let given = subst (λ (s : Option (List ℕ)). IsSchemed limits s world) is schemed in not_both (schema_of limits (contents world.files file)) given.0 code given.1 so
 
+-- ---- a file of pipelines
+
+pipelines_is : (name other : List ℕ) → Some name ≡ Some other → other ≡ name
+pipelines_is name other same = cc
+
+-- the pipelines of the file are these, or there are none where no file is named
+same_piped : files.OnePipelines → (limits : Limits) (piped : List Unbuilt) (file : Option (List ℕ)) (name : List ℕ) (world : World) (ps qs : List Pipeline) → file ≡ Some name
+    → ArePipelines piped limits (contents world.files name) ps → ArePiped limits piped file world qs → ps ≡ qs
+same_piped one limits piped None name world ps qs is are piped_so = absurd cc
+same_piped one limits piped (Some other) name world ps qs is are piped_so =
+    one piped piped limits (contents world.files other) ps qs (subst (λ (n : List ℕ). ArePipelines piped limits (contents world.files n) ps) (pipelines_is other name is) are) piped_so
+
+none_piped_so : (limits : Limits) (piped : List Unbuilt) (file : Option (List ℕ)) (world : World) (qs : List Pipeline) → file ≡ None → ArePiped limits piped file world qs → qs ≡ []
+none_piped_so limits piped None world qs is none = none
+none_piped_so limits piped (Some name) world qs is are = absurd cc
+
+not_piped_so : files.NeverBoth → (limits : Limits) (piped : List Unbuilt) (file : Option (List ℕ)) (name : List ℕ) (world : World) (causes : List Refusal) (qs : List Pipeline) → file ≡ Some name
+    → AreCauses piped limits (contents world.files name) causes → ArePiped limits piped file world qs → ⊥
+not_piped_so never limits piped None name world causes qs is refused_so piped_too = absurd cc
+not_piped_so never limits piped (Some other) name world causes qs is refused_so piped_too =
+    never piped limits (contents world.files other) qs causes piped_too (subst (λ (n : List ℕ). AreCauses piped limits (contents world.files n) causes) (pipelines_is other name is) refused_so)
+
+-- What is answered by pipelines for some places is the answer for these: `At` says what is answered for places of one kind, and `Are` what
+-- these are.
+module _ (one : files.OnePipelines) (never : files.NeverBoth) (limits : Limits) (file : Option (List ℕ)) (before after : List (List ℕ)) (ended : Bool) (given : Option Schema) (world : World)
+    {Kind : Type 0} (nothing : Kind) (by : ByPipelines) (At : Kind → List Pipeline → World → List Part → Type 0) (Are : Kind → List Pipeline → List (List ℕ) → List (List ℕ) → Type 0)
+    (placed : (ps : List Pipeline) (middle : List (List ℕ)) (parts : List Part) → by ps middle after ended given world parts → (kind : Kind) × Are kind ps middle after × At kind ps world parts) where
+  pub piped_places : (parts : List Part) → PipedBuilder by limits file before after ended given world parts
+      → (piped : List Unbuilt) × (kind : Kind) × PipedPlaces (Are kind) limits file before after ended world piped × UnderPipelines (At kind) limits piped file world parts
+  piped_places parts b = of b.answer
+    where
+      some : (kind : Kind) → ((ps : List Pipeline) → ArePiped limits b.piped file world ps → Are kind (by_priority ps) b.middle after) → PipedPlaces (Are kind) limits file before after ended world b.piped
+      some kind behind = record { middle = b.middle; follows = b.follows; are = b.are; behind = behind; still = b.still }
+
+      of : UnderPipelines (λ ps. by ps b.middle after ended given) limits b.piped file world parts
+          → (piped : List Unbuilt) × (kind : Kind) × PipedPlaces (Are kind) limits file before after ended world piped × UnderPipelines (At kind) limits piped file world parts
+      of (unpiped is other) =
+          let at = placed [] b.middle parts other in (
+            b.piped,
+            at.0,
+            some at.0 (λ qs piped_so. subst (λ (l : List Pipeline). Are at.0 (by_priority l) b.middle after) (sym (none_piped_so limits b.piped file world qs is piped_so)) at.1),
+            unpiped is at.2,
+          )
+      of (piped_by name is ps are others other same) =
+          let at = placed (by_priority ps) b.middle others other in (
+            b.piped,
+            at.0,
+            some at.0 (λ qs piped_so. subst (λ (l : List Pipeline). Are at.0 (by_priority l) b.middle after) (same_piped one limits b.piped file name world ps qs is are piped_so) at.1),
+            piped_by name is ps are others at.2 same,
+          )
+      of (not_piped name is causes are share reported same) = (
+        b.piped,
+        nothing,
+        some nothing (λ qs piped_so. absurd (not_piped_so never limits b.piped file name world causes qs is are piped_so)),
+        not_piped name is causes are share reported same,
+      )
+
 -- ---- rule files that are converted, and one that is run
 
-module _ (limits : Limits) (before after : List (List ℕ)) (ended : Bool) (schema : Option (List ℕ)) where
-  pub convert_places : (backend : BackendName) (rules : List (List ℕ)) (world : World) (parts : List Part) → (IsUnschemed limits schema world → after ≡ before)
-      → UnderSchema (RulesBySome (ConvertGives backend limits) limits rules before after ended) limits schema world parts → Answers limits before after ended (Convert backend schema rules) world parts
-  convert_places backend rules world parts still (without is some) =
-      let placed = files_placed (ConvertGives backend limits None) limits before after ended rules world parts some in (in_documents placed.0, ((λ _. placed.1), still), without is placed.2)
-  convert_places backend rules world parts still (under file is given so others some same) =
-      let placed = files_placed (ConvertGives backend limits (Some given)) limits before after ended rules world others some in
-      (in_documents placed.0, ((λ _. placed.1), still), under file is given so others placed.2 same)
-  convert_places backend rules world parts still (refused file is code so same) =
-      (nowhere, ((λ schemed. absurd (not_schemed limits schema file world code is so schemed)), still), refused file is code so same)
+module _ (one : files.OnePipelines) (never : files.NeverBoth) (limits : Limits) (before after : List (List ℕ)) (ended : Bool) (schema pipelines : Option (List ℕ)) where
+  module _ (backend : BackendName) (rules : List (List ℕ)) (world : World) where
+    converted_places : (given : Option Schema) (parts : List Part) → PipedBuilder (RulesBySome (ConvertGives backend limits) limits rules) limits pipelines before after ended given world parts
+        → (piped : List Unbuilt) × (documents : List (List Unbuilt))
+        × PipedPlaces (AreChecked limits ended rules world (in_documents piped documents)) limits pipelines before after ended world piped
+        × PipedRules (ConvertGives backend limits) limits piped documents pipelines rules given world parts
+    converted_places given parts b =
+        let all = piped_places one never limits pipelines before after ended given world [] (RulesBySome (ConvertGives backend limits) limits rules)
+        (λ documents ps. RulesAt (ConvertGives backend limits) limits documents rules ps given) (λ documents. AreChecked limits ended rules world (in_documents [] documents))
+        (λ ps middle parts_too some. files_placed (ConvertGives backend limits ps given) limits ps middle after ended rules world parts_too some) parts b in
+        (all.0, all.1, record { middle = all.2.middle; follows = all.2.follows; are = all.2.are; behind = all.2.behind; still = all.2.still }, all.3)
 
-  pub run_places : (rule : List ℕ) (world : World) (parts : List Part) → (IsUnschemed limits schema world → after ≡ before)
-      → UnderSchema (RanBySome limits rule before after ended) limits schema world parts → Answers limits before after ended (Run schema rule) world parts
-  run_places rule world parts still (without is some) = (in_rule some.unbuilt, ((λ _. (some.follows, some.are)), still), without is some.ran)
-  run_places rule world parts still (under file is given so others some same) =
-      (in_rule some.unbuilt, ((λ _. (some.follows, some.are)), still), under file is given so others some.ran same)
-  run_places rule world parts still (refused file is code so same) =
-      (nowhere, ((λ schemed. absurd (not_schemed limits schema file world code is so schemed)), still), refused file is code so same)
+    pub convert_places : (parts : List Part) → (IsUnschemed limits schema world → after ≡ before)
+        → UnderSchema (PipedBuilder (RulesBySome (ConvertGives backend limits) limits rules) limits pipelines before after ended) limits schema world parts
+        → Answers limits before after ended (Convert backend schema pipelines rules) world parts
+    convert_places parts still (without is some) =
+        let placed = converted_places None parts some in (in_documents placed.0 placed.1, ((λ _. placed.2), still), without is placed.3)
+    convert_places parts still (under file is given so others some same) =
+        let placed = converted_places (Some given) others some in (in_documents placed.0 placed.1, ((λ _. placed.2), still), under file is given so others placed.3 same)
+    convert_places parts still (refused file is code so same) =
+        (nowhere, ((λ schemed. absurd (not_schemed limits schema file world code is so schemed)), still), refused file is code so same)
+
+  module _ (rule : List ℕ) (world : World) where
+    ran_places : (given : Option Schema) (parts : List Part) → PipedBuilder (RanBySome limits rule) limits pipelines before after ended given world parts
+        → (piped : List Unbuilt) × (unbuilt : Unbuilt)
+        × PipedPlaces (AreRun limits ended rule world (in_rule piped unbuilt)) limits pipelines before after ended world piped
+        × PipedRun limits piped unbuilt pipelines rule given world parts
+    ran_places given parts b =
+        let all = piped_places one never limits pipelines before after ended given world none_unbuilt (RanBySome limits rule)
+        (λ unbuilt ps. RanUnder limits unbuilt rule ps given) (λ unbuilt. AreRun limits ended rule world (in_rule [] unbuilt))
+        (λ ps middle parts_too some. (some.unbuilt, (some.follows, some.are), some.ran)) parts b in
+        (all.0, all.1, record { middle = all.2.middle; follows = all.2.follows; are = all.2.are; behind = all.2.behind; still = all.2.still }, all.3)
+
+    pub run_places : (parts : List Part) → (IsUnschemed limits schema world → after ≡ before)
+        → UnderSchema (PipedBuilder (RanBySome limits rule) limits pipelines before after ended) limits schema world parts → Answers limits before after ended (Run schema pipelines rule) world parts
+    run_places parts still (without is some) = let placed = ran_places None parts some in (in_rule placed.0 placed.1, ((λ _. placed.2), still), without is placed.3)
+    run_places parts still (under file is given so others some same) =
+        let placed = ran_places (Some given) others some in (in_rule placed.0 placed.1, ((λ _. placed.2), still), under file is given so others placed.3 same)
+    run_places parts still (refused file is code so same) =
+        (nowhere, ((λ schemed. absurd (not_schemed limits schema file world code is so schemed)), still), refused file is code so same)
 
   module _ (needs : Needs) (result : Result Bool Stop) (old new : State) where
-    pub convert_answers : (backend : BackendName) (rules : List (List ℕ)) → Ends needs (UnderBuilder (RulesBySome (ConvertGives backend limits) limits rules) limits schema before after ended) result old new
-        → Ends needs (Answers limits before after ended (Convert backend schema rules)) result old new
+    pub convert_answers : (backend : BackendName) (rules : List (List ℕ))
+        → Ends needs (UnderBuilder (PipedBuilder (RulesBySome (ConvertGives backend limits) limits rules) limits pipelines) limits schema before after ended) result old new
+        → Ends needs (Answers limits before after ended (Convert backend schema pipelines rules)) result old new
     convert_answers backend rules e =
-        ends_as needs (UnderBuilder (RulesBySome (ConvertGives backend limits) limits rules) limits schema before after ended) (Answers limits before after ended (Convert backend schema rules)) result old new
+        ends_as needs (UnderBuilder (PipedBuilder (RulesBySome (ConvertGives backend limits) limits rules) limits pipelines) limits schema before after ended)
+        (Answers limits before after ended (Convert backend schema pipelines rules)) result old new
         (λ w ps u. convert_places backend rules w ps u.still u.answer) e
 
-    pub run_answers : (rule : List ℕ) → Ends needs (UnderBuilder (RanBySome limits rule) limits schema before after ended) result old new
-        → Ends needs (Answers limits before after ended (Run schema rule)) result old new
+    pub run_answers : (rule : List ℕ) → Ends needs (UnderBuilder (PipedBuilder (RanBySome limits rule) limits pipelines) limits schema before after ended) result old new
+        → Ends needs (Answers limits before after ended (Run schema pipelines rule)) result old new
     run_answers rule e =
-        ends_as needs (UnderBuilder (RanBySome limits rule) limits schema before after ended) (Answers limits before after ended (Run schema rule)) result old new
+        ends_as needs (UnderBuilder (PipedBuilder (RanBySome limits rule) limits pipelines) limits schema before after ended) (Answers limits before after ended (Run schema pipelines rule)) result old new
         (λ w ps u. run_places rule w ps u.still u.answer) e
 
 -- ---- the query that is asked, under a schema
@@ -148,13 +236,24 @@ query_answers backend limits schema file before after ended needs result old new
 not_ended : false ≡ true → ⊥
 not_ended h = cc
 
-checked_cut : (limits : Limits) (before after : List (List ℕ)) (ended : Bool) (rules : List (List ℕ)) (world : World) (places : Places)
-    → AreChecked limits before after ended rules world places → AreChecked limits before after false rules world places
-checked_cut limits before after ended rules world places are = (are.0, files_later limits ended false cut world places.documents rules are.1)
+checked_cut : (limits : Limits) (ended : Bool) (rules : List (List ℕ)) (world : World) (places : Places) (ps : List Pipeline) (before after : List (List ℕ))
+    → AreChecked limits ended rules world places ps before after → AreChecked limits false rules world places ps before after
+checked_cut limits ended rules world places ps before after are = (are.0, files_later limits ps ended false cut world places.documents rules are.1)
 
-run_cut : (limits : Limits) (before after : List (List ℕ)) (ended : Bool) (rule : List ℕ) (world : World) (places : Places)
-    → AreRun limits before after ended rule world places → AreRun limits before after false rule world places
-run_cut limits before after ended rule world places are = (are.0, single_later limits ended false cut places.rule (contents world.files rule) are.1)
+run_cut : (limits : Limits) (ended : Bool) (rule : List ℕ) (world : World) (places : Places) (ps : List Pipeline) (before after : List (List ℕ))
+    → AreRun limits ended rule world places ps before after → AreRun limits false rule world places ps before after
+run_cut limits ended rule world places ps before after are = (are.0, single_later limits ps ended false cut places.rule (contents world.files rule) are.1)
+
+piped_cut : (limits : Limits) (file : Option (List ℕ)) (before after : List (List ℕ)) (ended : Bool) (world : World) (piped : List Unbuilt)
+    (Are Cut : List Pipeline → List (List ℕ) → List (List ℕ) → Type 0) → ((ps : List Pipeline) (before after : List (List ℕ)) → Are ps before after → Cut ps before after)
+    → PipedPlaces Are limits file before after ended world piped → PipedPlaces Cut limits file before after false world piped
+piped_cut limits file before after ended world piped Are Cut f places = record {
+  middle = places.middle;
+  follows = places.follows;
+  are = piped_later limits ended false cut file world piped places.are;
+  behind = λ ps so. f (by_priority ps) places.middle after (places.behind ps so);
+  still = places.still;
+}
 
 query_cut : (backend : BackendName) (limits : Limits) (file : List ℕ) (before after : List (List ℕ)) (ended : Bool) (given : Schema) (world : World) (places : List CodeAt)
     → AreOfQuery backend limits file before after ended given world places → AreOfQuery backend limits file before after false given world places
@@ -162,7 +261,15 @@ query_cut backend limits file before after ended given world places b = record {
 
 pub places_cut : (limits : Limits) (before after : List (List ℕ)) (ended : Bool) (request : Request) (world : World) (places : Places)
     → ArePlaces limits before after ended request world places → ArePlaces limits before after false request world places
-places_cut limits before after ended (Check rules) world places are = checked_cut limits before after ended rules world places are
-places_cut limits before after ended (Convert backend schema rules) world places are = ((λ schemed. checked_cut limits before after ended rules world places (are.0 schemed)), are.1)
-places_cut limits before after ended (Run schema rule) world places are = ((λ schemed. run_cut limits before after ended rule world places (are.0 schemed)), are.1)
+places_cut limits before after ended (Check rules) world places are = checked_cut limits ended rules world places [] before after are
+places_cut limits before after ended (Convert backend schema pipelines rules) world places are = (
+  (λ schemed. piped_cut limits pipelines before after ended world places.pipelines (AreChecked limits ended rules world places) (AreChecked limits false rules world places)
+      (checked_cut limits ended rules world places) (are.0 schemed)),
+  are.1,
+)
+places_cut limits before after ended (Run schema pipelines rule) world places are = (
+  (λ schemed. piped_cut limits pipelines before after ended world places.pipelines (AreRun limits ended rule world places) (AreRun limits false rule world places)
+      (run_cut limits ended rule world places) (are.0 schemed)),
+  are.1,
+)
 places_cut limits before after ended (Query backend schema query) world places are = ((λ given so. query_cut backend limits query before after ended given world places.query (are.0 given so)), are.1)

@@ -1,5 +1,7 @@
 -- Places that stand beside documents, and beside files.
 use Rattle.std.proofs.Common.{◌≡◌, ℕ, ◌≤◌, Bool, true, false, List, [], ◌∷◌, ◌++◌, length, map, refl, sym, ap, ◌∙◌, subst, arith, append_assoc, append-nil}
+use Rattle.pipeline_files.specs.Paired.{paired}
+use Rattle.pipeline_model.specs.declared.pipeline.Pipeline.{Pipeline}
 use Rattle.std.specs.List.{flat_map}
 use Rattle.std.proofs.lemmas.Grind.{flat_map-append}
 use Rattle.std.proofs.lemmas.List.{length-map, map-append}
@@ -8,7 +10,7 @@ use Rattle.event_schema.specs.Lists.{EachOf}
 use Rattle.rule_building.specs.Unbuilt.{Unbuilt, none_unbuilt}
 use Rattle.rule_runs.proofs.Runs.{none_are, unbuilt_later}
 use Rattle.sig_base.specs.declared.limits.Limits.{Limits}
-use Rattle.sigma_app.specs.RuleFiles.{AreOfDocument, AreOfFile, AreOfFiles, contents, paired}
+use Rattle.sigma_app.specs.RuleFiles.{AreOfDocument, AreOfFile, AreOfFiles, contents}
 use Rattle.yaml_tree.specs.Tree.{Answer, tree, refusal}
 
 -- ---- lists of pairs
@@ -61,16 +63,16 @@ module _ {X Y : Type 0} where
 
 -- ---- of an answer that is cut off, there may be none
 
-module _ (limits : Limits) where
-  pub none_of_documents : (documents : List Answer) → EachOf (AreOfDocument limits false) (beside none_unbuilt documents)
+module _ (limits : Limits) (ps : List Pipeline) where
+  pub none_of_documents : (documents : List Answer) → EachOf (AreOfDocument limits ps false) (beside none_unbuilt documents)
   none_of_documents [] = tt
-  none_of_documents (tree t ∷ documents) = (none_are limits t, none_of_documents documents)
+  none_of_documents (tree t ∷ documents) = (none_are limits ps t, none_of_documents documents)
   none_of_documents (refusal p ∷ documents) = (refl, none_of_documents documents)
 
-  pub none_of_file : (bytes : List ℕ) → AreOfFile limits bytes false []
+  pub none_of_file : (bytes : List ℕ) → AreOfFile limits ps bytes false []
   none_of_file bytes = record {
     each = λ documents taken. (
-      subst (EachOf (AreOfDocument limits false)) (beside_paired documents) (none_of_documents documents),
+      subst (EachOf (AreOfDocument limits ps false)) (beside_paired documents) (none_of_documents documents),
       omega arith,
     );
     whole = λ p is. refl;
@@ -80,28 +82,28 @@ module _ (limits : Limits) where
       beside_paired [] = refl
       beside_paired (d ∷ documents) = ap (λ (l : List (Unbuilt × Answer)). (none_unbuilt, d) ∷ l) (beside_paired documents)
 
-  pub none_of_files : (world : World) (names : List (List ℕ)) → EachOf (λ (file : List Unbuilt × List ℕ). AreOfFile limits (contents world.files file.1) false file.0) (beside [] names)
+  pub none_of_files : (world : World) (names : List (List ℕ)) → EachOf (λ (file : List Unbuilt × List ℕ). AreOfFile limits ps (contents world.files file.1) false file.0) (beside [] names)
   none_of_files world [] = tt
   none_of_files world (name ∷ names) = (none_of_file (contents world.files name), none_of_files world names)
 
 -- ---- what came to its end may also have been cut off
 
-module _ (limits : Limits) (ended later : Bool) (so : later ≡ true → ended ≡ true) where
-  pub documents_later : (documents : List (Unbuilt × Answer)) → EachOf (AreOfDocument limits ended) documents → EachOf (AreOfDocument limits later) documents
+module _ (limits : Limits) (ps : List Pipeline) (ended later : Bool) (so : later ≡ true → ended ≡ true) where
+  pub documents_later : (documents : List (Unbuilt × Answer)) → EachOf (AreOfDocument limits ps ended) documents → EachOf (AreOfDocument limits ps later) documents
   documents_later [] are = tt
-  documents_later ((unbuilt, tree t) ∷ documents) are = (unbuilt_later limits ended later so unbuilt t are.0, documents_later documents are.1)
+  documents_later ((unbuilt, tree t) ∷ documents) are = (unbuilt_later limits ps ended later so unbuilt t are.0, documents_later documents are.1)
   documents_later ((unbuilt, refusal p) ∷ documents) are = (are.0, documents_later documents are.1)
 
-  pub file_later : (bytes : List ℕ) (unbuilt : List Unbuilt) → AreOfFile limits bytes ended unbuilt → AreOfFile limits bytes later unbuilt
+  pub file_later : (bytes : List ℕ) (unbuilt : List Unbuilt) → AreOfFile limits ps bytes ended unbuilt → AreOfFile limits ps bytes later unbuilt
   file_later bytes unbuilt are = record {
     each = λ documents taken. let each = are.each documents taken in (documents_later (paired none_unbuilt unbuilt documents) each.0, each.1);
     whole = are.whole;
   }
 
-  pub each_later : (world : World) (files : List (List Unbuilt × List ℕ)) → EachOf (λ file. AreOfFile limits (contents world.files file.1) ended file.0) files
-      → EachOf (λ file. AreOfFile limits (contents world.files file.1) later file.0) files
+  pub each_later : (world : World) (files : List (List Unbuilt × List ℕ)) → EachOf (λ file. AreOfFile limits ps (contents world.files file.1) ended file.0) files
+      → EachOf (λ file. AreOfFile limits ps (contents world.files file.1) later file.0) files
   each_later world [] are = tt
   each_later world (file ∷ files) are = (file_later (contents world.files file.1) file.0 are.0, each_later world files are.1)
 
-  pub files_later : (world : World) (unbuilt : List (List Unbuilt)) (names : List (List ℕ)) → AreOfFiles limits ended world unbuilt names → AreOfFiles limits later world unbuilt names
+  pub files_later : (world : World) (unbuilt : List (List Unbuilt)) (names : List (List ℕ)) → AreOfFiles limits ps ended world unbuilt names → AreOfFiles limits ps later world unbuilt names
   files_later world unbuilt names are = (each_later world (paired [] unbuilt names) are.0, are.1)

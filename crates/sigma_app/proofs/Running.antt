@@ -70,17 +70,18 @@ module _ (limits : Limits) (texts : RefusedTexts) (words : List (List ℕ)) (req
       let s = e.stands world (tells request is_accepted) in
       (s.1.0, cut_of_words ended world s.1.0 s.1.1, λ status parts answer none. stay one world s.0 s.1.0 s.1.2 s.3 status parts answer none)
 
-  converted : AnswersMean → (world : World) (places : Places) (parts : List Part) (backend : BackendName) (schema : Option (List ℕ)) (rules : List (List ℕ)) → AnswersAt limits places request world parts
-      → IsAccepted words (Convert backend schema rules) → Converted (ConvertMeans backend limits) limits places.documents schema rules world parts
-  converted means world places parts backend schema rules answers too =
-      means backend limits places.documents schema rules world parts (subst (λ (r : Request). AnswersAt limits places r world parts) (one_request words request (Convert backend schema rules) is_accepted too) answers)
+  converted : AnswersMean → (world : World) (places : Places) (parts : List Part) (backend : BackendName) (schema pipelines : Option (List ℕ)) (rules : List (List ℕ)) → AnswersAt limits places request world parts
+      → IsAccepted words (Convert backend schema pipelines rules) → Converted (ConvertMeans backend limits) limits places.pipelines places.documents schema pipelines rules world parts
+  converted means world places parts backend schema pipelines rules answers too =
+      means backend limits places.pipelines places.documents schema pipelines rules world parts
+      (subst (λ (r : Request). AnswersAt limits places r world parts) (one_request words request (Convert backend schema pipelines rules) is_accepted too) answers)
 
   pub serves_whole : OneAnswer → AnswersMean → (found : Bool) → Ends (needs_of request) (By true) (Ok found) old new → Serves limits texts words (status_of found) old.inputs new.inputs old.streams new.streams
   serves_whole one means found e = record {
     answer = λ _ world tells. let s = e.stands world (tells request is_accepted) in
         (s.1.0, of_words true world s.1.0 s.1.1, s.0, accepted request is_accepted s.1.2 (ap status_of s.2.0), s.2.1, s.3);
-    headline = λ _ world tells backend schema rules too. let s = e.stands world (tells request is_accepted) in
-        (s.1.0, of_words true world s.1.0 s.1.1, s.0, converted means world s.1.0 s.0 backend schema rules s.1.2 too, s.2.1);
+    headline = λ _ world tells backend schema pipelines rules too. let s = e.stands world (tells request is_accepted) in
+        (s.1.0, of_words true world s.1.0 s.1.1, s.0, converted means world s.1.0 s.0 backend schema pipelines rules s.1.2 too, s.2.1);
     usage = λ _ other. absurd (other request is_accepted);
     unaccepted = λ is. absurd (not_usage found is);
     still = λ _. (e.cause.1, e.cause.2);
@@ -231,7 +232,7 @@ module _ (limits : Limits) (texts : RefusedTexts) (words : List (List ℕ)) (oth
   pub serves_usage : (found : Bool) → Writes IsUsage (Ok found) old new → Serves limits texts words Usage old.inputs new.inputs old.streams new.streams
   serves_usage found w = record {
     answer = λ _ world _. (nowhere, no_places true world, usage_part ∷ [], unaccepted other refl refl, same_gains w.share w.is w.outcome.1, λ none. (ap (λ (i : Inputs). i.left) w.inputs, ap (λ (i : Inputs). i.faults) w.inputs));
-    headline = λ _ world _ backend schema rules too. absurd (other (Convert backend schema rules) too);
+    headline = λ _ world _ backend schema pipelines rules too. absurd (other (Convert backend schema pipelines rules) too);
     usage = λ _ _. refl;
     unaccepted = λ _. other;
     still = λ _. ((ap (λ (i : Inputs). i.failed) w.inputs, ap (λ (i : Inputs). i.faults) w.inputs), w.outcome.2);

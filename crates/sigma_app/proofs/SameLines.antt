@@ -22,6 +22,10 @@ use Rattle.languages.specs.RefusedPlaces.{PatternAt, IsAmong}
 use Rattle.query_files.specs.Ended.{with_line_feed, SameWithLineFeed, RefusedForPatterns}
 use Rattle.query_files.proofs.Text.{one_more}
 use Rattle.query_runs.specs.Asked.{too_large, unread, most_bytes}
+use Rattle.pipeline_chain.specs.Chained.{Makes}
+use Rattle.pipeline_files.specs.Paired.{paired}
+use Rattle.pipeline_files.specs.Places.{file_texts}
+use Rattle.pipeline_model.specs.declared.pipeline.Pipeline.{Pipeline}
 use Rattle.rule_building.proofs.Lists.{some_left, some_right, zip_some}
 use Rattle.rule_building.specs.Unbuilt.{Unbuilt, none_unbuilt, refused_texts, unbuilt_refusal, AreUnbuilt, ArePlacesOf, IsOneOf, IsOfItem}
 use Rattle.rule_items.specs.declared.expression.Expression.{Expression}
@@ -36,7 +40,7 @@ use Rattle.rule_queries.specs.declared.backend_name.BackendName.{BackendName}
 use Rattle.rule_queries.specs.declared.backend_name.BackendName.TheVariants as backends
 use Rattle.rule_runs.specs.Files.{single_tree}
 use Rattle.rule_runs.specs.Laws as running
-use Rattle.rule_runs.specs.Runs.{AreDocuments, no_tree, no_rule, IsSingleRule, IsNoSingleRule, as_one, by_document, no_single, unfit, IsRun, IsNotRun, no_fit, not_built, AreOfTree, AreOfSingle}
+use Rattle.rule_runs.specs.Runs.{AreDocuments, no_tree, no_rule, IsSingleRule, IsNoSingleRule, as_one, by_document, no_single, unmade, no_made, unfit, IsRun, IsNotRun, no_fit, not_built, AreOfTree, AreOfSingle}
 use Rattle.rule_schema.specs.Inferred.{open_refusal, unfit_refusal}
 use Rattle.selected_lines.proofs.Selected.{one_selected}
 use Rattle.selected_lines.specs.Selected.{Picking, EventGives, Selects}
@@ -49,15 +53,16 @@ use Rattle.sig_base.specs.declared.refusal.Refusal.{Refusal}
 use Rattle.sigma_app.proofs.Wording.{one_request}
 use Rattle.sigma_app.specs.Answers.{Places, AnswersAt}
 use Rattle.sigma_app.specs.Convert.{ConvertMeans, means_rule, means_none}
-use Rattle.sigma_app.specs.Converted.{RulesAt}
+use Rattle.sigma_app.specs.Converted.{RulesAt, PipedRules}
 use Rattle.sigma_app.specs.Languages.{patterns, refuses, AskedAt, AreOfQuery}
 use Rattle.sigma_app.specs.Laws.{OneLone, AnswersMean}
 use Rattle.sigma_app.specs.Queried.{asks, doesnt_ask, IsOfBuilder}
-use Rattle.sigma_app.specs.Ran.{RunGives, RanUnder, runs, isnt_run}
+use Rattle.sigma_app.specs.Ran.{RunGives, RanUnder, PipedRun, runs, isnt_run}
 use Rattle.sigma_app.specs.Reports.{line_share, refusal_share}
-use Rattle.sigma_app.specs.RuleFiles.{ByUnbuilt, DocumentGives, FileGivesAt, as_one_at, by_document_at, RuleFileAt, contents, paired}
+use Rattle.sigma_app.specs.RuleFiles.{ByUnbuilt, DocumentGives, FileGivesAt, as_one_at, by_document_at, RuleFileAt, contents}
 use Rattle.sigma_app.specs.SameLines.{Call, AreOfRule, AnswersAlike, RefusesPattern, IsOfSingle, RefusesExpression, SameLines, SameWithoutRefusals, SameByLucene}
 use Rattle.sigma_app.specs.Served.{Answer, accepted, unaccepted, status_of}
+use Rattle.sigma_app.specs.UnderPipelines.{UnderPipelines, unpiped, piped_by, not_piped}
 use Rattle.sigma_app.specs.UnderSchema.{BySchema, UnderSchema, without, under, refused, file_part}
 use Rattle.sigma_app.specs.Words.{IsAccepted}
 use Rattle.sigma_app.specs.declared.request.Request.{Request}
@@ -157,7 +162,7 @@ within_most n most r is = by (nat_le n most) refl is
     by false large none = absurd (none_some r none)
 
 -- a rule with a query fits its schema, and the query has no more bytes than one may have
-module _ (backend : BackendName) (unbuilt : Unbuilt) (limits : Limits) (given : Schema) (top : Tree) (rule : PlainRule) (is : IsConverted backend unbuilt limits (Some given) top rule) where
+module _ (backend : BackendName) (unbuilt : Unbuilt) (limits : Limits) (given : Schema) (top : Tree) (rule : PlainRule) (is : IsConverted backend unbuilt limits [] (Some given) top rule) where
   no_refusal : EachOf (λ check. check ≡ None) (open_refusal rule ∷ filled_checks (missing backend) (text backend) (too_deep backend) unbuilt.items limits (Some given) rule)
   no_refusal = all_none (open_refusal rule ∷ filled_checks (missing backend) (text backend) (too_deep backend) unbuilt.items limits (Some given) rule) is.written
 
@@ -230,16 +235,35 @@ Text backend given rule = query_of backend (Some given) rule
 -- the tree is this rule, with this query, which means the rule, and this share has the query and a line feed
 record HasQuery (backend : BackendName) (limits : Limits) (given : Schema) (top : Tree) (rule : PlainRule) (share : Share) : Type 0 where
   unbuilt : Unbuilt
-  converted : IsConverted backend unbuilt limits (Some given) top rule
+  converted : IsConverted backend unbuilt limits [] (Some given) top rule
   means : Converts backend limits (Some given) rule (Text backend given rule)
   is : share ≡ line_share (Text backend given rule)
 
+-- no pipelines leave a rule as it is
+abbrev made_ok : PlainRule → Result PlainRule Refusal
+made_ok made = Ok made
+
+abbrev made_err : Refusal → Result PlainRule Refusal
+made_err r = Err r
+
+made_same : (rule made : PlainRule) → made_ok rule ≡ made_ok made → rule ≡ made
+made_same rule made same = cc
+
+never_unmade : (rule : PlainRule) (r : Refusal) → made_ok rule ≡ made_err r → ⊥
+never_unmade rule r same = cc
+
 tree_wrote : OneLone → (backend : BackendName) (limits : Limits) (given : Schema) (unbuilt : Unbuilt) (name : List ℕ) (top : Tree) (rule : PlainRule) → IsLoneRule [] limits top rule → (share : Share)
-    → share.refused ≡ false → ConvertMeans backend limits (Some given) unbuilt name top share → HasQuery backend limits given top rule share
+    → share.refused ≡ false → ConvertMeans backend limits [] (Some given) unbuilt name top share → HasQuery backend limits given top rule share
 tree_wrote lone backend limits given unbuilt name top rule is share unrefused (means_rule other converted means so) =
-    subst (λ (r : PlainRule). HasQuery backend limits given top r share) (lone unbuilt.values [] limits top other rule converted.lone is)
+    subst (λ (r : PlainRule). HasQuery backend limits given top r share) (sym (made_same converted.rule other converted.makes) ∙ lone unbuilt.values [] limits top converted.rule rule converted.lone is)
     (record { unbuilt = unbuilt; converted = converted; means = means; is = so })
 tree_wrote lone backend limits given unbuilt name top rule is share unrefused (means_none r why so) = absurd (true_false (sym (ap (λ (s : Share). s.refused) so) ∙ unrefused))
+
+-- without pipelines it's the answer where there are none
+unpiped_only : (by : List Pipeline → World → List Part → Type 0) (limits : Limits) (piped : List Unbuilt) (world : World) (parts : List Part) → UnderPipelines by limits piped None world parts → by [] world parts
+unpiped_only by limits piped world parts (unpiped is other) = other
+unpiped_only by limits piped world parts (piped_by name is ps are others other same) = absurd (none_some name (sym is))
+unpiped_only by limits piped world parts (not_piped name is causes are share reported same) = absurd (none_some name (sym is))
 
 -- what a sink gained that tells it
 gained_text : (old new : Option (List ℕ)) (start bytes output : List ℕ) → old ≡ Some start → new ≡ Some (start ++ bytes) → Appends old new output → bytes ≡ output
@@ -250,7 +274,7 @@ record HasWritten (limits : Limits) (backend : BackendName) (schema_bytes : List
   given : Schema
   schema : schema_of limits schema_bytes ≡ Ok given
   unbuilt : Unbuilt
-  converted : IsConverted backend unbuilt limits (Some given) top rule
+  converted : IsConverted backend unbuilt limits [] (Some given) top rule
   means : Converts backend limits (Some given) rule (Text backend given rule)
   is : bytes ≡ with_line_feed (Text backend given rule)
 
@@ -259,20 +283,21 @@ module _ (lone : OneLone) (mean : AnswersMean) (never : yaml.NeverBoth) (list : 
       → HasWritten limits backend (contents convert.world.files calls.schema) calls.single.1.only.top calls.single.0 (contents query.world.files calls.file)
   convert_wrote limits backend convert run query calls =
       let w = convert.serves.answer convert.answered convert.world convert.told in
-      let a = answered_as limits w.0 convert.words convert.world convert.status w.2 (Convert backend (Some calls.schema) (calls.rule ∷ [])) calls.converts w.3 in
-      of w.0.documents w.2 (mean backend limits w.0.documents (Some calls.schema) (calls.rule ∷ []) convert.world w.2 a.0) (status_none (share_of w.2).refused (sym calls.done ∙ a.1)) w.4.0
+      let a = answered_as limits w.0 convert.words convert.world convert.status w.2 (Convert backend (Some calls.schema) None (calls.rule ∷ [])) calls.converts w.3 in
+      of w.0.pipelines w.0.documents w.2 (mean backend limits w.0.pipelines w.0.documents (Some calls.schema) None (calls.rule ∷ []) convert.world w.2 a.0) (status_none (share_of w.2).refused (sym calls.done ∙ a.1)) w.4.0
     where
-      of : (places : List (List Unbuilt)) (parts : List Part) → UnderSchema (RulesAt (ConvertMeans backend limits) limits places (calls.rule ∷ [])) limits (Some calls.schema) convert.world parts → (share_of parts).refused ≡ false
+      of : (piped : List Unbuilt) (places : List (List Unbuilt)) (parts : List Part) → UnderSchema (PipedRules (ConvertMeans backend limits) limits piped places None (calls.rule ∷ [])) limits (Some calls.schema) convert.world parts → (share_of parts).refused ≡ false
           → Appends convert.old.out convert.new.out (share_of parts).output
           → HasWritten limits backend (contents convert.world.files calls.schema) calls.single.1.only.top calls.single.0 (contents query.world.files calls.file)
-      of places parts (without is each) unrefused gains = absurd (none_some calls.schema is)
-      of places parts (refused file is code so same) unrefused gains = absurd (true_false (sym (ap (λ (ps : List Part). (share_of ps).refused) same) ∙ unrefused))
-      of places parts (under file is given so others each same) unrefused gains =
+      of piped places parts (without is each) unrefused gains = absurd (none_some calls.schema is)
+      of piped places parts (refused file is code so same) unrefused gains = absurd (true_false (sym (ap (λ (ps : List Part). (share_of ps).refused) same) ∙ unrefused))
+      of piped places parts (under file is given so others piped_each same) unrefused gains =
+          let each = unpiped_only (λ ps. RulesAt (ConvertMeans backend limits) limits places (calls.rule ∷ []) ps (Some given)) limits piped convert.world others piped_each in
           let here : file ≡ calls.schema = some_is file calls.schema (sym is) in
           let pair = one_pair [] places calls.rule in
-          let one = one_part (RuleFileAt (ConvertMeans backend limits (Some given)) limits) (pair.0, calls.rule) convert.world others
-          (subst (λ (files : List (List Unbuilt × List ℕ)). EachPart (RuleFileAt (ConvertMeans backend limits (Some given)) limits) files convert.world others) pair.1 each) in
-          let answer = file_share never list (ConvertMeans backend limits (Some given)) limits pair.0 calls.rule (contents convert.world.files calls.rule) calls.single.0 calls.single.1 one.0.share one.1.share in
+          let one = one_part (RuleFileAt (ConvertMeans backend limits [] (Some given)) limits) (pair.0, calls.rule) convert.world others
+          (subst (λ (files : List (List Unbuilt × List ℕ)). EachPart (RuleFileAt (ConvertMeans backend limits [] (Some given)) limits) files convert.world others) pair.1 each) in
+          let answer = file_share never list (ConvertMeans backend limits [] (Some given)) limits pair.0 calls.rule (contents convert.world.files calls.rule) calls.single.0 calls.single.1 one.0.share one.1.share in
           let whole : share_of parts ≡ one.0.share = ap share_of (same ∙ ap (λ (ps : List Part). file_part file no_share ∷ ps) one.2) ∙ join_nothing one.0.share in
           let has = tree_wrote lone backend limits given answer.0 calls.rule calls.single.1.only.top calls.single.0 calls.single.1.only.lone one.0.share
           (sym (ap (λ (s : Share). s.refused) whole) ∙ unrefused) answer.1 in
@@ -312,17 +337,17 @@ refused_of Is refused_so places r are some coded =
     (record { place = one.1; text = one.0 }, one.3, coded ∙ ap (refusal_at 48) (sym one.4), one.2)
 
 module _ (never : yaml.NeverBoth) (list : yaml.OneList) (lone : OneLone) (as_built : AsBuilt) (is_unbuilt : IsUnbuilt) (among : IsAmongUnbuilt) (limits : Limits) (given : Schema) (bytes : List ℕ) (rule : PlainRule)
-    (single : IsSingleRule [] limits bytes rule) (fits : unfit_refusal (Some given) rule ≡ None) (unbuilt : Unbuilt) (are : AreOfSingle limits bytes true unbuilt) where
+    (single : IsSingleRule [] limits bytes rule) (fits : unfit_refusal (Some given) rule ≡ None) (unbuilt : Unbuilt) (are : AreOfSingle limits [] bytes true unbuilt) where
   abbrev IsOfExpression : Refusal → Type 0
   IsOfExpression r = RefusedOf (IsOfSingle limits bytes) (refused_texts unbuilt) r
 
-  of_top : (ds : List Document) → AreDocuments limits bytes ds → (top : Tree) → single_tree ds ≡ Ok top → AreUnbuilt limits top true unbuilt
-  of_top ds taken top is = subst (λ (r : Result Tree Refusal). AreOfTree limits r true unbuilt) is (are.tree ds taken)
+  of_top : (ds : List Document) → AreDocuments limits bytes ds → (top : Tree) → single_tree ds ≡ Ok top → AreUnbuilt (Makes limits []) limits top true unbuilt
+  of_top ds taken top is = subst (λ (r : Result Tree Refusal). AreOfTree limits [] r true unbuilt) is (are.tree ds taken)
 
   of_value : (ds : List Document) → AreDocuments limits bytes ds → (top : Tree) → single_tree ds ≡ Ok top → (r : Refusal) → RefusedOf (IsOneOf (document_expressions limits top)) unbuilt.refused_values r → IsOfExpression r
   of_value ds taken top is r e = (e.0, (ds, taken, top, is, inl e.1), e.2, some_left (λ (t : List ℕ). t ≡ e.0.text) unbuilt.refused_values unbuilt.refused_items e.3)
 
-  of_item : (ds : List Document) → AreDocuments limits bytes ds → (top : Tree) → single_tree ds ≡ Ok top → (r : Refusal) → RefusedOf (IsOfItem top) unbuilt.refused_items r → IsOfExpression r
+  of_item : (ds : List Document) → AreDocuments limits bytes ds → (top : Tree) → single_tree ds ≡ Ok top → (r : Refusal) → RefusedOf (IsOfItem (Makes limits []) top) unbuilt.refused_items r → IsOfExpression r
   of_item ds taken top is r e = (e.0, (ds, taken, top, is, inr e.1), e.2, some_right (λ (t : List ℕ). t ≡ e.0.text) unbuilt.refused_values unbuilt.refused_items e.3)
 
   -- the document of these
@@ -344,15 +369,16 @@ module _ (never : yaml.NeverBoth) (list : yaml.OneList) (lone : OneLone) (as_bui
     | inr of ↦ of_value ds taken top is r (refused_of (IsOneOf (document_expressions limits top)) unbuilt.refused_values unbuilt.values r (of_top ds taken top is).values of.1 of.0)
   ]
 
-  not_run_of : (r : Refusal) → IsNotRun unbuilt limits (Some given) bytes r → IsOfExpression r
-  not_run_of r (no_fit (no_single is)) = no_single_of r is
-  not_run_of r (no_fit (unfit other too is)) =
-      absurd (none_some r (sym is ∙ (ap (unfit_refusal (Some given)) (same_rule unbuilt.values other too) ∙ fits)))
+  not_run_of : (r : Refusal) → IsNotRun unbuilt limits [] (Some given) bytes r → IsOfExpression r
+  not_run_of r (no_fit (no_made (no_single is))) = no_single_of r is
+  not_run_of r (no_fit (no_made (unmade other too is))) = absurd (never_unmade other r is)
+  not_run_of r (no_fit (unfit made too is)) =
+      absurd (none_some r (sym is ∙ (ap (unfit_refusal (Some given)) (sym (made_same too.rule made too.makes) ∙ same_rule unbuilt.values too.rule too.single) ∙ fits)))
   not_run_of r (not_built other fit is) =
-      let ds : List Document = fit.single.documents in
-      let top : Tree = fit.single.only.top in
-      of_item ds fit.single.taken top fit.single.only.single r
-      (refused_of (IsOfItem top) unbuilt.refused_items unbuilt.items r (of_top ds fit.single.taken top fit.single.only.single).items (among unbuilt.items (rule_expressions other) r is) (is_unbuilt unbuilt.items (rule_expressions other) r is))
+      let ds : List Document = fit.rule.single.documents in
+      let top : Tree = fit.rule.single.only.top in
+      of_item ds fit.rule.single.taken top fit.rule.single.only.single r
+      (refused_of (IsOfItem (Makes limits []) top) unbuilt.refused_items unbuilt.items r (of_top ds fit.rule.single.taken top fit.rule.single.only.single).items (among unbuilt.items (rule_expressions other) r is) (is_unbuilt unbuilt.items (rule_expressions other) r is))
 
 -- ---- what `run` answered
 
@@ -364,24 +390,28 @@ record Selected (limits : Limits) (given : Schema) (Picks : Picking) (call : Cal
   status : call.status ≡ status_of (share_of lines).refused
 
 module _ (limits : Limits) (call : Call limits) (schema file : List ℕ) (given : Schema) (so : schema_of limits (contents call.world.files schema) ≡ Ok given) where
-  run_answered : yaml.NeverBoth → yaml.OneList → OneLone → AsBuilt → AllBuilt → IsUnbuilt → IsAmongUnbuilt → running.OneRun → IsAccepted call.words (Run (Some schema) file) → (rule : PlainRule)
+  run_answered : yaml.NeverBoth → yaml.OneList → OneLone → AsBuilt → AllBuilt → IsUnbuilt → IsAmongUnbuilt → running.OneRun → IsAccepted call.words (Run (Some schema) None file) → (rule : PlainRule)
       → IsSingleRule [] limits (contents call.world.files file) rule → unfit_refusal (Some given) rule ≡ None
       → Selected limits given (λ row. Matches given.fields row rule) call ⊎ RefusesExpression file call
   run_answered never list lone as_built built is_unbuilt among one words rule single fits =
       let w = call.serves.answer call.answered call.world call.told in
-      let a = answered_as limits w.0 call.words call.world call.status w.2 (Run (Some schema) file) words w.3 in
-      let u = under_given (RanUnder limits w.0.rule file) limits schema call.world w.2 given so a.0 in
-      let places = (w.1 (Run (Some schema) file) words).0 (given, so) in
-      of w.0.rule places.0 places.1 w.2 u.0 u.1 u.2 w.4 a.1
+      let a = answered_as limits w.0 call.words call.world call.status w.2 (Run (Some schema) None file) words w.3 in
+      let u = under_given (PipedRun limits w.0.pipelines w.0.rule None file) limits schema call.world w.2 given so a.0 in
+      let places = (w.1 (Run (Some schema) None file) words).0 (given, so) in
+      let behind = places.behind [] refl in
+      let start : places.middle ≡ call.texts.before =
+      places.follows ∙ (ap (λ (l : List Unbuilt). call.texts.before ++ file_texts l) places.are ∙ append-nil call.texts.before) in
+      of w.0.rule (behind.0 ∙ ap (λ (l : List (List ℕ)). l ++ refused_texts w.0.rule) start) behind.1 w.2 u.0
+      (unpiped_only (λ ps. RanUnder limits w.0.rule file ps (Some given)) limits w.0.pipelines call.world u.0 u.1) u.2 w.4 a.1
     where
-      is_run : IsRun none_unbuilt limits (Some given) (contents call.world.files file) rule
-      is_run = record { fit = record { single = single; fits = fits }; built = built (rule_expressions rule) }
+      is_run : IsRun none_unbuilt limits [] (Some given) (contents call.world.files file) rule
+      is_run = record { fit = record { rule = record { rule = rule; single = single; makes = refl }; fits = fits }; built = built (rule_expressions rule) }
 
-      of : (unbuilt : Unbuilt) → call.texts.after ≡ call.texts.before ++ refused_texts unbuilt → AreOfSingle limits (contents call.world.files file) true unbuilt → (parts others : List Part)
-          → RanUnder limits unbuilt file (Some given) call.world others → parts ≡ file_part schema no_share ∷ others → Gains (share_of parts) call.old call.new
+      of : (unbuilt : Unbuilt) → call.texts.after ≡ call.texts.before ++ refused_texts unbuilt → AreOfSingle limits [] (contents call.world.files file) true unbuilt → (parts others : List Part)
+          → RanUnder limits unbuilt file [] (Some given) call.world others → parts ≡ file_part schema no_share ∷ others → Gains (share_of parts) call.old call.new
           → call.status ≡ status_of (share_of parts).refused → Selected limits given (λ row. Matches given.fields row rule) call ⊎ RefusesExpression file call
       of unbuilt follows are parts others (runs other is lines each same) whole gains ends =
-          let here : other ≡ rule = one unbuilt none_unbuilt limits (Some given) (contents call.world.files file) other rule is is_run in
+          let here : other ≡ rule = one unbuilt none_unbuilt limits [] (Some given) (contents call.world.files file) other rule is is_run in
           let all : parts ≡ file_part schema no_share ∷ file_part file no_share ∷ lines = whole ∙ ap (λ (ps : List Part). file_part schema no_share ∷ ps) same in
           inl (record {
             lines = lines;

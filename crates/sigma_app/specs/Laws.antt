@@ -4,8 +4,12 @@ use Rattle.answer_parts.specs.EventLines.{EachLine}
 use Rattle.answer_parts.specs.Input.{World}
 use Rattle.answer_parts.specs.Parts.{Share, Part, NoneOfEvents}
 use Rattle.event_reading.specs.SchemaOf.{schema_of}
+use Rattle.event_schema.specs.Lists.{EachOf}
 use Rattle.event_schema.specs.Schemas.{IsSchema}
 use Rattle.event_schema.specs.declared.schema.Schema.{Schema}
+use Rattle.pipeline_chain.specs.Kept.{IsWholePipeline}
+use Rattle.pipeline_files.specs.Outcomes.{AreCauses}
+use Rattle.pipeline_model.specs.declared.pipeline.Pipeline.{Pipeline}
 use Rattle.rule_building.specs.Unbuilt.{Unbuilt}
 use Rattle.rule_model.specs.Plain.{PlainRule}
 use Rattle.rule_model.specs.Rules.{rule_refusal}
@@ -21,7 +25,7 @@ use Rattle.sigma_app.specs.Check.{CheckGives}
 use Rattle.sigma_app.specs.Convert.{ConvertGives, ConvertMeans}
 use Rattle.sigma_app.specs.Converted.{Converted, RulesAt}
 use Rattle.sigma_app.specs.Languages.{AskedBy, AskedAt}
-use Rattle.sigma_app.specs.Ran.{RunGives, RanUnder, Ran}
+use Rattle.sigma_app.specs.Ran.{RunGives, RanUnder, PipedRun, Ran}
 use Rattle.sigma_app.specs.RuleFiles.{ByTree, ByUnbuilt, DocumentGives, FileGivesAt, contents}
 use Rattle.sigma_app.specs.UnderSchema.{BySchema}
 use Rattle.sigma_app.specs.declared.request.Request.{Request}
@@ -44,10 +48,10 @@ EachUnder by = (given : Option Schema) (world : World) → (parts : List Part) �
 
 -- said of the rule files that are converted, of the one that is run, and of the lines of events that are answered
 abbrev pub EachConverted : Type 0
-EachConverted = (backend : BackendName) (limits : Limits) (unbuilt : List (List Unbuilt)) (rules : List (List ℕ)) → EachUnder (RulesAt (ConvertGives backend limits) limits unbuilt rules)
+EachConverted = (backend : BackendName) (limits : Limits) (unbuilt : List (List Unbuilt)) (rules : List (List ℕ)) (ps : List Pipeline) → EachUnder (RulesAt (ConvertGives backend limits) limits unbuilt rules ps)
 
 abbrev pub EachRan : Type 0
-EachRan = (limits : Limits) (unbuilt : Unbuilt) (file : List ℕ) → EachUnder (RanUnder limits unbuilt file)
+EachRan = (limits : Limits) (unbuilt : Unbuilt) (file : List ℕ) (ps : List Pipeline) → EachUnder (RanUnder limits unbuilt file ps)
 
 abbrev pub EachSelected : Type 0
 EachSelected = (schema : Schema) (rule : PlainRule) → EachLine (RunGives schema rule)
@@ -63,13 +67,18 @@ EachAnswer = (limits : Limits) (refused : List (List ℕ)) (request : Request) (
 
 -- exactly where a file isn't run, its answer asks for no events
 abbrev pub AsksUnlessUnrun : Type 0
-AsksUnlessUnrun = (limits : Limits) (unbuilt : Unbuilt) (file : List ℕ) (given : Option Schema) (world : World) (parts : List Part) → RanUnder limits unbuilt file given world parts
-    → (NoneOfEvents parts ↔ ((r : Refusal) × IsNotRun unbuilt limits given (contents world.files file) r))
+AsksUnlessUnrun = (limits : Limits) (unbuilt : Unbuilt) (file : List ℕ) (ps : List Pipeline) (given : Option Schema) (world : World) (parts : List Part) → RanUnder limits unbuilt file ps given world parts
+    → (NoneOfEvents parts ↔ ((r : Refusal) × IsNotRun unbuilt limits ps given (contents world.files file) r))
 
 -- and neither does an answer whose schema is refused
 abbrev pub AsksNoneUnschemed : Type 0
-AsksNoneUnschemed = (limits : Limits) (unbuilt : Unbuilt) (schema file : List ℕ) (world : World) (parts : List Part) (code : ℕ) → schema_of limits (contents world.files schema) ≡ Err code
-    → Ran limits unbuilt (Some schema) file world parts → NoneOfEvents parts
+AsksNoneUnschemed = (limits : Limits) (piped : List Unbuilt) (unbuilt : Unbuilt) (schema file : List ℕ) (pipelines : Option (List ℕ)) (world : World) (parts : List Part) (code : ℕ)
+    → schema_of limits (contents world.files schema) ≡ Err code → Ran limits piped unbuilt (Some schema) pipelines file world parts → NoneOfEvents parts
+
+-- and one whose pipelines are refused
+abbrev pub AsksNoneUnpiped : Type 0
+AsksNoneUnpiped = (limits : Limits) (piped : List Unbuilt) (unbuilt : Unbuilt) (pipelines file : List ℕ) (given : Option Schema) (world : World) (parts : List Part) (causes : List Refusal)
+    → AreCauses piped limits (contents world.files pipelines) causes → PipedRun limits piped unbuilt (Some pipelines) file given world parts → NoneOfEvents parts
 
 -- each tree is answered in one way
 abbrev pub OneTree : ByTree → Type 0
@@ -93,19 +102,20 @@ OneQueried = (backend : BackendName) (limits : Limits) (file : List ℕ) (places
 abbrev pub OneAnswer : Type 0
 OneAnswer = (limits : Limits) (places : Places) (request : Request) (world : World) (a b : List Part) → AnswersAt limits places request world a → AnswersAt limits places request world b → a ≡ b
 
--- said of both commands that answer trees, of each backend and under each schema
+-- said of both commands that answer trees, of each backend, under all pipelines and under each schema
 abbrev pub OfBoth : (ByUnbuilt → Type 0) → Type 0
-OfBoth says = (limits : Limits) → says (CheckGives limits) × ((backend : BackendName) (given : Option Schema) → says (ConvertGives backend limits given))
+OfBoth says = (limits : Limits) → says (CheckGives limits) × ((backend : BackendName) (ps : List Pipeline) (given : Option Schema) → says (ConvertGives backend limits ps given))
 
--- the query of each rule that `convert` answers in a file means the rule
+-- the query of each rule that `convert` answers in a file means the rule that whole pipelines make
 abbrev pub QueriesMean : Type 0
-QueriesMean = (backend : BackendName) (limits : Limits) (given : Option Schema) → IfSome given IsSchema → (unbuilt : List Unbuilt) (name bytes : List ℕ) (share : Share)
-    → FileGivesAt (ConvertGives backend limits given) limits unbuilt name bytes share → FileGivesAt (ConvertMeans backend limits given) limits unbuilt name bytes share
+QueriesMean = (backend : BackendName) (limits : Limits) (ps : List Pipeline) (given : Option Schema) → EachOf IsWholePipeline ps → IfSome given IsSchema
+    → (unbuilt : List Unbuilt) (name bytes : List ℕ) (share : Share)
+    → FileGivesAt (ConvertGives backend limits ps given) limits unbuilt name bytes share → FileGivesAt (ConvertMeans backend limits ps given) limits unbuilt name bytes share
 
 -- and so does that of each rule in its whole answer
 abbrev pub AnswersMean : Type 0
-AnswersMean = (backend : BackendName) (limits : Limits) (unbuilt : List (List Unbuilt)) (schema : Option (List ℕ)) (rules : List (List ℕ)) (world : World) (parts : List Part)
-    → Converted (ConvertGives backend limits) limits unbuilt schema rules world parts → Converted (ConvertMeans backend limits) limits unbuilt schema rules world parts
+AnswersMean = (backend : BackendName) (limits : Limits) (piped : List Unbuilt) (unbuilt : List (List Unbuilt)) (schema pipelines : Option (List ℕ)) (rules : List (List ℕ)) (world : World) (parts : List Part)
+    → Converted (ConvertGives backend limits) limits piped unbuilt schema pipelines rules world parts → Converted (ConvertMeans backend limits) limits piped unbuilt schema pipelines rules world parts
 
 -- a tree that isn't refused is a rule, and one rule only
 abbrev pub EachRule : Type 0

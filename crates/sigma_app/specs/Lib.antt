@@ -11,5 +11,6 @@ pub mod Reports
 pub mod RuleFiles
 pub mod SameLines
 pub mod Served
+pub mod UnderPipelines
 pub mod UnderSchema
 pub mod Words

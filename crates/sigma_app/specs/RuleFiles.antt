@@ -5,8 +5,12 @@ use Rattle.answer_parts.specs.Each.{AllShares, EachPart}
 use Rattle.answer_parts.specs.Input.{World, File}
 use Rattle.answer_parts.specs.Parts.{Share, Part}
 use Rattle.event_schema.specs.Lists.{EachOf}
+use Rattle.pipeline_chain.specs.Chained.{Makes}
+use Rattle.pipeline_files.specs.Paired.{paired}
+use Rattle.pipeline_files.specs.Places.{file_texts}
+use Rattle.pipeline_model.specs.declared.pipeline.Pipeline.{Pipeline}
 use Rattle.rule_building.specs.ForUnbuilt.{ForUnbuilt}
-use Rattle.rule_building.specs.Unbuilt.{Unbuilt, none_unbuilt, refused_texts, AreUnbuilt}
+use Rattle.rule_building.specs.Unbuilt.{Unbuilt, none_unbuilt, AreUnbuilt}
 use Rattle.sig_base.specs.Files.{file_at}
 use Rattle.sig_base.specs.declared.limits.Limits.{Limits}
 use Rattle.rule_runs.specs.Files.{yaml_refusal}
@@ -18,24 +22,19 @@ use Rattle.yaml_tree.specs.Tree.{At, Tree, Answer, tree, refusal}
 abbrev pub ByTree : Type 1
 ByTree = List ℕ → Tree → Share → Type 0
 
--- the same, where regular expressions of the tree aren't built at some places
+-- the same, where regular expressions aren't built at some places
 abbrev pub ByUnbuilt : Type 1
 ByUnbuilt = Unbuilt → ByTree
 
--- for some such places, where the builder had refused these texts before and then has refused those after
-abbrev pub BySome : ByUnbuilt → Limits → List (List ℕ) → List (List ℕ) → Bool → ByTree
-BySome by limits before after ended name t share = ForUnbuilt limits t before after ended (λ unbuilt. by unbuilt name t share)
+-- for some such places of the tree and of the rule that these pipelines make of it, where the builder had refused these texts before and
+-- then has refused those after
+abbrev pub BySome : ByUnbuilt → Limits → List Pipeline → List (List ℕ) → List (List ℕ) → Bool → ByTree
+BySome by limits ps before after ended name t share = ForUnbuilt (Makes limits ps) limits t before after ended (λ unbuilt. by unbuilt name t share)
 
 -- what a document is answered: by its tree, or the refusal of YAML
 abbrev pub DocumentGives : ByTree → List ℕ → Answer → Share → Type 0
 DocumentGives by name (tree t) share = by name t share
 DocumentGives by name (refusal p) share = share ≡ refusal_share name (yaml_refusal p)
-
--- the elements of the second list, each beside one of the first list, and behind its end beside this one
-abbrev pub paired : {A B : Type 0} → A → List A → List B → List (A × B)
-paired none firsts [] = []
-paired none [] (second ∷ seconds) = (none, second) ∷ paired none [] seconds
-paired none (first ∷ firsts) (second ∷ seconds) = (first, second) ∷ paired none firsts seconds
 
 -- What a file is answered: one refusal where it is too large, no text, or has too many documents, and else an answer to
 -- each of its documents with content, in their order. Beside each document are the places at which its regular expressions aren't built;
@@ -56,26 +55,23 @@ pub record RuleFileAt (by : ByUnbuilt) (limits : Limits) (file : List Unbuilt ×
 
 -- ---- what the places are
 
--- of a document that is a tree; of one that YAML refuses there are none
-abbrev pub AreOfDocument : Limits → Bool → Unbuilt × Answer → Type 0
-AreOfDocument limits ended (unbuilt, tree t) = AreUnbuilt limits t ended unbuilt
-AreOfDocument limits ended (unbuilt, refusal p) = unbuilt ≡ none_unbuilt
+-- of a document that is a tree, and of the rule that these pipelines make of it; of one that YAML refuses there are none
+abbrev pub AreOfDocument : Limits → List Pipeline → Bool → Unbuilt × Answer → Type 0
+AreOfDocument limits ps ended (unbuilt, tree t) = AreUnbuilt (Makes limits ps) limits t ended unbuilt
+AreOfDocument limits ps ended (unbuilt, refusal p) = unbuilt ≡ none_unbuilt
 
 -- of each document of a file; there are no more, and none where the file is refused as one
-pub record AreOfFile (limits : Limits) (bytes : List ℕ) (ended : Bool) (unbuilt : List Unbuilt) : Type 0 where
+pub record AreOfFile (limits : Limits) (ps : List Pipeline) (bytes : List ℕ) (ended : Bool) (unbuilt : List Unbuilt) : Type 0 where
   pub each : (documents : List Answer) → IsTaken limits.file_bytes limits.documents limits.yaml_depth bytes documents
-      → EachOf (AreOfDocument limits ended) (paired none_unbuilt unbuilt documents) × (length unbuilt ≤ length documents)
+      → EachOf (AreOfDocument limits ps ended) (paired none_unbuilt unbuilt documents) × (length unbuilt ≤ length documents)
   pub whole : (p : ℕ × At) → IsCallRefusal limits.file_bytes limits.documents bytes p → unbuilt ≡ []
 
 -- of each of these files; there are no more
-abbrev pub AreOfFiles : Limits → Bool → World → List (List Unbuilt) → List (List ℕ) → Type 0
-AreOfFiles limits ended world unbuilt names =
-    EachOf (λ file. AreOfFile limits (contents world.files file.1) ended file.0) (paired [] unbuilt names) × (length unbuilt ≤ length names)
+abbrev pub AreOfFiles : Limits → List Pipeline → Bool → World → List (List Unbuilt) → List (List ℕ) → Type 0
+AreOfFiles limits ps ended world unbuilt names =
+    EachOf (λ file. AreOfFile limits ps (contents world.files file.1) ended file.0) (paired [] unbuilt names) × (length unbuilt ≤ length names)
 
--- the texts that the builder refused of a file's documents, in their order, and those of some files
-abbrev pub file_texts : List Unbuilt → List (List ℕ)
-file_texts unbuilt = flat_map refused_texts unbuilt
-
+-- the texts that the builder refused of some files, in their order
 abbrev pub all_texts : List (List Unbuilt) → List (List ℕ)
 all_texts unbuilt = flat_map file_texts unbuilt
 
@@ -83,24 +79,24 @@ all_texts unbuilt = flat_map file_texts unbuilt
 -- former those of these places, and nothing else
 
 -- the share of some documents of a file, each with its places beside it
-pub record DocumentsBySome (by : ByUnbuilt) (limits : Limits) (before after : List (List ℕ)) (ended : Bool) (name : List ℕ) (documents : List Answer) (share : Share) : Type 0 where
+pub record DocumentsBySome (by : ByUnbuilt) (limits : Limits) (ps : List Pipeline) (before after : List (List ℕ)) (ended : Bool) (name : List ℕ) (documents : List Answer) (share : Share) : Type 0 where
   pub placed : List (Unbuilt × Answer)
   pub of : map (λ d. d.1) placed ≡ documents
   pub follows : after ≡ before ++ file_texts (map (λ d. d.0) placed)
-  pub are : EachOf (AreOfDocument limits ended) placed
+  pub are : EachOf (AreOfDocument limits ps ended) placed
   pub gives : AllShares (λ d. DocumentGives (by d.0) name d.1) placed share
 
 -- the share of a file
-pub record FileBySome (by : ByUnbuilt) (limits : Limits) (before after : List (List ℕ)) (ended : Bool) (name bytes : List ℕ) (share : Share) : Type 0 where
+pub record FileBySome (by : ByUnbuilt) (limits : Limits) (ps : List Pipeline) (before after : List (List ℕ)) (ended : Bool) (name bytes : List ℕ) (share : Share) : Type 0 where
   pub unbuilt : List Unbuilt
   pub follows : after ≡ before ++ file_texts unbuilt
-  pub are : AreOfFile limits bytes ended unbuilt
+  pub are : AreOfFile limits ps bytes ended unbuilt
   pub gives : FileGivesAt by limits unbuilt name bytes share
 
 -- the parts of some files, each with its documents' places beside it
-pub record FilesBySome (by : ByUnbuilt) (limits : Limits) (before after : List (List ℕ)) (ended : Bool) (names : List (List ℕ)) (world : World) (parts : List Part) : Type 0 where
+pub record FilesBySome (by : ByUnbuilt) (limits : Limits) (ps : List Pipeline) (before after : List (List ℕ)) (ended : Bool) (names : List (List ℕ)) (world : World) (parts : List Part) : Type 0 where
   pub placed : List (List Unbuilt × List ℕ)
   pub of : map (λ file. file.1) placed ≡ names
   pub follows : after ≡ before ++ all_texts (map (λ file. file.0) placed)
-  pub are : EachOf (λ file. AreOfFile limits (contents world.files file.1) ended file.0) placed
+  pub are : EachOf (λ file. AreOfFile limits ps (contents world.files file.1) ended file.0) placed
   pub each : EachPart (RuleFileAt by limits) placed world parts

@@ -1,9 +1,10 @@
 -- What a detection engineer sees from outside: `run` of a rule and `query` of what `convert` wrote for it answer the same.
-use Rattle.std.specs.Prelude.{◌≡◌, ◌⊎◌, ℕ, List, [], ◌∷◌, ◌++◌, Some, Ok}
+use Rattle.std.specs.Prelude.{◌≡◌, ◌⊎◌, ℕ, List, [], ◌∷◌, ◌++◌, None, Some, Ok}
 use Rattle.answer_parts.specs.Input.{World}
 use Rattle.answer_parts.specs.Parts.{Share, Gains}
 use Rattle.answer_parts.specs.State.{Inputs, Streams}
 use Rattle.languages.specs.RefusedPlaces.{IsAmong}
+use Rattle.pipeline_chain.specs.Chained.{Makes}
 use Rattle.rule_building.specs.Unbuilt.{IsOneOf, IsOfItem}
 use Rattle.rule_items.specs.declared.expression.Expression.{Expression}
 use Rattle.rule_model.specs.Expressions.{document_expressions}
@@ -41,15 +42,15 @@ pub record Call (limits : Limits) : Type 0 where
   pub world : World
   pub told : Tells words before world
 
--- The calls `convert --backend B --schema S RULE`, `run --schema S RULE` and `query --backend B --schema S QUERY`, where the file QUERY has
+-- The calls, without pipelines, `convert --backend B --schema S RULE`, `run --schema S RULE` and `query --backend B --schema S QUERY`, where the file QUERY has
 -- what the first of them wrote. Each of them read the same bytes of S, the first two the same bytes of RULE, and the last two the same events.
 -- RULE is a single rule, where all of its regular expressions are built, and `convert` refused nothing.
 pub record AreOfRule (limits : Limits) (backend : BackendName) (convert run query : Call limits) : Type 0 where
   pub schema : List ℕ
   pub rule : List ℕ
   pub file : List ℕ
-  pub converts : IsAccepted convert.words (Convert backend (Some schema) (rule ∷ []))
-  pub runs : IsAccepted run.words (Run (Some schema) rule)
+  pub converts : IsAccepted convert.words (Convert backend (Some schema) None (rule ∷ []))
+  pub runs : IsAccepted run.words (Run (Some schema) None rule)
   pub asks : IsAccepted query.words (Query backend schema file)
   pub run_schema : contents run.world.files schema ≡ contents convert.world.files schema
   pub query_schema : contents query.world.files schema ≡ contents convert.world.files schema
@@ -81,7 +82,7 @@ pub record RefusesPattern {limits : Limits} (backend : BackendName) (file : List
 abbrev pub IsOfSingle : Limits → List ℕ → Expression → Type 0
 IsOfSingle limits bytes expression =
     (documents : List Answer) × AreDocuments limits bytes documents × (top : Tree) × (single_tree documents ≡ Ok top)
-    × (IsOneOf (document_expressions limits top) expression ⊎ IsOfItem top expression)
+    × (IsOneOf (document_expressions limits top) expression ⊎ IsOfItem (Makes limits []) top expression)
 
 -- all that was answered is that the rule of this file isn't run, with 48, at the place of a regular expression of it that the builder refused in
 -- this call

@@ -79,16 +79,18 @@ Written limits texts words world status before after old new =
     (places : Places) × PlacesOf limits texts true words world places × (parts : List Part) × Answer limits places words world status parts × Gains (share_of parts) old new
     × (NoneOfEvents parts → EventsStay before after)
 
--- The headline: what `convert` writes is, for each document that is a rule with a query, in order, the query and a line feed, and
--- nothing else; the query's bytes are read as exactly one query of the backend's language, within the reader's limits, which selects an
--- event of the given schema, or else of the one that is made of the rule, exactly where the rule matches it; and each other document
--- has its one diagnostic, with the first cause for which it has no query, which is 48 only at a place of a regular expression that
--- the builder refused in this run. Where the file that is named as the schema is none, its one diagnostic is all that is written.
+-- The headline: what `convert` writes is, for each document that is a rule of which the pipelines, by their priority, make one with a query,
+-- in order, the query and a line feed, and nothing else; the query's bytes are read as exactly one query of the backend's language, within
+-- the reader's limits, which selects an event of the given schema, or else of the one that is made of the rule that the pipelines make,
+-- exactly where this rule matches it; and each other document has its one diagnostic, with the first cause for which it has no query, which
+-- is 48 only at a place of a regular expression that the builder refused in this run. Where the file that is named as the schema is none,
+-- its one diagnostic is all that is written; where the file of pipelines is refused, as a whole or for some of its documents, the
+-- diagnostics about it are.
 abbrev pub Headline : Limits → RefusedTexts → List (List ℕ) → World → Streams → Streams → Type 0
 Headline limits texts words world old new =
-    (backend : BackendName) (schema : Option (List ℕ)) (rules : List (List ℕ)) → IsAccepted words (Convert backend schema rules)
+    (backend : BackendName) (schema pipelines : Option (List ℕ)) (rules : List (List ℕ)) → IsAccepted words (Convert backend schema pipelines rules)
     → (places : Places) × PlacesOf limits texts true words world places
-    × (parts : List Part) × Converted (ConvertMeans backend limits) limits places.documents schema rules world parts × Gains (share_of parts) old new
+    × (parts : List Part) × Converted (ConvertMeans backend limits) limits places.pipelines places.documents schema pipelines rules world parts × Gains (share_of parts) old new
 
 -- What stands where the run was cut off: a front of the answer's output, and of its diagnostics some whole ones and the beginning of at
 -- most one more.

@@ -3,7 +3,7 @@ use Rattle.std.specs.Prelude.{◌≡◌, ℕ, ◌^◌, ◌<◌, nat_lt, if◌the
 use Rattle.std.specs.Str.{bytes_eq, chars}
 use Rattle.command_words.specs.Computed.{given}
 use Rattle.command_words.specs.Given.{Item, value_of, names_of}
-use Rattle.command_words.specs.Table.{row_of, backend, schema, IsGiven}
+use Rattle.command_words.specs.Table.{row_of, backend, schema, pipeline, IsGiven}
 use Rattle.command_words.specs.declared.command_name.CommandName.{CommandName}
 use Rattle.command_words.specs.declared.command_name.CommandName.TheVariants as commands
 use Rattle.rule_queries.specs.declared.backend_name.BackendName.{BackendName}
@@ -22,6 +22,10 @@ files_of items = map chars (names_of items)
 -- the schema's file, if the items name one
 abbrev pub schema_in : List Item → Option (List ℕ)
 schema_in items = option_map chars (value_of schema items)
+
+-- the file of pipelines, if they name one
+abbrev pub pipelines_in : List Item → Option (List ℕ)
+pipelines_in items = option_map chars (value_of pipeline items)
 
 -- the names of the backends, a line for each
 abbrev pub backend_names : List (List ℕ × BackendName)
@@ -49,8 +53,8 @@ only (name ∷ other ∷ others) = None
 abbrev pub request_with : CommandName → List Item → Option Request
 request_with commands.Check items = Some (Check (files_of items))
 request_with commands.Convert items =
-    option_map (λ name. Convert name (schema_in items) (files_of items)) (option_and_then backend_named (value_of backend items))
-request_with commands.Run items = option_map (Run (schema_in items)) (only (files_of items))
+    option_map (λ name. Convert name (schema_in items) (pipelines_in items) (files_of items)) (option_and_then backend_named (value_of backend items))
+request_with commands.Run items = option_map (Run (schema_in items) (pipelines_in items)) (only (files_of items))
 request_with commands.Query items =
     option_and_then (λ name. option_and_then (λ under. option_map (Query name under) (only (files_of items))) (schema_in items))
     (option_and_then backend_named (value_of backend items))

@@ -1,8 +1,9 @@
 //! Answering rule files, document by document.
 
-ghost use Rattle.std.specs.Prelude.{◌≡◌, ◌||◌, ◌∷◌, []};
+ghost use Rattle.std.specs.Prelude.{◌≡◌, ◌||◌, ◌∷◌, [], List};
 ghost use Rattle.std.specs.List.{All};
 ghost use Rattle.answer_parts.specs.Stands.{Writes};
+ghost use Rattle.pipeline_model.specs.declared.pipeline.Pipeline.{Pipeline};
 ghost use Rattle.rule_building.specs.Unbuilt.{Unbuilt};
 ghost use Rattle.sig_base.specs.declared.limits.Limits.{Limits as LimitsData};
 ghost use Rattle.sigma_app.specs.Reports.{refusal_share};
@@ -24,6 +25,12 @@ use yaml_tree::{Document, Node};
 pub(super) trait TreeCommand {
     ghost gives: { Self → LimitsData → ByUnbuilt };
 
+    /// What makes rules of those that documents are.
+    ghost pipelines: { Self → List Pipeline };
+
+    /// What has to be so of the command.
+    ghost stands: { Self → Type 0 };
+
     /// Answers a tree, and tells whether it is refused; regular expressions are built by the builder.
     fn answer<W: Outside, B: Builder>(
         &self,
@@ -34,7 +41,8 @@ pub(super) trait TreeCommand {
         outside: &mut W,
         builder: &mut B,
     ) -> Result<bool, Stop>
-        ensures { Writes (BySome (gives self.now limits.now) limits.now (B.refused builder.old) (B.refused builder.new) (is_ended result) name.now (node_view node.now)) result (W.state outside.old) (W.state outside.new) };
+        requires { stands self.now }
+        ensures { Writes (BySome (gives self.now limits.now) limits.now (pipelines self.now) (B.refused builder.old) (B.refused builder.new) (is_ended result) name.now (node_view node.now)) result (W.state outside.old) (W.state outside.new) };
 
     /// Each tree has an answer.
     fn each_tree(&self)
@@ -51,7 +59,8 @@ pub(super) fn answer_bytes<T: TreeCommand, W: Outside, B: Builder>(
     outside: &mut W,
     builder: &mut B,
 ) -> Result<bool, Stop>
-    ensures { Writes (FileBySome (T.gives command.now limits.now) limits.now (B.refused builder.old) (B.refused builder.new) (is_ended result) name.now bytes.now) result (W.state outside.old) (W.state outside.new) }
+    requires { T.stands command.now }
+    ensures { Writes (FileBySome (T.gives command.now limits.now) limits.now (T.pipelines command.now) (B.refused builder.old) (B.refused builder.new) (is_ended result) name.now bytes.now) result (W.state outside.old) (W.state outside.new) }
 {
     each_file(command);
     yaml_documents::laws::verdicts();
@@ -88,8 +97,9 @@ fn answer_documents<T: TreeCommand, W: Outside, B: Builder>(
     outside: &mut W,
     builder: &mut B,
 ) -> Result<bool, Stop>
-    requires { All IsPlain documents.now }
-    ensures { Writes (DocumentsBySome (T.gives command.now limits.now) limits.now (B.refused builder.old) (B.refused builder.new) (is_ended result) name.now (answers_view documents.now)) result (W.state outside.old) (W.state outside.new) }
+    requires plain { All IsPlain documents.now }
+    requires stands { T.stands command.now }
+    ensures { Writes (DocumentsBySome (T.gives command.now limits.now) limits.now (T.pipelines command.now) (B.refused builder.old) (B.refused builder.new) (is_ended result) name.now (answers_view documents.now)) result (W.state outside.old) (W.state outside.new) }
 {
     command.each_tree();
     let mut found = false;
@@ -117,8 +127,9 @@ fn answer_document<T: TreeCommand, W: Outside, B: Builder>(
     outside: &mut W,
     builder: &mut B,
 ) -> Result<bool, Stop>
-    requires { IsPlain document.now }
-    ensures { Writes (DocumentsBySome (T.gives command.now limits.now) limits.now (B.refused builder.old) (B.refused builder.new) (is_ended result) name.now (document_view document.now ∷ [])) result (W.state outside.old) (W.state outside.new) }
+    requires plain { IsPlain document.now }
+    requires stands { T.stands command.now }
+    ensures { Writes (DocumentsBySome (T.gives command.now limits.now) limits.now (T.pipelines command.now) (B.refused builder.old) (B.refused builder.new) (is_ended result) name.now (document_view document.now ∷ [])) result (W.state outside.old) (W.state outside.new) }
 {
     match document {
         Document::Tree(node) => command.answer(alloc, limits, name, node, outside, builder),

@@ -21,7 +21,8 @@ pub(super) fn answer_files<T: TreeCommand, W: Outside, B: Builder>(
     outside: &mut W,
     builder: &mut B,
 ) -> Result<bool, Stop>
-    ensures { Ends (record { names = names.now; events = false }) (FilesBySome (T.gives command.now limits.now) limits.now (B.refused builder.old) (B.refused builder.new) (is_ended result) names.now) result (W.state outside.old) (W.state outside.new) }
+    requires { T.stands command.now }
+    ensures { Ends (record { names = names.now; events = false }) (FilesBySome (T.gives command.now limits.now) limits.now (T.pipelines command.now) (B.refused builder.old) (B.refused builder.new) (is_ended result) names.now) result (W.state outside.old) (W.state outside.new) }
 {
     each_file(command);
     let mut found = false;
@@ -43,7 +44,8 @@ fn answer_file<T: TreeCommand, W: Outside, B: Builder>(
     outside: &mut W,
     builder: &mut B,
 ) -> Result<bool, Stop>
-    ensures { (needs : Needs) → Contains needs.names name.now → Ends (record { names = needs.names; events = false }) (FilesBySome (T.gives command.now limits.now) limits.now (B.refused builder.old) (B.refused builder.new) (is_ended result) (name.now ∷ [])) result (W.state outside.old) (W.state outside.new) }
+    requires { T.stands command.now }
+    ensures { (needs : Needs) → Contains needs.names name.now → Ends (record { names = needs.names; events = false }) (FilesBySome (T.gives command.now limits.now) limits.now (T.pipelines command.now) (B.refused builder.old) (B.refused builder.new) (is_ended result) (name.now ∷ [])) result (W.state outside.old) (W.state outside.new) }
 {
     each_file(command);
     match read_file(alloc, name, limits.file_bytes + 1, outside) {

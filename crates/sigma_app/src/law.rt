@@ -1,7 +1,7 @@
 //! That words are one request at most, that each request has exactly one answer, and that each rule's query means the rule.
 
 ghost use Rattle.std.specs.Prelude.{◌≡◌, ◌↔◌, List, ℕ, Some};
-ghost use Rattle.sigma_app.specs.Laws.{AsksUnlessUnrun, AsksNoneUnschemed, EachDocument, EachFile, EachConverted, EachQueried, EachRan, EachSelected, EachAnswer, OneDocument, OneFile, OneAnswer, OfBoth, QueriesMean, AnswersMean};
+ghost use Rattle.sigma_app.specs.Laws.{AsksUnlessUnrun, AsksNoneUnschemed, AsksNoneUnpiped, EachDocument, EachFile, EachConverted, EachQueried, EachRan, EachSelected, EachAnswer, OneDocument, OneFile, OneAnswer, OfBoth, QueriesMean, AnswersMean};
 ghost use Rattle.sigma_app.specs.Words.{IsAccepted, read};
 ghost use Rattle.sigma_app.specs.declared.request.Request.{Request};
 
@@ -33,6 +33,7 @@ pub fn each_answer()
     SqlReader::law();
     LuceneReader::law();
     yaml_documents::laws::verdicts();
+    pipeline_files::one_outcome();
 }
 
 /// A document has at most one answer, and so each file and each request.
@@ -48,14 +49,17 @@ pub fn one_answer()
     query_runs::asked_once::<LuceneReader>();
     yaml_documents::laws::verdicts();
     yaml_documents::laws::one_verdict();
+    pipeline_files::one_outcome();
 }
 
-/// The answer to `run` asks for events exactly where the schema is none that is refused and the file is run.
+/// The answer to `run` asks for events exactly where neither the schema nor the pipelines are refused and the file is run.
 pub fn asks_for_events()
     ensures run { AsksUnlessUnrun }
     ensures schema { AsksNoneUnschemed }
+    ensures pipelines { AsksNoneUnpiped }
 {
     rule_runs::one_run();
+    pipeline_files::one_outcome();
 }
 
 /// The query of each rule that `convert` answers means the rule.
@@ -66,4 +70,5 @@ pub fn queries_mean_rules()
     event_reading::schemas_are_kept();
     rule_queries::named::queries_mean_rules();
     yaml_bounds::laws::texts_are_scalars();
+    pipeline_files::one_outcome();
 }

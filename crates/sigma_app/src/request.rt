@@ -10,15 +10,19 @@ pub enum Request {
     Check {
         rules: Texts,
     },
-    /// Write the query of each in the language of a backend, under the schema of a file if one is named.
+    /// Write the query of what the pipelines of a file, if one is named, make of each, in the language of a backend and under the schema of
+    /// a file if one is named.
     Convert {
         backend: BackendName,
         schema: Option<Text>,
+        pipelines: Option<Text>,
         rules: Texts,
     },
-    /// Write the events that the rule matches, read under the schema of a file if one is named.
+    /// Write the events that what the pipelines of a file, if one is named, make of the rule matches, read under the schema of a file if one
+    /// is named.
     Run {
         schema: Option<Text>,
+        pipelines: Option<Text>,
         rule: Text,
     },
     /// Write the events that the query of a file selects, in the language of a backend and read under the schema of a file.

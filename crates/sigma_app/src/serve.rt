@@ -152,6 +152,7 @@ fn answer_request<W: Outside, B: Builder>(
 ) -> Result<bool, Stop>
     ensures { Ends (needs_of request.now) (Answers limits.now (B.refused builder.old) (B.refused builder.new) (is_ended result) request.now) result (W.state outside.old) (W.state outside.new) }
 {
+    pipeline_files::one_outcome();
     match request {
         Request::Check { rules } => {
             answer_files(alloc, &Check, limits, rules.as_slice(), outside, builder)
@@ -159,17 +160,23 @@ fn answer_request<W: Outside, B: Builder>(
         Request::Convert {
             backend,
             schema,
+            pipelines,
             rules,
         } => answer_convert(
             alloc,
             *backend,
             limits,
             schema,
+            pipelines,
             rules.as_slice(),
             outside,
             builder,
         ),
-        Request::Run { schema, rule } => answer_run(alloc, limits, schema, rule, outside, builder),
+        Request::Run {
+            schema,
+            pipelines,
+            rule,
+        } => answer_run(alloc, limits, schema, pipelines, rule, outside, builder),
         Request::Query {
             backend,
             schema,

@@ -4,6 +4,7 @@ mod cuts;
 mod expressions;
 mod faults;
 mod modifiers;
+mod pipelines;
 mod query_faults;
 mod querying;
 mod rules;

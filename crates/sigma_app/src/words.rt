@@ -4,7 +4,7 @@ ghost use Rattle.std.specs.Prelude.{◌≡◌, List, [], map, Some, unwrap_or, o
 ghost use Rattle.std.specs.Str.{chars};
 ghost use Rattle.command_words.specs.Given.{Item};
 ghost use Rattle.command_words.specs.Matched.{HasItems};
-ghost use Rattle.sigma_app.specs.Words.{IsAccepted, IsUnaccepted, files_of, only, request_with, schema_in};
+ghost use Rattle.sigma_app.specs.Words.{IsAccepted, IsUnaccepted, files_of, only, pipelines_in, request_with, schema_in};
 ghost use Rattle.sigma_app.specs.Words as accepted_words;
 ghost use Rattle.sigma_app.specs.declared.request.Request.TheVariants as requests;
 
@@ -129,10 +129,15 @@ fn convert_request(alloc: Global, found: &ArgMatches) -> Result<Option<Request>,
         Ok(rules) => rules,
         Err(error) => return Err(error),
     };
+    let pipelines = match copy_if_any(alloc, found.get_str("pipeline")) {
+        Ok(pipelines) => pipelines,
+        Err(error) => return Err(error),
+    };
     match copy_if_any(alloc, found.get_str("schema")) {
         Ok(schema) => Ok(Some(Request::Convert {
             backend,
             schema,
+            pipelines,
             rules,
         })),
         Err(error) => Err(error),
@@ -154,7 +159,7 @@ fn copy_only(alloc: Global, names: &[Text]) -> Result<Option<Text>, AllocError>
 
 /// What `run` asks for.
 fn run_request(alloc: Global, found: &ArgMatches) -> Result<Option<Request>, AllocError>
-    ensures { (items : List Item) → HasItems found.now items → IfOk result (λ r. r ≡ option_map (requests.Run (schema_in items)) (only (files_of items))) }
+    ensures { (items : List Item) → HasItems found.now items → IfOk result (λ r. r ≡ option_map (requests.Run (schema_in items) (pipelines_in items)) (only (files_of items))) }
 {
     let files = match copies_if_any(alloc, found.get_raw("FILE")) {
         Ok(files) => files,
@@ -167,8 +172,16 @@ fn run_request(alloc: Global, found: &ArgMatches) -> Result<Option<Request>, All
     let Some(rule) = rule else {
         return Ok(None);
     };
+    let pipelines = match copy_if_any(alloc, found.get_str("pipeline")) {
+        Ok(pipelines) => pipelines,
+        Err(error) => return Err(error),
+    };
     match copy_if_any(alloc, found.get_str("schema")) {
-        Ok(schema) => Ok(Some(Request::Run { schema, rule })),
+        Ok(schema) => Ok(Some(Request::Run {
+            schema,
+            pipelines,
+            rule,
+        })),
         Err(error) => Err(error),
     }
 }

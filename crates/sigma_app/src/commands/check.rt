@@ -1,7 +1,8 @@
 //! `check`: which documents are rules.
 
-ghost use Rattle.std.specs.Prelude.{◌≡◌};
+ghost use Rattle.std.specs.Prelude.{◌≡◌, [], ⊤, List};
 ghost use Rattle.answer_parts.specs.Stands.{Writes};
+ghost use Rattle.pipeline_model.specs.declared.pipeline.Pipeline.{Pipeline};
 ghost use Rattle.rule_building.specs.Unbuilt.{Unbuilt};
 ghost use Rattle.sig_base.specs.declared.limits.Limits.{Limits as LimitsData};
 ghost use Rattle.sigma_app.specs.Check.{CheckGives};
@@ -25,6 +26,10 @@ pub(crate) struct Check;
 
 impl TreeCommand for Check {
     ghost gives = { λ c. CheckGives };
+
+    ghost pipelines = { λ c. [] };
+
+    ghost stands = { λ c. ⊤ };
 
     fn answer<W: Outside, B: Builder>(
         &self,

@@ -1,10 +1,13 @@
-//! `run`: the events that a rule matches.
+//! `run`: the events that the rule that pipelines make matches.
 
 ghost use Rattle.std.specs.Prelude.{◌≡◌, ◌+◌, ◌∷◌, [], true, Option, None, Some, List, ℕ, option_map};
 ghost use Rattle.answer_parts.specs.EventLines.{EventLines};
 ghost use Rattle.answer_parts.specs.Stands.{Ends};
+ghost use Rattle.event_schema.specs.Lists.{EachOf};
+ghost use Rattle.pipeline_chain.specs.Kept.{IsWholePipeline};
 ghost use Rattle.detection_eval.specs.Ready.{StandsFor, JudgesFor};
 ghost use Rattle.event_schema.specs.declared.schema.Schema.{Schema as SchemaData};
+ghost use Rattle.pipeline_model.specs.declared.pipeline.Pipeline.{Pipeline as PipelineData};
 ghost use Rattle.rule_model.specs.Plain.{rule_view};
 ghost use Rattle.rule_runs.specs.Answers.{ForValues, IsBare};
 ghost use Rattle.rule_runs.specs.Runs.{IsFit};
@@ -12,9 +15,11 @@ ghost use Rattle.rule_schema.specs.Inferred.{schema_for};
 ghost use Rattle.sig_base.specs.Files.{IsFront};
 ghost use Rattle.sigma_app.specs.Answers.{names_with};
 ghost use Rattle.sigma_app.specs.Ran.{RunGives, RanBySome};
+ghost use Rattle.sigma_app.specs.UnderPipelines.{ByPipelines, PipedBuilder};
 ghost use Rattle.sigma_app.specs.UnderSchema.{UnderBuilder, is_ended};
 
 use crate::documents::put_refusal;
+use crate::given_pipelines::{PipelineCommand, answer_pipelines};
 use crate::given_schema::{SchemaCommand, answer_schema};
 use crate::law::each_answer;
 use answer_parts::{LineCommand, Outside, Stop, answer_lines, read_file, tell_line_refusal};
@@ -22,6 +27,7 @@ use detection_eval::{Judge, Ready};
 use event_reading::read_event;
 use event_schema::Schema;
 use languages::Builder;
+use pipeline_model::Pipeline;
 use rule_model::Rule;
 use rule_runs::{rule_alone, rule_under};
 use selected_lines::put_picked;
@@ -29,32 +35,35 @@ use sig_base::{Bytes, Fault, Limits, Text};
 use std::alloc::Global;
 use yaml_documents::laws::{one_verdict, verdicts};
 
-/// Runs the rule of a file.
+/// Runs what the pipelines of a file, if one is named, make of the rule of a file.
 #[derive(Drop)]
-struct RunFile<'l, 'r> {
+struct RunFile<'l, 'p, 'r> {
     limits: &'l Limits,
+    pipelines: &'p Option<Text>,
     rule: &'r Text,
 }
 
-impl SchemaCommand for RunFile<'_, '_> {
-    ghost by = { λ c. RanBySome c.limits.now c.rule.now };
+impl PipelineCommand for RunFile<'_, '_, '_> {
+    ghost by_made = { λ c. RanBySome c.limits.now c.rule.now };
 
-    ghost names = { λ c. c.rule.now ∷ [] };
+    ghost own_names = { λ c. c.rule.now ∷ [] };
 
-    ghost events = { λ c. true };
+    ghost own_events = { λ c. true };
 
-    fn answer<W: Outside, B: Builder>(
+    fn answer_made<W: Outside, B: Builder>(
         &self,
         alloc: Global,
+        pipelines: &[Pipeline],
         given: Option<&Schema>,
         outside: &mut W,
         builder: &mut B,
     ) -> Result<bool, Stop> {
-        self.each_under();
+        self.each_made();
         match read_file(alloc, self.rule, self.limits.file_bytes + 1, outside) {
             Ok(bytes) => run_bytes(
                 alloc,
                 self.limits,
+                pipelines,
                 given,
                 self.rule,
                 bytes.as_slice(),
@@ -65,15 +74,47 @@ impl SchemaCommand for RunFile<'_, '_> {
         }
     }
 
-    fn each_under(&self) {
+    fn each_made(&self) {
         each_answer();
     }
 }
 
-/// Runs the rule that a file's bytes are, or refuses them and ends.
+impl SchemaCommand for RunFile<'_, '_, '_> {
+    ghost by = { λ c. PipedBuilder (RanBySome c.limits.now c.rule.now) c.limits.now c.pipelines.now };
+
+    ghost names = { λ c. names_with c.pipelines.now (c.rule.now ∷ []) };
+
+    ghost events = { λ c. true };
+
+    fn answer<W: Outside, B: Builder>(
+        &self,
+        alloc: Global,
+        given: Option<&Schema>,
+        outside: &mut W,
+        builder: &mut B,
+    ) -> Result<bool, Stop> {
+        answer_pipelines(
+            alloc,
+            self.limits,
+            self,
+            self.pipelines,
+            given,
+            outside,
+            builder,
+        )
+    }
+
+    fn each_under(&self) {
+        each_answer();
+        pipeline_files::one_outcome();
+    }
+}
+
+/// Runs what pipelines make of the rule that a file's bytes are, or refuses them and ends.
 fn run_bytes<W: Outside, B: Builder>(
     alloc: Global,
     limits: &Limits,
+    pipelines: &[Pipeline],
     given: Option<&Schema>,
     file: &Text,
     bytes: &[u8],
@@ -81,11 +122,13 @@ fn run_bytes<W: Outside, B: Builder>(
     builder: &mut B,
 ) -> Result<bool, Stop>
     ensures { IsFront (W.state outside.old).inputs.files file.now (limits.now.file_bytes + 1) bytes.now
-        → Ends (record { names = file.now ∷ []; events = true }) (RanBySome limits.now file.now (B.refused builder.old) (B.refused builder.new) (is_ended result) (option_map (λ s. s.now) given.entry)) result (W.state outside.old) (W.state outside.new) }
+        → Ends (record { names = file.now ∷ []; events = true }) (RanBySome limits.now file.now pipelines.now (B.refused builder.old) (B.refused builder.new) (is_ended result) (option_map (λ s. s.now) given.entry)) result (W.state outside.old) (W.state outside.new) }
 {
     match given {
-        Some(schema) => run_under(alloc, limits, schema, file, bytes, outside, builder),
-        None => run_alone(alloc, limits, file, bytes, outside, builder),
+        Some(schema) => run_under(
+            alloc, limits, pipelines, schema, file, bytes, outside, builder,
+        ),
+        None => run_alone(alloc, limits, pipelines, file, bytes, outside, builder),
     }
 }
 
@@ -93,6 +136,7 @@ fn run_bytes<W: Outside, B: Builder>(
 fn run_under<W: Outside, B: Builder>(
     alloc: Global,
     limits: &Limits,
+    pipelines: &[Pipeline],
     schema: &Schema,
     file: &Text,
     bytes: &[u8],
@@ -100,10 +144,10 @@ fn run_under<W: Outside, B: Builder>(
     builder: &mut B,
 ) -> Result<bool, Stop>
     ensures { IsFront (W.state outside.old).inputs.files file.now (limits.now.file_bytes + 1) bytes.now
-        → Ends (record { names = file.now ∷ []; events = true }) (RanBySome limits.now file.now (B.refused builder.old) (B.refused builder.new) (is_ended result) (Some schema.now)) result (W.state outside.old) (W.state outside.new) }
+        → Ends (record { names = file.now ∷ []; events = true }) (RanBySome limits.now file.now pipelines.now (B.refused builder.old) (B.refused builder.new) (is_ended result) (Some schema.now)) result (W.state outside.old) (W.state outside.new) }
 {
     each_answer();
-    match rule_under(alloc, limits, schema, bytes, builder) {
+    match rule_under(alloc, limits, pipelines, schema, bytes, builder) {
         Ok(rule) => run_rule(alloc, limits, schema, file, &rule, outside, builder),
         Err(Fault::Refused(cause)) => put_refusal(alloc, file, &cause, outside),
         Err(Fault::Memory) => Err(Stop::Memory),
@@ -114,16 +158,17 @@ fn run_under<W: Outside, B: Builder>(
 fn run_alone<W: Outside, B: Builder>(
     alloc: Global,
     limits: &Limits,
+    pipelines: &[Pipeline],
     file: &Text,
     bytes: &[u8],
     outside: &mut W,
     builder: &mut B,
 ) -> Result<bool, Stop>
     ensures { IsFront (W.state outside.old).inputs.files file.now (limits.now.file_bytes + 1) bytes.now
-        → Ends (record { names = file.now ∷ []; events = true }) (RanBySome limits.now file.now (B.refused builder.old) (B.refused builder.new) (is_ended result) None) result (W.state outside.old) (W.state outside.new) }
+        → Ends (record { names = file.now ∷ []; events = true }) (RanBySome limits.now file.now pipelines.now (B.refused builder.old) (B.refused builder.new) (is_ended result) None) result (W.state outside.old) (W.state outside.new) }
 {
     each_answer();
-    match rule_alone(alloc, limits, bytes, builder) {
+    match rule_alone(alloc, limits, pipelines, bytes, builder) {
         Ok(found) => run_rule(
             alloc,
             limits,
@@ -149,9 +194,9 @@ fn run_rule<W: Outside, B: Builder>(
     outside: &mut W,
     builder: &mut B,
 ) -> Result<bool, Stop>
-    ensures { (given : Option SchemaData) (bytes : List ℕ) (before : List (List ℕ)) → IsFront (W.state outside.old).inputs.files file.now (limits.now.file_bytes + 1) bytes
-        → ForValues limits.now bytes before (B.refused builder.old) true (λ values. IsBare (IsFit values limits.now given bytes) rule.now) → schema.now ≡ schema_for given (rule_view rule.now)
-        → Ends (record { names = file.now ∷ []; events = true }) (RanBySome limits.now file.now before (B.refused builder.new) (is_ended result) given) result (W.state outside.old) (W.state outside.new) }
+    ensures { (ps : List PipelineData) (given : Option SchemaData) (bytes : List ℕ) (before : List (List ℕ)) → IsFront (W.state outside.old).inputs.files file.now (limits.now.file_bytes + 1) bytes
+        → ForValues limits.now bytes before (B.refused builder.old) true (λ values. IsBare (IsFit values limits.now ps given bytes) rule.now) → schema.now ≡ schema_for given (rule_view rule.now)
+        → Ends (record { names = file.now ∷ []; events = true }) (RanBySome limits.now file.now ps before (B.refused builder.new) (is_ended result) given) result (W.state outside.old) (W.state outside.new) }
 {
     each_answer();
     verdicts();
@@ -224,21 +269,28 @@ fn answer_events<W: Outside>(
     answer_lines(alloc, limits, &mut lines, outside)
 }
 
-/// Answers the events that the rule of a file matches, read under the schema of a file if one is named.
+/// Answers the events that what the pipelines of a file, if one is named, make of the rule of a file matches, read under the schema of a file
+/// if one is named.
 pub(crate) fn answer_run<W: Outside, B: Builder>(
     alloc: Global,
     limits: &Limits,
     schema: &Option<Text>,
+    pipelines: &Option<Text>,
     rule: &Text,
     outside: &mut W,
     builder: &mut B,
 ) -> Result<bool, Stop>
-    ensures { Ends (record { names = names_with schema.now (rule.now ∷ []); events = true }) (UnderBuilder (RanBySome limits.now rule.now) limits.now schema.now (B.refused builder.old) (B.refused builder.new) (is_ended result)) result (W.state outside.old) (W.state outside.new) }
+    ensures { Ends (record { names = names_with schema.now (names_with pipelines.now (rule.now ∷ [])); events = true })
+        (UnderBuilder (PipedBuilder (RanBySome limits.now rule.now) limits.now pipelines.now) limits.now schema.now (B.refused builder.old) (B.refused builder.new) (is_ended result)) result (W.state outside.old) (W.state outside.new) }
 {
     answer_schema(
         alloc,
         limits,
-        &RunFile { limits, rule },
+        &RunFile {
+            limits,
+            pipelines,
+            rule,
+        },
         schema,
         outside,
         builder,

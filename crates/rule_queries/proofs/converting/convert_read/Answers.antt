@@ -10,10 +10,13 @@ use Rattle.rule_queries.proofs.converting.convert_read.Goals as goal
 pub returns-in-Ok : goal.returns-in-Ok
 returns-in-Ok g c =
     let t = node_view c.args.node.now in
-    one_read g.B.Lacking.missing g.B.Backend.text g.B.Backend.too_deep c.args.limits.now (option_map (λ s. s.now) c.args.given) t (rest_of t) (rule_view c.in-Ok.rule)
-    c.args.unbuilt.now _ _ c.convert_rule.result c.in-Ok.ensures.judged c.convert_rule.ensures
+    let ps = c.args.pipelines.now in
+    one_read g.B.Lacking.missing g.B.Backend.text g.B.Backend.too_deep c.args.limits.now ps (option_map (λ s. s.now) c.args.given) t (rest_of t) (rule_view c.in-Ok.rule)
+    c.args.unbuilt.now _ _ c.convert_chained.result (c.heads_are_kept.ensures.made c.args.limits.now ps) (c.heads_are_kept.ensures.refused c.args.limits.now ps)
+    c.in-Ok.ensures.judged c.convert_chained.ensures
 
 pub returns-in-Err : goal.returns-in-Err
 returns-in-Err g c =
     let t = node_view c.args.node.now in
-    none_read g.B.Lacking.missing g.B.Backend.text g.B.Backend.too_deep c.args.limits.now (option_map (λ s. s.now) c.args.given) t c.args.unbuilt.now _ (λ (r : Rule). IsRule t (rule_with (rest_of t) (rule_view r))) c.in-Err.fault c.in-Err.ensures.judged
+    none_read g.B.Lacking.missing g.B.Backend.text g.B.Backend.too_deep c.args.limits.now c.args.pipelines.now (option_map (λ s. s.now) c.args.given) t c.args.unbuilt.now _
+    (λ (r : Rule). IsRule t (rule_with (rest_of t) (rule_view r))) c.in-Err.fault c.in-Err.ensures.judged

@@ -6,5 +6,5 @@ use Rattle.sigma_app.proofs.documents.answer_documents.Given as goal
 
 abbrev pub invariant-loop-document : goal.invariant-loop-document
 invariant-loop-document g l =
-    Writes (Documents (g.T.TreeCommand.gives l.command l.limits) l.limits l.name (g.B.Builder.refused l.fn.builder) (g.B.Builder.refused l.builder) true (answers_view (take l.document-index l.documents))) (Ok l.found)
+    Writes (Documents (g.T.TreeCommand.gives l.command l.limits) l.limits (g.T.TreeCommand.pipelines l.command) l.name (g.B.Builder.refused l.fn.builder) (g.B.Builder.refused l.builder) true (answers_view (take l.document-index l.documents))) (Ok l.found)
     (g.W.Outside.state l.fn.outside) (g.W.Outside.state l.outside)

@@ -25,5 +25,5 @@ returns-clause-selected c = every_selected c.matches_or_not.ensures
 
 pub returns-clause-request : goal.returns-clause-request
 returns-clause-request c =
-    laws.each_answer c.one_verdict.ensures.each c.lone_rules.ensures.each c.verdicts.ensures.each (each_ran c.one_run.ensures.each (every_selected c.matches_or_not.ensures))
+    laws.each_answer c.one_verdict.ensures.each c.lone_rules.ensures.each c.verdicts.ensures.each c.one_outcome.ensures.each c.one_outcome.ensures.pipelines c.one_outcome.ensures.never_both (each_ran c.one_run.ensures.each (every_selected c.matches_or_not.ensures))
     (each_named c.asked_once.ensures.places (by_name EachAsked c.asked_once.ensures.each c.asked_once-2.ensures.each) (by_name AreDecided c.law.ensures.picks c.law-2.ensures.picks))

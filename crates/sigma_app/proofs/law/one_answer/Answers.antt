@@ -10,7 +10,7 @@ returns c =
     record {
       document = laws.one_documents c.one_verdict.ensures.one c.lone_rules.ensures.one;
       file = files;
-      request = laws.one_answer files (one_ran c.one_run.ensures.never_both c.one_run.ensures.one c.one_run.ensures.cause every_one)
+      request = laws.one_answer c.one_outcome.ensures.pipelines c.one_outcome.ensures.causes c.one_outcome.ensures.never_both files (one_ran c.one_run.ensures.never_both c.one_run.ensures.one c.one_run.ensures.cause every_one)
           (one_named (by_name NeverBoth c.asked_once.ensures.never_both c.asked_once-2.ensures.never_both) (by_name OneQuery c.asked_once.ensures.query c.asked_once-2.ensures.query)
           (by_name OneCause c.asked_once.ensures.cause c.asked_once-2.ensures.cause));
     }

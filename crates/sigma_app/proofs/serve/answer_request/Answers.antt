@@ -11,12 +11,12 @@ returns-in-Check g c =
 pub returns-in-Convert : goal.returns-in-Convert
 returns-in-Convert g c =
     let e = rw c.as_slice-in-Convert.ensures at c.answer_convert.ensures in
-    rw c.in-Convert.is (convert_answers c.args.limits.now (g.B.Builder.refused c.args.builder.now) (g.B.Builder.refused c.answer_convert.new.builder) (is_ended c.answer_convert.result) _ _
+    rw c.in-Convert.is (convert_answers c.one_outcome.ensures.pipelines c.one_outcome.ensures.never_both c.args.limits.now (g.B.Builder.refused c.args.builder.now) (g.B.Builder.refused c.answer_convert.new.builder) (is_ended c.answer_convert.result) _ _ _
     c.answer_convert.result (g.W.Outside.state c.args.outside.now) (g.W.Outside.state c.answer_convert.new.outside) _ _ e)
 
 pub returns-in-Run : goal.returns-in-Run
 returns-in-Run g c =
-    rw c.in-Run.is (run_answers c.args.limits.now (g.B.Builder.refused c.args.builder.now) (g.B.Builder.refused c.answer_run.new.builder) (is_ended c.answer_run.result) _ _
+    rw c.in-Run.is (run_answers c.one_outcome.ensures.pipelines c.one_outcome.ensures.never_both c.args.limits.now (g.B.Builder.refused c.args.builder.now) (g.B.Builder.refused c.answer_run.new.builder) (is_ended c.answer_run.result) _ _ _
     c.answer_run.result (g.W.Outside.state c.args.outside.now) (g.W.Outside.state c.answer_run.new.outside) _ c.answer_run.ensures)
 
 pub returns-in-Query : goal.returns-in-Query
