@@ -1,13 +1,14 @@
 #!/usr/bin/env python3
 """Times `sigma` beside PyYAML on rules that it makes. Run by hand; it needs Python 3, PyYAML and a built program.
 
-    python3 bench/convert.py PROGRAM [--rules N] [--seed S] [--repeat K] [--no-plain] [--keep FOLDER]
+    python3 bench/convert.py PROGRAM [--rules N] [--seed S] [--repeat K] [--no-plain] [--keep FOLDER] [--mappings M]
 
 PROGRAM is the built program, as crates/sigma_app/out/sigma_app. It makes N realistic rules, writes them as one file each
 and as one file, and runs `convert --backend sqlite` and `check` on them. Beside that PyYAML's two safe loaders, the one
 in C and the plain one, merely parse the same files. Then it shows how the times grow from 500 to 4,000 small rules in one
 file, and for YAML alone, by `check` on one big document, from 64 KiB to 1 MiB; and the peak memory of `check` on 1 MiB of
-YAML by its shape.
+YAML by its shape. With `--mappings M` it does none of that: it converts the realistic rules without a pipeline and under one of M
+mappings of names, among them one for each name of the rules, and shows both times.
 
 Each time is the least of K runs. A run of the program is a process of its own, from its start to its end; a loader's time
 is that of parsing alone, without starting Python. Peak memory is that of the process, Python's own included; less than
@@ -366,6 +367,34 @@ def show_peaks(told):
         print(f"  {shape:34}{size:>12,}{run.peak:>10.1f}{run.peak * MIB / size:>12.1f}")
 
 
+def pipeline(mappings):
+    """A pipeline of so many mappings, those of the names of rules in between others, a name in six with two targets."""
+    own = TEXT_FIELDS + NUMBER_FIELDS
+    others = [f"Unused{number:05}" for number in range(max(mappings - len(own), 0))]
+    every = max(len(others) // len(own), 1)
+    names = []
+    for number, name in enumerate(own[:mappings]):
+        names += others[number * every:(number + 1) * every] + [name]
+    names += others[len(own) * every:]
+    lines = ["name: mappings", "transformations:", "- type: field_name_mapping", "  mapping:"]
+    for number, name in enumerate(names):
+        target = f"event.{name.lower()}"
+        lines.append(f"    {name}: " + (f"[{target}, {target}_too]" if number % 6 == 0 else target))
+    return "\n".join(lines) + "\n"
+
+
+def show_pipeline(told, names, rules, content):
+    """The times of `convert` without the pipeline and under it, of one file each and of all in one."""
+    size = write(told, "pipeline.yml", pipeline(told.mappings))
+    write(told, "all.yml", content)
+    command = COMMANDS[0][1]
+    print(f"\n`convert` under a pipeline of {told.mappings} mappings ({size:,} bytes)\n  {'':24}{'rules':>8}{'without s':>12}{'under it s':>12}{'':>8}")
+    for called, files, count in (("one file each", names, len(names)), ("all in one file", ["all.yml"], rules)):
+        plain = run_sigma(told, command, files, count)
+        piped = run_sigma(told, [*command, "--pipeline", "pipeline.yml"], files, count)
+        print(f"  {called:24}{count:>8}{plain.seconds:>12.4f}{piped.seconds:>12.4f}{piped.seconds / plain.seconds:>7.2f}x")
+
+
 def bench(told):
     rng = random.Random(told.seed)
     rules = [rule(rng, number) for number in range(told.rules)]
@@ -373,6 +402,10 @@ def bench(told):
     for number, content in enumerate(rules):
         names.append(f"r{number}.yml")
         size += write(told, names[-1], content)
+    if told.mappings:
+        taken, content = joined(rules)
+        show_pipeline(told, names, len(taken), content)
+        return
     show_all(told, "One file each", names, len(rules), size)
 
     taken, content = joined(rules)
@@ -409,6 +442,7 @@ def main():
     parser.add_argument("--repeat", type=int, default=3, help="how many runs of each (3)")
     parser.add_argument("--no-plain", action="store_true", help="without PyYAML's plain loader, which takes most of the time")
     parser.add_argument("--keep", help="a folder for the files that are made, which then stay")
+    parser.add_argument("--mappings", type=int, default=0, help="only `convert`, without a pipeline and under one of so many mappings")
     told = parser.parse_args()
     told.program = os.path.abspath(told.program)
     told.loaders = [name for name in loaders() if name == "CSafeLoader" or not told.no_plain]

@@ -7,8 +7,8 @@ _sigma() {
     fi
     case ${COMP_WORDS[1]} in
         check) options='' ;;
-        convert) options='--backend --schema' ;;
-        run) options='--schema' ;;
+        convert) options='--backend --schema --pipeline' ;;
+        run) options='--schema --pipeline' ;;
         query) options='--backend --schema' ;;
     esac
     if [ "$before" = --backend ]; then

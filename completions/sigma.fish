@@ -3,8 +3,10 @@ complete -c sigma -n __fish_use_subcommand -f -a check -d 'which documents are r
 complete -c sigma -n __fish_use_subcommand -f -a convert -d 'a query for each rule'
 complete -c sigma -n '__fish_seen_subcommand_from convert' -l backend -x -a 'sqlite lucene'
 complete -c sigma -n '__fish_seen_subcommand_from convert' -l schema -r -F
+complete -c sigma -n '__fish_seen_subcommand_from convert' -l pipeline -r -F
 complete -c sigma -n __fish_use_subcommand -f -a run -d 'the events that a rule matches'
 complete -c sigma -n '__fish_seen_subcommand_from run' -l schema -r -F
+complete -c sigma -n '__fish_seen_subcommand_from run' -l pipeline -r -F
 complete -c sigma -n __fish_use_subcommand -f -a query -d 'the events that a query selects'
 complete -c sigma -n '__fish_seen_subcommand_from query' -l backend -x -a 'sqlite lucene'
 complete -c sigma -n '__fish_seen_subcommand_from query' -l schema -r -F

@@ -24,6 +24,7 @@ FILES = {"check": "RULE", "convert": "RULE", "run": "RULE", "query": "QUERY"}
 OPTIONS = {
     "backend": ("B", "the query language: sqlite or lucene"),
     "schema": ("F", "the fields of events, as JSON; without it every name of a rule is a field of one value, of the kind that its tests ask for"),
+    "pipeline": ("F", "processing pipelines, as YAML, which change each rule before its query is written or it is run"),
 }
 EXIT = [
     ("0", "All was read, and nothing was refused."),
@@ -84,6 +85,7 @@ def man(table):
         ".SH EXAMPLES",
         ".nf",
         "sigma convert \\-\\-backend sqlite rules/x.yml",
+        "sigma convert \\-\\-backend lucene \\-\\-pipeline ecs.yml rules/x.yml",
         "sigma run \\-\\-schema schema.json rules/x.yml < events.jsonl",
         ".fi",
         ".SH SEE ALSO",
@@ -119,7 +121,11 @@ complete -o filenames -F _sigma sigma
 
 
 def zsh(table):
-    spec = {"backend": f"'--backend[{OPTIONS['backend'][1]}]:backend:({' '.join(BACKENDS)})'", "schema": "'--schema[the fields of events]:schema:_files'"}
+    spec = {
+        "backend": f"'--backend[{OPTIONS['backend'][1]}]:backend:({' '.join(BACKENDS)})'",
+        "schema": "'--schema[the fields of events]:schema:_files'",
+        "pipeline": "'--pipeline[processing pipelines]:pipelines:_files'",
+    }
     cases = []
     for name, required, optional, several in table:
         files = "'*:file:_files'" if several else "'1:file:_files'"

@@ -7,7 +7,7 @@ PROGRAM is the built program, as crates/sigma_app/out/sigma_app. It tries
 - each example of README.md and docs/ that begins with `$ ./sigma`, where `..` stands for anything and `(cut ..)` isn't shown,
 - the table of lines in docs/FORMAT.md, each example that is given as lines of the page's own rule,
 - the tables there and in docs/LUCENE.md of what an item becomes in a query,
-- the rules of examples/ with the queries beside them.
+- the rules of examples/ with the queries beside them, under the schema and the pipelines beside them.
 It prints what differs, and how many were tried and how many are told in words and so aren't; the exit status is 1 where something differs.
 """
 import os
@@ -134,12 +134,13 @@ def shown_items(trial, program, folder):
 
 
 def shown_examples(trial, program):
-    names = sorted(it[:-4] for it in os.listdir(f"{TOP}/examples") if it.endswith(".yml"))
+    names = sorted(it[:-4] for it in os.listdir(f"{TOP}/examples") if it.endswith(".yml") and not it.endswith(".pipeline.yml"))
     for name in names:
-        schema = ["--schema", f"examples/{name}.json"] if os.path.exists(f"{TOP}/examples/{name}.json") else []
+        given = [("--schema", f"examples/{name}.json"), ("--pipeline", f"examples/{name}.pipeline.yml")]
+        options = [word for option, path in given if os.path.exists(f"{TOP}/{path}") for word in (option, path)]
         for backend, ending in [("sqlite", "sql"), ("lucene", "lucene")]:
             if os.path.exists(f"{TOP}/examples/{name}.{ending}"):
-                out, _ = ran(program, ["convert", "--backend", backend, *schema, f"examples/{name}.yml"], TOP)
+                out, _ = ran(program, ["convert", "--backend", backend, *options, f"examples/{name}.yml"], TOP)
                 trial.compare(f"examples/{name}.{ending}", read(f"examples/{name}.{ending}").replace("..", "\0"), out.replace("..", "\0"))
 
 
