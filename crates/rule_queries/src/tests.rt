@@ -150,6 +150,7 @@ fn each_backend_has_its_own_lacks(rt: HostRuntime) -> Result<(), Fail> {
             BackendName::Sqlite,
             alloc,
             &limits,
+            &[],
             None,
             &with_text,
             &mut builder,
@@ -158,19 +159,35 @@ fn each_backend_has_its_own_lacks(rt: HostRuntime) -> Result<(), Fail> {
     assert_eq!(rt; answer.as_str(), query);
     let answer = shown(
         alloc,
-        convert_node(&Valueless, alloc, &limits, None, &with_text, &mut builder),
+        convert_node(
+            &Valueless,
+            alloc,
+            &limits,
+            &[],
+            None,
+            &with_text,
+            &mut builder,
+        ),
     )?;
     assert_eq!(rt; answer.as_str(), query);
     let with_null = rule(alloc, Node::null(at(7, 12)))?;
     let query = "SELECT * FROM \"events\" WHERE \"Image\" IS NULL";
     let answer = shown(
         alloc,
-        convert_node(&Sqlite, alloc, &limits, None, &with_null, &mut builder),
+        convert_node(&Sqlite, alloc, &limits, &[], None, &with_null, &mut builder),
     )?;
     assert_eq!(rt; answer.as_str(), query);
     let answer = shown(
         alloc,
-        convert_node(&Valueless, alloc, &limits, None, &with_null, &mut builder),
+        convert_node(
+            &Valueless,
+            alloc,
+            &limits,
+            &[],
+            None,
+            &with_null,
+            &mut builder,
+        ),
     )?;
     assert_eq!(rt; answer.as_str(), "7:5: 111 Many");
     Ok(())
@@ -196,7 +213,7 @@ fn converted(alloc: Global, failing: &[u64]) -> Result<String, Fail> {
     let limits = Limits::standard();
     shown(
         alloc,
-        convert_node(&Sqlite, alloc, &limits, None, &node, &mut builder),
+        convert_node(&Sqlite, alloc, &limits, &[], None, &node, &mut builder),
     )
 }
 
