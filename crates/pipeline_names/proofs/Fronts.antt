@@ -20,6 +20,16 @@ no_number : (b : Bool) (m len : ℕ) → nat_lt m len ≡ b → None ≡ cond b 
 no_number true m len e none = absurd cc
 no_number false m len e none = ltb-false m len e
 
+-- entries are found by their texts
+entry_place : (p : List ℕ → Bool) (pairs : List Pair) → position_or_len (λ (pair : Pair). p pair.from) pairs ≡ position_or_len p (keys_of pairs)
+entry_place p [] = refl
+entry_place p (pair ∷ pairs) = ap (λ (n : ℕ). cond (not (p pair.from)) (1 + n) 0) (entry_place p pairs)
+
+pub entry_position : (p : List ℕ → Bool) (pairs : List Pair) → position (λ (pair : Pair). p pair.from) pairs ≡ position p (keys_of pairs)
+entry_position p pairs =
+    ap (λ (n : ℕ). cond (nat_lt n (length pairs)) (Some n) None) (entry_place p pairs)
+    ∙ ap (λ (len : ℕ). cond (nat_lt (position_or_len p (keys_of pairs)) len) (Some (position_or_len p (keys_of pairs))) None) (sym (length-map pairs (λ pair. pair.from)))
+
 -- Of several entries the first whose text passes the test decides.
 module _ (p : List ℕ → Bool) (made : Pair → List (List ℕ)) (other : List (List ℕ)) where
   abbrev decided : List Pair → List (List ℕ)
@@ -193,6 +203,14 @@ passed_on front rest name c new left all is grown =
 
 pub front_whole : (front left name : List ℕ) → front ++ left ≡ name → left ≡ [] → front ≡ name
 front_whole front left name all empty = sym (append-nil front) ∙ (ap (λ (t : List ℕ). front ++ t) (sym empty) ∙ all)
+
+-- a text that isn't at its end doesn't begin one that is
+pub begun_short : (passed left more : List ℕ) (c : ℕ) (all : Bool) → passed ≡ c ∷ more → left ≡ [] → begins passed left ≡ all → false ≡ all
+begun_short passed left more c all is empty same =
+    sym (ap (λ (t : List ℕ). begins t left) is ∙ ap (λ (t : List ℕ). begins (c ∷ more) t) empty) ∙ same
+
+pub begun_whole : (passed left : List ℕ) (all : Bool) → passed ≡ [] → begins passed left ≡ all → true ≡ all
+begun_whole passed left all empty same = sym (ap (λ (t : List ℕ). begins t left) empty) ∙ same
 
 -- with nothing left of a text, nothing is passed
 pub dropped_end : (n : ℕ) (left all : List ℕ) → left ≡ [] → drop n left ≡ all → left ≡ all

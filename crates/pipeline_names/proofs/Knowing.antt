@@ -1,11 +1,12 @@
 -- A set of names, seen as the list of them.
-use Rattle.std.proofs.Common.{ℕ, ◌≡◌, Bool, true, false, cond, ◌||◌, List, [], ◌∷◌, ◌++◌, encode_utf8_all, refl, sym, ap, ◌∙◌}
+use Rattle.std.proofs.Common.{ℕ, ◌+◌, ◌<◌, ◌≡◌, Bool, true, false, cond, ◌||◌, List, [], ◌∷◌, ◌++◌, length, take, get_or, encode_utf8_all, refl, sym, subst, ap, ◌∙◌}
 use Rattle.std.specs.Prelude.{String}
 use Rattle.std.specs.BTreeSet.{BTreeSet, contains_text}
 use Rattle.std.specs.Str.{bytes_eq}
 use Rattle.std.proofs.lemmas.Bool.Decides.{same_from_decides, Decides-like}
 use Rattle.std.proofs.lemmas.Slice.Eq.{bytes_eq-Decides}
 use Rattle.std.proofs.lemmas.Str.{encodes_same}
+use Rattle.std.proofs.lemmas.List.{take_more}
 use Rattle.pipeline_model.specs.Concerned.{is_among}
 use Rattle.pipeline_names.specs.Known.{AreKnown}
 
@@ -39,3 +40,9 @@ known_more names own bytes old new known is more = λ name.
     ∙ (ap (λ (bs : List ℕ). bytes_eq bs (encode_utf8_all name) || contains_text old (encode_utf8_all name)) is
     ∙ (ap (λ (b : Bool). b || contains_text old (encode_utf8_all name)) (same_bytes own name)
     ∙ (ap (λ (b : Bool). bytes_eq own name || b) (known name) ∙ sym (among_more names own name)))))
+
+-- a name more of a list
+pub known_next : {Y : Type 0} (names : List (List ℕ)) (i : ℕ) (own : List ℕ) (known : BTreeSet (String Y)) → i < length names → own ≡ get_or names i own
+    → AreKnown (take i names ++ own ∷ []) known → AreKnown (take (i + 1) names) known
+known_next {Y = Y} names i own known inside is all =
+    subst (λ (ns : List (List ℕ)). AreKnown {Y = Y} ns known) (sym (take_more names i own inside ∙ ap (λ (n : List ℕ). take i names ++ n ∷ []) (sym is))) all

@@ -1,6 +1,6 @@
 -- Targets without repeats add the same names.
 use Rattle.std.proofs.Common.{ℕ, ◌≡◌, Bool, true, false, cond, ◌||◌, List, [], ◌∷◌, ◌++◌, length, refl, sym, subst, ap, ◌∙◌}
-use Rattle.std.specs.Prelude.{if◌then◌else◌, drop, Result, Ok, Err, IfOk}
+use Rattle.std.specs.Prelude.{if◌then◌else◌, drop, Option, Some, None, Result, Ok, Err, IfOk}
 use Rattle.std.specs.Str.{bytes_eq}
 use Rattle.std.proofs.lemmas.Slice.Eq.{bytes_eq-Decides}
 use Rattle.sig_base.specs.declared.refusal.Fault.{Fault}
@@ -9,7 +9,7 @@ use Rattle.pipeline_model.specs.declared.step.Action.{Action}
 use Rattle.pipeline_model.specs.declared.step.Action.TheVariants.{MapNames, MapPrefixes}
 use Rattle.pipeline_model.specs.declared.step.Pair.{Pair}
 use Rattle.pipeline_names.specs.Names.{begins, each_before, mapped, prefixed, targets, with_name, with_names}
-use Rattle.pipeline_names.specs.Made.{pairs_in, keys_of, once_of, once_if, AddsAs}
+use Rattle.pipeline_names.specs.Made.{pairs_in, keys_of, texts_in, once_of, once_if, AddsAs}
 use Rattle.pipeline_names.proofs.Knowing.{among_more}
 use Rattle.pipeline_names.proofs.NameLists.{with_append}
 use Rattle.pipeline_names.proofs.Fronts.{each_alone}
@@ -121,5 +121,6 @@ prefixed_adds action slice pairs name is same =
 pub once_used : (b : Bool) (slice pairs : List Pair) → b ≡ true → slice ≡ once_if b pairs → slice ≡ once_of pairs
 once_used b slice pairs used is = is ∙ ap (λ (c : Bool). once_if c pairs) used
 
-pub keys_are : (keys : List (List ℕ)) (slice pairs : List Pair) → keys ≡ keys_of pairs → slice ≡ once_of pairs → keys ≡ keys_of slice
-keys_are keys slice pairs is same = is ∙ (sym (same_keys pairs) ∙ ap keys_of (sym same))
+pub keys_are : (keys : Option (List (List ℕ))) (slice pairs : List Pair) → texts_in keys pairs ≡ keys_of pairs → slice ≡ once_of pairs → texts_in keys slice ≡ keys_of slice
+keys_are None slice pairs is same = refl
+keys_are (Some texts) slice pairs is same = is ∙ (sym (same_keys pairs) ∙ ap keys_of (sym same))

@@ -39,6 +39,11 @@ pairs_in (FailItem message) = []
 abbrev pub keys_of : List Pair → List (List ℕ)
 keys_of pairs = map (λ pair. pair.from) pairs
 
+-- the texts of an index; where there's none, those that the entries are for
+abbrev pub texts_in : Option (List (List ℕ)) → List Pair → List (List ℕ)
+texts_in None pairs = keys_of pairs
+texts_in (Some texts) pairs = texts
+
 -- an entry with each of its targets once
 abbrev pub once_in : Pair → Pair
 once_in pair = record { from = pair.from; to = with_names [] pair.to }

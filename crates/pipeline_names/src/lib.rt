@@ -6,6 +6,8 @@ pub use legal::{detections_legal, detections_short, items_legal, items_short};
 pub use renaming::rename;
 
 mod concerned;
+mod counting;
+mod finding;
 mod items;
 mod law;
 mod legal;

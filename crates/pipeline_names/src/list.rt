@@ -1,11 +1,12 @@
-//! Names in order, each once.
+//! Names in order, each once. A few are compared one by one, and more are found in a set.
 
 ghost use Rattle.std.specs.Prelude.{◌≡◌, ◌++◌, ◌∷◌, [], IfOk, IfErr, OnOk};
 ghost use Rattle.pipeline_model.specs.Concerned as conditions;
-ghost use Rattle.pipeline_names.specs.Known.{AreKnown};
+ghost use Rattle.pipeline_names.specs.Known.{AreKnown, AreKnownIfMany};
 ghost use Rattle.pipeline_names.specs.Made.{texts_made, AreUnfit};
 ghost use Rattle.pipeline_names.specs.Names as spec;
 
+use crate::counting::FEW;
 use crate::made::{Made, joined};
 use crate::room::grown;
 use event_schema::is_legal;
@@ -20,17 +21,35 @@ pub struct NameLimit {
     pub place: Place,
 }
 
-/// Names in order, and the set of them, in which each is found without a search through all.
+/// Names in order, and where they are more than a few, the set of them.
 #[derive(Drop)]
 pub struct NameList {
     pub names: Vec<Text>,
     pub known: BTreeSet<String>,
 }
 
+fn is_among(names: &[Text], name: &Text) -> bool
+    ensures { result ≡ conditions.is_among names.now name.now }
+{
+    names.iter().any(|other| other.equals(name))
+}
+
+fn set_of(alloc: Global, names: &[Text]) -> Result<BTreeSet<String>, Fault>
+    ensures ok { IfOk result (λ known. AreKnown names.now known) }
+    ensures err { IfErr result (λ e. e ≡ Fault.Memory) }
+{
+    let mut known = BTreeSet::new(alloc);
+    for name in names {
+        let key = String::from_str(alloc, name.as_str())?;
+        known.insert(key)?;
+    }
+    Ok(known)
+}
+
 impl NameList {
     pub fn new(alloc: Global) -> NameList
         ensures names { result.names.items ≡ [] }
-        ensures known { AreKnown result.names.items result.known }
+        ensures known { AreKnownIfMany result.names.items result.known }
     {
         NameList {
             names: Vec::new(alloc),
@@ -39,13 +58,30 @@ impl NameList {
     }
 
     fn contains(&self, name: &Text) -> bool
-        requires { AreKnown self.now.names.items self.now.known }
+        requires { AreKnownIfMany self.now.names.items self.now.known }
         ensures { result ≡ conditions.is_among self.now.names.items name.now }
     {
+        if self.names.len() <= FEW {
+            return is_among(&self.names, name);
+        }
         self.known.contains(name.as_str())
     }
 
-    fn push(&mut self, alloc: Global, name: Text) -> Result<(), Fault>
+    /// Makes the set where there's none yet.
+    fn know(&mut self, alloc: Global) -> Result<(), Fault>
+        requires { AreKnownIfMany self.old.names.items self.old.known }
+        ensures names { OnOk result (self.new.names.items ≡ self.old.names.items) }
+        ensures known { OnOk result (AreKnown self.new.names.items self.new.known) }
+        ensures err { IfErr result (λ e. e ≡ Fault.Memory) }
+    {
+        if self.names.len() > FEW {
+            return Ok(());
+        }
+        self.known = set_of(alloc, &self.names)?;
+        Ok(())
+    }
+
+    fn push_many(&mut self, alloc: Global, name: Text) -> Result<(), Fault>
         requires { AreKnown self.old.names.items self.old.known }
         ensures names { OnOk result (self.new.names.items ≡ self.old.names.items ++ name ∷ []) }
         ensures known { OnOk result (AreKnown self.new.names.items self.new.known) }
@@ -55,6 +91,20 @@ impl NameList {
         self.known.insert(key)?;
         self.names.push(name)?;
         Ok(())
+    }
+
+    fn push(&mut self, alloc: Global, name: Text) -> Result<(), Fault>
+        requires { AreKnownIfMany self.old.names.items self.old.known }
+        ensures names { OnOk result (self.new.names.items ≡ self.old.names.items ++ name ∷ []) }
+        ensures known { OnOk result (AreKnownIfMany self.new.names.items self.new.known) }
+        ensures err { IfErr result (λ e. e ≡ Fault.Memory) }
+    {
+        if self.names.len() < FEW {
+            self.names.push(name)?;
+            return Ok(());
+        }
+        self.know(alloc)?;
+        self.push_many(alloc, name)
     }
 
     /// Refuses a name for which there is no room, or which isn't legal.
@@ -74,9 +124,9 @@ impl NameList {
     /// Adds the name behind the others, unless it is one of them.
     #[tactic(auto, using(crate::proofs::NameLists::unfit_new))]
     fn add(&mut self, alloc: Global, limit: NameLimit, name: Text) -> Result<(), Fault>
-        requires { AreKnown self.old.names.items self.old.known }
+        requires { AreKnownIfMany self.old.names.items self.old.known }
         ensures ok { OnOk result (self.new.names.items ≡ spec.with_name self.old.names.items name) }
-        ensures known { OnOk result (AreKnown self.new.names.items self.new.known) }
+        ensures known { OnOk result (AreKnownIfMany self.new.names.items self.new.known) }
         ensures unfit { IfErr result (AreUnfit limit.place limit.names (spec.with_name self.old.names.items name)) }
     {
         if self.contains(&name) {
@@ -88,9 +138,9 @@ impl NameList {
 
     /// Adds a copy of the text behind the others, unless it is one of them, however many there are.
     fn put(&mut self, alloc: Global, text: &Text) -> Result<(), Fault>
-        requires { AreKnown self.old.names.items self.old.known }
+        requires { AreKnownIfMany self.old.names.items self.old.known }
         ensures ok { OnOk result (self.new.names.items ≡ spec.with_name self.old.names.items text.now) }
-        ensures known { OnOk result (AreKnown self.new.names.items self.new.known) }
+        ensures known { OnOk result (AreKnownIfMany self.new.names.items self.new.known) }
         ensures err { IfErr result (λ e. e ≡ Fault.Memory) }
     {
         if self.contains(text) {
@@ -107,9 +157,9 @@ impl NameList {
         prefixes: &[Text],
         back: &Text,
     ) -> Result<(), Fault>
-        requires { AreKnown self.old.names.items self.old.known }
+        requires { AreKnownIfMany self.old.names.items self.old.known }
         ensures ok { OnOk result (self.new.names.items ≡ spec.with_names self.old.names.items (spec.each_before prefixes.now back.now)) }
-        ensures known { OnOk result (AreKnown self.new.names.items self.new.known) }
+        ensures known { OnOk result (AreKnownIfMany self.new.names.items self.new.known) }
         ensures unfit { IfErr result (AreUnfit limit.place limit.names (spec.with_names self.old.names.items (spec.each_before prefixes.now back.now))) }
     {
         for front in prefixes {
@@ -120,9 +170,9 @@ impl NameList {
 
     /// Adds what is made of a name.
     pub fn add_made(&mut self, alloc: Global, limit: NameLimit, made: Made) -> Result<(), Fault>
-        requires { AreKnown self.old.names.items self.old.known }
+        requires { AreKnownIfMany self.old.names.items self.old.known }
         ensures ok { OnOk result (self.new.names.items ≡ spec.with_names self.old.names.items (texts_made made.entry)) }
-        ensures known { OnOk result (AreKnown self.new.names.items self.new.known) }
+        ensures known { OnOk result (AreKnownIfMany self.new.names.items self.new.known) }
         ensures unfit { IfErr result (AreUnfit limit.place limit.names (spec.with_names self.old.names.items (texts_made made.entry))) }
     {
         match made {

@@ -1,13 +1,13 @@
-//! What a step makes of a name, whose entry is found without a search through all entries.
+//! What a step makes of a name.
 
 ghost use Rattle.std.specs.Prelude.{◌≡◌, true, drop, length, IfOk, IfErr};
-ghost use Rattle.std.specs.List.{position};
 ghost use Rattle.std.specs.Str.{chars};
-ghost use Rattle.pipeline_names.specs.Made.{texts_made, pairs_in, keys_of, targets_or, once_in as once_in_of, once_of as once_of_all, once_if, AddsAs};
-ghost use Rattle.pipeline_names.specs.Made.{sooner as sooner_of};
+ghost use Rattle.pipeline_names.specs.Made.{texts_made, pairs_in, keys_of, texts_in, targets_or, once_in as once_in_of, once_of as once_of_all, once_if, AddsAs};
 ghost use Rattle.pipeline_names.specs.Names as spec;
 
 use crate::concerned::concerns_some;
+use crate::counting::{FEW, has_long, has_many};
+use crate::finding::{find_begun, find_equal, index_if};
 use crate::list::distinct;
 use crate::made::{Made, itself, joined};
 use pipeline_model::{Action, Pair, Step};
@@ -16,15 +16,16 @@ use sig_base::{Fault, Text, Texts, first_char};
 use std::alloc::Global;
 use text_index::TextIndex;
 
-/// A step on names, with an index of the texts that its mapping has entries for, and where a rule has names that it acts on, the
+/// A step on names. Where a rule has more than a few names and the step's mapping more than a few entries, there's an index of the
+/// texts that these are for. Where an entry has more than a few targets, and the rule has names that the step acts on, there are the
 /// entries with each target once.
 #[derive(Drop)]
 pub struct Renaming<'s> {
     pub step: &'s Step,
-    pub keys: TextIndex,
+    pub keys: Option<TextIndex>,
     pub distinct_targets: Vec<Pair>,
     pub used: bool,
-    pub ghost indexed: { keys ≡ keys_of (pairs_in step.now.action) },
+    pub ghost indexed: { texts_in keys (pairs_in step.now.action) ≡ keys_of (pairs_in step.now.action) },
     pub ghost distinct: { distinct_targets.items ≡ once_if used (pairs_in step.now.action) },
 }
 
@@ -83,24 +84,13 @@ fn pairs_of(action: &Action) -> &[Pair]
     }
 }
 
-fn copy_keys(alloc: Global, pairs: &[Pair]) -> Result<Texts, Fault>
-    ensures ok { IfOk result (λ texts. texts ≡ keys_of pairs.now) }
-    ensures err { IfErr result (λ e. e ≡ Fault.Memory) }
-{
-    let mut keys = Texts::with_capacity(alloc, pairs.len())?;
-    for pair in pairs {
-        keys.push(Text::copy(alloc, pair.from.as_str())?)?;
-    }
-    Ok(keys)
-}
-
 /// The targets of the first entry of the name.
-fn targets_of<'s>(keys: &TextIndex, pairs: &'s [Pair], name: &Text) -> Option<&'s [Text]>
-    requires { keys.now ≡ keys_of pairs.now }
+fn targets_of<'s>(keys: &Option<TextIndex>, pairs: &'s [Pair], name: &Text) -> Option<&'s [Text]>
+    requires { texts_in keys.now pairs.now ≡ keys_of pairs.now }
     ensures { spec.mapped pairs.now name.now ≡ targets_or name.now result }
 {
-    match keys.find(name) {
-        Some(number) => Some(pairs[number as usize].to.as_slice()),
+    match find_equal(keys, pairs, name) {
+        Some(number) => Some(pairs[number].to.as_slice()),
         None => None,
     }
 }
@@ -108,11 +98,11 @@ fn targets_of<'s>(keys: &TextIndex, pairs: &'s [Pair], name: &Text) -> Option<&'
 /// The targets of the first entry of the name, or the name itself.
 fn mapped<'s>(
     alloc: Global,
-    keys: &TextIndex,
+    keys: &Option<TextIndex>,
     pairs: &'s [Pair],
     name: &Text,
 ) -> Result<Made<'s>, Fault>
-    requires { keys.now ≡ keys_of pairs.now }
+    requires { texts_in keys.now pairs.now ≡ keys_of pairs.now }
     ensures ok { IfOk result (λ made. texts_made made ≡ spec.mapped pairs.now name.now) }
     ensures err { IfErr result (λ e. e ≡ Fault.Memory) }
 {
@@ -123,34 +113,6 @@ fn mapped<'s>(
         }),
         None => itself(alloc, name),
     }
-}
-
-/// The smaller of two numbers that may be missing.
-fn sooner(one: Option<u32>, other: Option<u32>) -> Option<u32>
-    ensures { result ≡ sooner_of one other }
-{
-    match (one, other) {
-        (None, other) => other,
-        (Some(number), None) => Some(number),
-        (Some(number), Some(second)) => Some(number.min(second)),
-    }
-}
-
-/// The number of the first entry that begins the name: each front of the name is looked up.
-#[tactic(auto, using(crate::proofs::Fronts::begun_more))]
-fn find_front(alloc: Global, keys: &TextIndex, name: &Text) -> Result<Option<u32>, Fault>
-    ensures ok { IfOk result (λ number. number ≡ position (λ from. spec.begins from name.now) keys.now) }
-    ensures err { IfErr result (λ e. e ≡ Fault.Memory) }
-{
-    let mut left = name.as_str();
-    let mut front = Text::with_capacity(alloc, left.len())?;
-    let mut number = keys.find(&front);
-    while let Some((c, rest)) = first_char(left) {
-        front.push(c)?;
-        number = sooner(number, keys.find(&front));
-        left = rest;
-    }
-    Ok(number)
 }
 
 /// What stands in a text behind as many characters as another has.
@@ -184,22 +146,22 @@ fn each_front<'s>(alloc: Global, pair: &'s Pair, name: &Text) -> Result<Made<'s>
 /// The name with another prefix by the first entry that begins it, or the name itself.
 fn prefixed<'s>(
     alloc: Global,
-    keys: &TextIndex,
+    keys: &Option<TextIndex>,
     pairs: &'s [Pair],
     name: &Text,
 ) -> Result<Made<'s>, Fault>
-    requires { keys.now ≡ keys_of pairs.now }
+    requires { texts_in keys.now pairs.now ≡ keys_of pairs.now }
     ensures ok { IfOk result (λ made. texts_made made ≡ spec.prefixed pairs.now name.now) }
     ensures err { IfErr result (λ e. e ≡ Fault.Memory) }
 {
-    match find_front(alloc, keys, name)? {
-        Some(number) => each_front(alloc, &pairs[number as usize], name),
+    match find_begun(alloc, keys, pairs, name)? {
+        Some(number) => each_front(alloc, &pairs[number], name),
         None => itself(alloc, name),
     }
 }
 
 impl<'s> Renaming<'s> {
-    /// The step with the index of its mapping, for these items.
+    /// The step, for these items.
     pub fn of(
         alloc: Global,
         step: &'s Step,
@@ -209,8 +171,9 @@ impl<'s> Renaming<'s> {
         ensures err { IfErr result (λ e. e ≡ Fault.Memory) }
     {
         let pairs = pairs_of(&step.action);
-        let keys = TextIndex::number(alloc, copy_keys(alloc, pairs)?)?;
-        let used = concerns_some(step, detections);
+        let many = pairs.len() > FEW && has_many(detections);
+        let keys = index_if(alloc, many, pairs)?;
+        let used = has_long(pairs) && concerns_some(step, detections);
         let distinct_targets = once_if_used(alloc, used, pairs)?;
         Ok(Renaming {
             step,

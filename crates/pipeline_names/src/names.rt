@@ -1,7 +1,7 @@
 //! The names of an item, each once.
 
 ghost use Rattle.std.specs.Prelude.{◌≡◌, IfOk, IfErr, OnOk};
-ghost use Rattle.pipeline_names.specs.Known.{AreKnown};
+ghost use Rattle.pipeline_names.specs.Known.{AreKnownIfMany};
 ghost use Rattle.pipeline_names.specs.Made.{AreUnfit};
 ghost use Rattle.pipeline_names.specs.Names as spec;
 ghost use Rattle.pipeline_names.specs.Renamed as renamed;
@@ -19,9 +19,9 @@ fn add_for(
     renaming: &Renaming,
     name: &Text,
 ) -> Result<(), Fault>
-    requires { AreKnown list.old.names.items list.old.known }
+    requires { AreKnownIfMany list.old.names.items list.old.known }
     ensures ok { OnOk result (list.new.names.items ≡ spec.with_names list.old.names.items (spec.names_for renaming.now.step.now name.now)) }
-    ensures known { OnOk result (AreKnown list.new.names.items list.new.known) }
+    ensures known { OnOk result (AreKnownIfMany list.new.names.items list.new.known) }
     ensures unfit { IfErr result (AreUnfit limit.place limit.names (spec.with_names list.old.names.items (spec.names_for renaming.now.step.now name.now))) }
 {
     let made = renaming.made_once(alloc, name)?;

@@ -87,6 +87,30 @@ map a=x~a:1+b:5|'ab/'abcd~99 3 5
 map a=x~a:1;b:'abcd~99 3 5
 map a=xxxxx~a:1/=a~xxxxx:1/=xxxxx";
 
+/// Rows with parts in `<` and `>`, each of which is written many times: with the numbers from 0 in place of `#`, and with what stands
+/// behind `|` between.
+const MANY: &str = "\
+map <n#=x#|;>~<n#|,>:1~<x#|,>:1
+map <n#=x#|;>~n7,b,n30:1~x7,b,x30:1
+map a=x,y~<n#:1|&>&a:1~<n#:1|&>&x,y:1
+map <n#=x#|;>~<n#:=n#|&>~<x#:=x#|&>
+map <n#=x#|;>~*:1&n5:=n6/5~*:1&x5:=x6/5
+map <n#=x#|;>~a:<=n#|/>~a:<=x#|/>
+map <n#=x#|;>;n5=w~<n#|,>:1~<x#|,>:1
+map <n#=x#|;>;n5=w~n5:1~x5:1
+map <n#=x#|;>;b=w~b,<n#|,>:1~w,<x#|,>:1
+fronts <n#.=x#.|;>~<n#.a|,>:1~<x#.a|,>:1
+fronts <n#.=x#.|;>~n7.a,n.b:1~x7.a,n.b:1
+fronts <n#=x#.|;>~n12:1~x1.2:1
+fronts <n#=x#.|;>~n12:1&<b#:1|&>~x1.2:1&<b#:1|&>
+map a=<x#|,>~a:1~<x#|,>:1
+map a=<x#|,>,<x#|,>~a,b:1~<x#|,>,b:1
+map a=<x#|,>;b=x30,y~a,b,a:1~<x#|,>,y:1
+map a=<x#|,>,x0~b:=a~b:<=x#|/>/=x0
+map a=<x|,>~b:=a~b:<=x|/>
+fronts a=<x#|,>,x0~ab:1~<x#b|,>:1
+prefix w.~<n#|,>,n0:1~<w.n#|,>:1";
+
 fn at(line: u32, column: u32) -> Place {
     Place { line, column }
 }
@@ -428,6 +452,40 @@ fn shown(alloc: Global, limits: &Limits, step_text: &str, before: &str) -> Resul
     }
 }
 
+/// Writes a part of a row so many times.
+fn push_often(alloc: Global, row: &mut Text, part: &str, count: u32) -> Result<(), Fail> {
+    let Some((own, between)) = part.split_once('|') else {
+        return Ok(());
+    };
+    for number in 0..count {
+        if number > 0 {
+            row.push_str(between)?;
+        }
+        for c in own.chars() {
+            match c {
+                '#' => row.push_str(&format!(in alloc; "{number}")?)?,
+                _ => row.push(c)?,
+            }
+        }
+    }
+    Ok(())
+}
+
+/// The row with its parts written so many times.
+fn written(alloc: Global, row: &str, count: u32) -> Result<Text, Fail> {
+    let mut written = Text::new(alloc);
+    for piece in row.split('<') {
+        match piece.split_once('>') {
+            None => written.push_str(piece)?,
+            Some((part, rest)) => {
+                push_often(alloc, &mut written, part, count)?;
+                written.push_str(rest)?;
+            }
+        }
+    }
+    Ok(written)
+}
+
 /// The three parts of a row.
 fn parts_of(row: &str) -> Option<(&str, &str, &str)> {
     let (step, behind) = row.split_once('~')?;
@@ -495,5 +553,25 @@ fn long_patterns_are_refused(rt: HostRuntime) -> Result<(), Fail> {
         );
     }
     assert_eq!(rt; PATTERNS.lines().count(), 7);
+    Ok(())
+}
+
+#[test]
+fn many_names_become_others(rt: HostRuntime) -> Result<(), Fail> {
+    let limits = Limits::standard();
+    for row in MANY.lines() {
+        for count in [31, 32, 33, 40] {
+            let written = written(rt.alloc(), row, count)?;
+            let Some((step, before, after)) = parts_of(written.as_str()) else {
+                panic!(rt; "{row}");
+            };
+            assert_eq!(rt;
+                shown(rt.alloc(), &limits, step, before)?.as_str(),
+                after,
+                "{row} {count}"
+            );
+        }
+    }
+    assert_eq!(rt; MANY.lines().count(), 20);
     Ok(())
 }
