@@ -1,30 +1,26 @@
 -- A correlation that is bound has rules and fields that are there.
-use Rattle.std.proofs.Common.{ℕ, ◌≡◌, ◌<◌, ◌+◌, Bool, true, false, not, ◌&&◌, ◌||◌, List, [], ◌∷◌, length, map, refl, sym, ap, ◌∙◌, subst, arith}
-use Rattle.std.specs.Prelude.{Option, Some, None, is_some, option_map, find, position, unwrap_or}
+use Rattle.std.proofs.Common.{ℕ, ◌≡◌, ◌<◌, ◌≤◌, Bool, true, false, not, ◌&&◌, ◌||◌, List, [], ◌∷◌, length, map, refl, sym, ap, ◌∙◌, subst, arith}
+use Rattle.std.specs.Prelude.{Option, Some, None, option_map, find, unwrap_or}
 use Rattle.std.specs.List.{AllZip, list_any, list_all}
 use Rattle.std.specs.Str.{bytes_eq}
-use Rattle.std.proofs.lemmas.Bool.{and_parts, false≢true}
+use Rattle.std.proofs.lemmas.Bool.{and_parts}
+use Rattle.std.proofs.lemmas.List.{length-map}
 use Rattle.std.proofs.lemmas.Slice.Eq.{bytes_eq-Decides}
-use Rattle.sig_base.specs.Judged.{must, first}
+use Rattle.sig_base.specs.Judged.{must}
 use Rattle.sig_base.proofs.Checks.{first_holds, must_holds}
 use Rattle.event_schema.specs.Lists.{EachOf}
 use Rattle.event_schema.specs.Rows.{field_number}
 use Rattle.event_schema.specs.declared.schema.Field.{Field}
 use Rattle.field_numbers.specs.Numbers.{number_of}
-use Rattle.rule_head.specs.declared.head.Head.{Head}
 use Rattle.correlation_windows.specs.declared.bound.Bound.{Bound}
 use Rattle.correlation_rules.specs.declared.correlation.Alias.{Alias}
 use Rattle.correlation_rules.specs.declared.correlation.AliasField.{AliasField}
-use Rattle.correlation_rules.specs.declared.correlation.Correlation.{Correlation}
-use Rattle.correlation_rules.specs.Binding.{is_meant, is_field, is_among, names_of, is_rule, fits, is_bindable, is_known, is_counted, groups_refusal, given_field, alias_field, is_named, stands_for, group_field, group_of, groups_of, IsNumbered, IsBelowIfAny, IsWithin}
+use Rattle.correlation_rules.specs.Correlations.{PlainCorrelation, IsSpan}
+use Rattle.correlation_rules.specs.Binding.{Names, is_meant, is_field, is_among, names_of, is_rule, fits, is_bindable, is_known, is_counted, groups_refusal, given_field, alias_field, is_named, stands_for, group_field, group_of, groups_of, IsNumbered, IsBound, IsBelowIfAny, IsWithin}
 use Rattle.correlation_rules.proofs.Entered.{any_viewed}
-use Rattle.correlation_rules.proofs.Positions.{below, found_none, found_passes, found_all, any_found, each_behind}
+use Rattle.correlation_rules.proofs.Positions.{some_in, below, found_none, found_passes, found_all, any_found, each_behind}
 
 -- ---- fields
-
-some_in : {A : Type 0} (o : Option A) → is_some o ≡ true → (x : A) × (o ≡ Some x)
-some_in None h = absurd (false≢true h)
-some_in (Some x) h = (x, refl)
 
 field_below : (fields : List Field) (name : List ℕ) → is_field fields name ≡ true → number_of fields name < length fields
 field_below fields name h =
@@ -98,22 +94,22 @@ counted_below fields (Some name) h = field_below fields name h
 
 -- ---- rules
 
-rules_below : (heads : List Head) (texts : List (List ℕ)) (numbers : List ℕ) → AllZip (IsNumbered heads) texts numbers → EachOf (λ number. number < length heads) numbers
-rules_below heads [] [] all = tt
-rules_below heads [] (n ∷ numbers) all = absurd all
-rules_below heads (text ∷ texts) [] all = absurd all
-rules_below heads (text ∷ texts) (n ∷ numbers) all = (below (is_meant text) heads n all.0, rules_below heads texts numbers all.1)
+rules_below : (names : List Names) (texts : List (List ℕ)) (numbers : List ℕ) → AllZip (IsNumbered names) texts numbers → EachOf (λ number. number < length names) numbers
+rules_below names [] [] all = tt
+rules_below names [] (n ∷ numbers) all = absurd all
+rules_below names (text ∷ texts) [] all = absurd all
+rules_below names (text ∷ texts) (n ∷ numbers) all = (below (is_meant text) names n all.0, rules_below names texts numbers all.1)
 
-as_many : (heads : List Head) (f : List ℕ → List ℕ) (texts : List (List ℕ)) (numbers : List ℕ) → AllZip (IsNumbered heads) texts numbers → length (map f texts) ≡ length numbers
-as_many heads f [] [] all = refl
-as_many heads f [] (n ∷ numbers) all = absurd all
-as_many heads f (text ∷ texts) [] all = absurd all
-as_many heads f (text ∷ texts) (n ∷ numbers) all = let rest = as_many heads f texts numbers all.1 in omega (arith, rest)
+as_many : (names : List Names) (texts : List (List ℕ)) (numbers : List ℕ) → AllZip (IsNumbered names) texts numbers → length texts ≡ length numbers
+as_many names [] [] all = refl
+as_many names [] (n ∷ numbers) all = absurd all
+as_many names (text ∷ texts) [] all = absurd all
+as_many names (text ∷ texts) (n ∷ numbers) all = let rest = as_many names texts numbers all.1 in omega (arith, rest)
 
-pub all_within : (heads : List Head) (fields of_schema : List Field) (c : Correlation) (texts : List (List ℕ)) (b : Bound) → fields ≡ of_schema → texts ≡ c.rules
-    → groups_refusal fields c ≡ None → AllZip (IsNumbered heads) texts b.rules → b.groups ≡ groups_of fields c → b.counted ≡ option_map (number_of fields) c.counted
-    → IsWithin (length heads) (length of_schema) b
-all_within heads fields of_schema c texts b same named none numbered grouped counted =
+-- rules and fields are there where no group is refused
+pub all_there : (names : List Names) (fields : List Field) (c : PlainCorrelation) (b : Bound) → groups_refusal fields c ≡ None
+    → AllZip (IsNumbered names) c.rules b.rules → b.groups ≡ groups_of fields c → b.counted ≡ option_map (number_of fields) c.counted → IsWithin (length names) (length fields) b
+all_there names fields c b none numbered grouped counted =
     let bindable_line = must 143 c.place (list_all (is_bindable fields c.rules c.group_by) c.aliases) in
     let known_line = must 144 c.place (list_all (is_known fields (names_of c.aliases)) c.group_by && is_counted fields c.counted) in
     let both = first_holds bindable_line (known_line ∷ []) none in
@@ -123,13 +119,28 @@ all_within heads fields of_schema c texts b same named none numbered grouped cou
     (must_holds 144 c.place (list_all (is_known fields (names_of c.aliases)) c.group_by && is_counted fields c.counted) (first_holds known_line [] both.1).0) in
     let gives = each_gives fields c.rules c.rules
     (λ a h. (and_parts (list_all (λ (r : List ℕ). list_any (is_rule r) a.fields) c.rules) (list_all (λ (f : AliasField). is_field fields f.field) a.fields) h).0) in
-    subst (λ (fs : List Field). IsWithin (length heads) (length fs) b) same (record {
-      rules_there = rules_below heads texts b.rules numbered;
+    record {
+      rules_there = rules_below names c.rules b.rules numbered;
       fields_there =
           subst (λ (gs : List (List ℕ)). EachOf (EachOf (λ number. number < length fields)) gs) (sym grouped)
           (rows_below fields c.rules c.group_by c.aliases bindable known.0 (each_behind (λ (x : List ℕ) (y : List ℕ). bytes_eq y x) same_text c.group_by [] c.group_by refl) c.rules gives);
       counted_there = subst (λ (o : Option ℕ). IsBelowIfAny (length fields) o) (sym counted) (counted_below fields c.counted known.1);
-      each =
-          ap length grouped
-          ∙ as_many heads (group_of fields c.aliases c.group_by) c.rules b.rules (subst (λ (ts : List (List ℕ)). AllZip (IsNumbered heads) ts b.rules) named numbered);
-    })
+      each = ap length grouped ∙ (length-map c.rules (group_of fields c.aliases c.group_by) ∙ as_many names c.rules b.rules numbered);
+    }
+
+-- the same of what a function binds with texts and fields of its own
+pub all_within : (names : List Names) (count : ℕ) (fields of_schema : List Field) (c : PlainCorrelation) (texts : List (List ℕ)) (b : Bound)
+    → length names ≡ count → fields ≡ of_schema → texts ≡ c.rules → groups_refusal fields c ≡ None → AllZip (IsNumbered names) texts b.rules
+    → b.groups ≡ groups_of fields c → b.counted ≡ option_map (number_of fields) c.counted → IsWithin count (length of_schema) b
+all_within names count fields of_schema c texts b long same named none numbered grouped counted =
+    subst (λ (n : ℕ). IsWithin n (length of_schema) b) long (subst (λ (fs : List Field). IsWithin (length names) (length fs) b) same
+    (all_there names fields c b none (subst (λ (ts : List (List ℕ)). AllZip (IsNumbered names) ts b.rules) named numbered) grouped counted))
+
+-- ---- limits
+
+-- what is bound has as many rules as the correlation, and its timespan
+pub few : (names : List Names) (fields : List Field) (c : PlainCorrelation) (b : Bound) → length c.rules ≤ 64 → IsSpan c.span → IsBound names fields c b
+    → (length b.rules ≤ 64) × IsSpan b.span
+few names fields c b most span bound =
+    let many = as_many names c.rules b.rules bound.rules in
+    (omega (arith, most, many), subst IsSpan (sym bound.span) span)

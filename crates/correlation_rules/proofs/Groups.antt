@@ -1,13 +1,13 @@
 -- Groups by numbers that are kept for each alias are those by names.
 use Rattle.std.proofs.Common.{ℕ, ◌≡◌, Bool, true, false, cond, List, [], ◌∷◌, map, refl, sym, ap, ◌∙◌}
-use Rattle.std.specs.Prelude.{Option, Some, None, Result, Ok, Err, IfOk, option_map, find, slice_index_or, suc}
+use Rattle.std.specs.Prelude.{Option, Some, None, Result, Ok, Err, IfOk, option_map, find, suc}
 use Rattle.std.specs.Str.{bytes_eq}
 use Rattle.event_schema.specs.declared.schema.Field.{Field}
 use Rattle.field_numbers.specs.Numbers.{number_of}
 use Rattle.text_index.specs.Numbers.{first_number}
 use Rattle.sig_base.specs.declared.refusal.Fault.{Fault}
 use Rattle.correlation_rules.specs.declared.correlation.Alias.{Alias}
-use Rattle.correlation_rules.specs.declared.correlation.Correlation.{Correlation}
+use Rattle.correlation_rules.specs.Correlations.{PlainCorrelation}
 use Rattle.correlation_rules.specs.declared.binding.Source.{Source}
 use Rattle.correlation_rules.specs.Binding.{names_of, alias_field, is_named, stands_for, group_of, groups_of}
 use Rattle.correlation_rules.specs.Sources.{sourced, source_of, numbers_for, number_at, group_from}
@@ -56,7 +56,7 @@ groups_are fields aliases names all (rule ∷ rules) is =
     (ap (λ (sources : List Source). group_from sources (numbers_for fields aliases rule)) is ∙ group_is fields aliases rule names)
     ∙ ap (λ (gs : List (List ℕ)). group_of fields aliases names rule ∷ gs) (groups_are fields aliases names all rules is)
 
-pub groups_ok : (fields : List Field) (c : Correlation) (names : List (List ℕ)) (all : List Source) (aliases : List Alias) (group_by rules : List (List ℕ)) (r : Result (List (List ℕ)) Fault)
+pub groups_ok : (fields : List Field) (c : PlainCorrelation) (names : List (List ℕ)) (all : List Source) (aliases : List Alias) (group_by rules : List (List ℕ)) (r : Result (List (List ℕ)) Fault)
     → names ≡ names_of c.aliases → aliases ≡ c.aliases → group_by ≡ c.group_by → rules ≡ c.rules → all ≡ map (source_of fields names) group_by
     → IfOk r (λ groups. groups ≡ map (λ rule. group_from all (numbers_for fields aliases rule)) rules) → IfOk r (λ groups. groups ≡ groups_of fields c)
 groups_ok fields c names all aliases group_by rules (Ok groups) named aliased grouped ruled is e =

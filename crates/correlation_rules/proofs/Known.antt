@@ -1,6 +1,6 @@
 -- A correlation that isn't refused has a type and a timespan.
-use Rattle.std.proofs.Common.{ℕ, ◌≡◌, Bool, true, false, not, ◌||◌, List, [], ◌∷◌, map, refl, sym, ap, ◌∙◌, subst}
-use Rattle.std.specs.Prelude.{Option, Some, None, is_some, codes, if◌then◌else◌, ℤ}
+use Rattle.std.proofs.Common.{ℕ, ◌≡◌, Bool, true, false, not, ◌||◌, List, [], ◌∷◌, map, refl, sym, ap, ◌∙◌}
+use Rattle.std.specs.Prelude.{Option, Some, None, is_some, codes, if◌then◌else◌}
 use Rattle.std.specs.Str.{bytes_eq}
 use Rattle.std.proofs.lemmas.Bool.{false≢true}
 use Rattle.std.proofs.lemmas.Slice.Eq.{bytes_eq-Decides}
@@ -13,15 +13,16 @@ use Rattle.correlation_windows.specs.declared.bound.CorrelationKind.{Correlation
 use Rattle.correlation_rules.specs.Timespans.{span_of}
 use Rattle.correlation_rules.specs.Words.{kind_of}
 use Rattle.correlation_rules.specs.Checks.{keyed_refusal, entry_refusal, all_refusal, wants_condition, kind_in, kind_at, span_in, span_at}
+use Rattle.correlation_rules.proofs.Positions.{some_in}
 
 -- an entry that has a value at this key, and isn't refused
-record Holds (key : List ℕ) (refusal : Member → Option Refusal) (value : Tree) : Type 0 where
-  entry : Member
-  named : entry.key ≡ key
-  holds : entry.value ≡ value
-  passes : refusal entry ≡ None
+pub record Holds (key : List ℕ) (refusal : Member → Option Refusal) (value : Tree) : Type 0 where
+  pub entry : Member
+  pub named : entry.key ≡ key
+  pub holds : entry.value ≡ value
+  pub passes : refusal entry ≡ None
 
-entry_at : (key : List ℕ) (refusal : Member → Option Refusal) (es : List Member) (v : Tree) → value_in key es ≡ Some v → first (map refusal es) ≡ None → Holds key refusal v
+pub entry_at : (key : List ℕ) (refusal : Member → Option Refusal) (es : List Member) (v : Tree) → value_in key es ≡ Some v → first (map refusal es) ≡ None → Holds key refusal v
 entry_at key refusal [] v there none = absurd cc
 entry_at key refusal (e ∷ es) v there none =
     let lines = first_holds (refusal e) (map refusal es) none in
@@ -41,10 +42,10 @@ entry_at key refusal (e ∷ es) v there none =
     by later false same there passes none = later there none
 
 -- the lines of a correlation that isn't refused
-record Lines (kind : Option CorrelationKind) (t : Tree) : Type 0 where
-  type_there : is_some (value_in (codes "type") (entries_in t)) ≡ true
-  span_there : is_some (value_in (codes "timespan") (entries_in t)) ≡ true
-  entries : first (map (entry_refusal kind) (entries_in t)) ≡ None
+pub record Lines (kind : Option CorrelationKind) (t : Tree) : Type 0 where
+  pub type_there : is_some (value_in (codes "type") (entries_in t)) ≡ true
+  pub span_there : is_some (value_in (codes "timespan") (entries_in t)) ≡ true
+  pub entries : first (map (entry_refusal kind) (entries_in t)) ≡ None
 
 six_hold : (a b c d e f : Option Refusal) → first (a ∷ b ∷ c ∷ d ∷ e ∷ f ∷ []) ≡ None → (b ≡ None) × (d ≡ None) × (f ≡ None)
 six_hold a b c d e f none =
@@ -55,7 +56,7 @@ six_hold a b c d e f none =
     let sixth = first_holds e (f ∷ []) fifth.1 in
     (third.0, fifth.0, (first_holds f [] sixth.1).0)
 
-lines_of : (kind : Option CorrelationKind) (t : Tree) → all_refusal kind t ≡ None → Lines kind t
+pub lines_of : (kind : Option CorrelationKind) (t : Tree) → all_refusal kind t ≡ None → Lines kind t
 lines_of kind t none =
     let hold = six_hold (must 140 (place_of t) (is_map t)) (required (codes "type") 140 t) (required (codes "rules") 140 t) (required (codes "timespan") 140 t)
     (must 140 (place_of t) (not (wants_condition kind) || has_key (codes "condition") t)) (first (map (entry_refusal kind) (entries_in t))) none in
@@ -64,10 +65,6 @@ lines_of kind t none =
       span_there = must_holds 140 (place_of t) (has_key (codes "timespan") t) hold.1;
       entries = hold.2;
     }
-
-some_in : {A : Type 0} (o : Option A) → is_some o ≡ true → (x : A) × (o ≡ Some x)
-some_in None h = absurd (false≢true h)
-some_in (Some x) h = (x, refl)
 
 none_is : {A : Type 0} (o : Option A) → o ≡ None → is_some o ≡ true → ⊥
 none_is o none some = false≢true (sym (ap is_some none) ∙ some)

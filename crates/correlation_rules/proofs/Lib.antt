@@ -3,5 +3,8 @@ mod Entered
 mod Repeats
 mod Known
 mod Positions
+mod Meanings
 mod Groups
 mod Bounds
+mod Documents
+mod Binds

@@ -13,6 +13,10 @@ some_same {A = A} a b e = ap (λ (o : Option A). value o) e where
   value None = a
   value (Some x) = x
 
+pub some_in : {A : Type 0} (o : Option A) → is_some o ≡ true → (x : A) × (o ≡ Some x)
+some_in None h = absurd (false≢true h)
+some_in (Some x) h = (x, refl)
+
 not_less : (n m : ℕ) → nat_lt n m ≡ false → m ≤ n
 not_less n m h = ltb-false n m h
 
@@ -44,6 +48,14 @@ below p xs n is = by (nat_lt (position_or_len p xs) (length xs)) refl is where
       let same : position_or_len p xs ≡ n = some_same _ n e in
       omega (arith, less, same)
   by false t e = absurd cc
+
+-- the first place of a list's images is that of the list by the images
+pub position_mapped : {A B : Type 0} (f : A → B) (p : B → Bool) (xs : List A) → position p (map f xs) ≡ position (λ x. p (f x)) xs
+position_mapped f p [] = refl
+position_mapped f p (x ∷ xs) = by (position_mapped f p xs) (p (f x)) refl where
+  by : position p (map f xs) ≡ position (λ x. p (f x)) xs → (b : Bool) → p (f x) ≡ b → position p (f x ∷ map f xs) ≡ position (λ x. p (f x)) (x ∷ xs)
+  by rest true h = here p (f x) (map f xs) h ∙ sym (here (λ x. p (f x)) x xs h)
+  by rest false h = later p (f x) (map f xs) h ∙ (ap (option_map (λ k. suc k)) rest ∙ sym (later (λ x. p (f x)) x xs h))
 
 some_mapped : {A B : Type 0} (f : A → B) (o : Option A) → is_some (option_map f o) ≡ is_some o
 some_mapped f None = refl

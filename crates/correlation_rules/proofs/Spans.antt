@@ -1,6 +1,6 @@
 -- Timespans: numbers by their digits from the left, and texts by their bytes.
 use Rattle.std.proofs.Common.{ℕ, ◌≡◌, ◌+◌, ◌*◌, ◌-◌, ◌≤◌, ◌<◌, Bool, true, false, ◌&&◌, List, [], ◌∷◌, ◌++◌, length, drop, get_or, refl, sym, ap, subst, ◌∙◌, arith, ◌⊎◌, inl, inr, nat_lt, nat_le}
-use Rattle.std.specs.Prelude.{min, if◌then◌else◌, Option, Some, None, unwrap_or, ℤ, pos, ◌==◌, encode_utf8_all, codes, ◌≤ℤ◌, ◌^◌}
+use Rattle.std.specs.Prelude.{min, if◌then◌else◌, Option, Some, None, unwrap_or, ℤ, pos, ◌==◌, encode_utf8_all, codes}
 use Rattle.std.specs.List.{list_all}
 use Rattle.std.specs.Str.{chars, all_scalars}
 use Rattle.std.proofs.lemmas.Bool.{and_parts, and_from, leb-true, lt-ltb, eqb-true, false≢true}

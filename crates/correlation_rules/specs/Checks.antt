@@ -1,5 +1,7 @@
 -- Why a document is no correlation (Sigma correlations specification 2.0): the first key or value that isn't allowed, in the
--- order of the document. A key that is missing is refused at its map, whose place is its first key's.
+-- order of the document. A key that is missing is refused at its map, whose place is its first key's, or that of `{}` where it
+-- has none. A type that isn't known is refused at the value of `type`, and then no condition is: no type tells whether one is
+-- allowed, and what it needs.
 use Rattle.std.specs.Prelude.{ℕ, Bool, true, false, not, ◌&&◌, ◌||◌, nat_le, if◌then◌else◌, ℤ, pos, negsuc, List, [], ◌∷◌, ◌++◌, length, map as list_map, codes, Option, Some, None, is_some}
 use Rattle.std.specs.List.{list_any}
 use Rattle.std.specs.Str.{bytes_eq}
@@ -45,7 +47,7 @@ number_in (map at ms) = None
 abbrev pub text_refusal : Tree → Option Refusal
 text_refusal t = must 140 (place_of t) (is_text t)
 
--- ---- `rules`: a text, or a list of 1 to 64 texts without repeats
+-- ---- `rules`: a text, or a list of texts; that they are 1 to 64, and without repeats, is this profile's choice
 
 abbrev pub has_text : List ℕ → Tree → Bool
 has_text word t = is_text t && bytes_eq (text_in t) word

@@ -5,7 +5,7 @@ use Rattle.sig_base.specs.declared.refusal.Place.{Place}
 use Rattle.yaml_tree.specs.Tree.{Tree, Member}
 use Rattle.yaml_tree.specs.Nodes.{place_of, text_in, entries_in, parts_in, value_in, text_at}
 use Rattle.rule_head.specs.Heads.{IsHead}
-use Rattle.rule_head.specs.Plain.{PlainHead, head_view}
+use Rattle.rule_head.specs.Plain.{PlainHead, head_view, head_with}
 use Rattle.correlation_windows.specs.declared.bound.CorrelationKind.{CorrelationKind}
 use Rattle.correlation_windows.specs.declared.bound.Op.{Op}
 use Rattle.correlation_rules.specs.declared.correlation.Alias.{Alias}
@@ -30,6 +30,20 @@ pub record PlainCorrelation : Type 0 where
 abbrev pub correlation_view : Correlation → PlainCorrelation
 correlation_view c = record {
   head = head_view c.head;
+  kind = c.kind;
+  rules = c.rules;
+  group_by = c.group_by;
+  span = c.span;
+  condition = c.condition;
+  counted = c.counted;
+  aliases = c.aliases;
+  place = c.place;
+}
+
+-- the correlation with these entries in place of those that its head keeps as they are
+abbrev pub correlation_with : List Member → PlainCorrelation → PlainCorrelation
+correlation_with rest c = record {
+  head = head_with rest c.head;
   kind = c.kind;
   rules = c.rules;
   group_by = c.group_by;
@@ -116,6 +130,6 @@ pub record IsCorrelation (t : Tree) (c : PlainCorrelation) : Type 0 where
   pub body : IsBody value (body_of c)
   pub place : c.place ≡ place_of t
 
--- from 1 to 2^100 nanoseconds
+-- from 1 to 2^100 nanoseconds, which holds all timespans of this profile
 abbrev pub IsSpan : ℤ → Type 0
 IsSpan span = (pos 1 ≤ℤ span) × (span ≤ℤ pos (2 ^ 100))

@@ -4,3 +4,5 @@ pub mod Checks
 pub mod Correlations
 pub mod Binding
 pub mod Sources
+pub mod Indexed
+pub mod Laws

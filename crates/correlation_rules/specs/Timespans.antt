@@ -1,4 +1,5 @@
--- Timespans (Sigma correlations specification 2.0, timespan): a number and a unit.
+-- Timespans (Sigma correlations specification 2.0, timespan): a number and a unit. This profile takes five units, whose lengths
+-- are fixed, and canonical decimals from 1 to 99999.
 use Rattle.std.specs.Prelude.{ℕ, ◌+◌, ◌-◌, ◌*◌, ℤ, pos, Bool, false, ◌&&◌, ◌==◌, nat_le, if◌then◌else◌, List, [], ◌∷◌, Option, Some, None}
 use Rattle.std.specs.List.{list_all}
 use Rattle.rule_head.specs.Heads.{is_digit}

@@ -7,9 +7,12 @@ ghost use Rattle.event_schema.specs.Lists.{EachOf};
 ghost use Rattle.field_numbers.specs.Numbered.{AreNumbered};
 ghost use Rattle.field_numbers.specs.Numbers.{number_of};
 ghost use Rattle.correlation_rules.specs.Binding as spec;
+ghost use Rattle.correlation_rules.specs.Correlations.{correlation_view};
+ghost use Rattle.correlation_rules.specs.Indexed.{IsRuleIndex};
 ghost use Rattle.correlation_rules.specs.Sources as sources;
 
 use crate::correlation::{Alias, AliasField, Correlation};
+use crate::index::RuleIndex;
 use correlation_windows::{Bound, Op};
 use event_schema::{Field, Schema};
 use field_numbers::FieldNumbers;
@@ -25,52 +28,20 @@ enum Source {
     Field(u32),
 }
 
-fn is_text(named: &Option<Text>, text: &Text) -> bool
-    ensures { result ≡ spec.is_text text.now named.now }
-{
-    match named {
-        Some(other) => other.equals(text),
-        None => false,
-    }
-}
-
-fn is_meant(head: &Head, text: &Text) -> bool
-    ensures { result ≡ spec.is_meant text.now head.now }
-{
-    is_text(&head.name, text) || is_text(&head.id, text)
-}
-
-/// Where the first rule stands that a text of `rules` stands for.
-fn position_among(heads: &[Head], text: &Text) -> Option<usize>
-    ensures first { result ≡ spec.rule_number heads.now text.now }
-    ensures within { IfSome result (λ i. i < length heads.now) }
-{
-    heads.iter().position(|head| is_meant(head, text))
-}
-
-fn find_rule(heads: &[Head], text: &Text) -> Option<u32>
-    requires { length heads.now < 2 ^ 32 }
-    ensures { result ≡ spec.rule_number heads.now text.now }
-{
-    match position_among(heads, text) {
-        Some(number) => Some(number as u32),
-        None => None,
-    }
-}
-
 /// The rules that texts stand for; one that stands for none is refused at the place.
 fn find_rules(
     alloc: Global,
+    index: &RuleIndex,
     heads: &[Head],
     texts: &[Text],
     place: Place,
 ) -> Result<Sequence<u32>, Fault>
-    requires { length heads.now < 2 ^ 32 }
-    ensures { Judged (λ numbers. AllZip (spec.IsNumbered heads.now) texts.now numbers) (must 141 place (list_all (spec.is_there heads.now) texts.now)) result }
+    requires { IsRuleIndex heads.now index.now }
+    ensures { Judged (λ numbers. AllZip (spec.IsNumbered (map spec.names_of_head heads.now)) texts.now numbers) (must 141 place (list_all (spec.is_there (map spec.names_of_head heads.now)) texts.now)) result }
 {
     let mut numbers = Sequence::with_capacity(alloc, texts.len())?;
     for text in texts {
-        let Some(number) = find_rule(heads, text) else {
+        let Some(number) = index.find(heads, text) else {
             return Err(refused(Code::UNKNOWN_RULE, place));
         };
         numbers.push(number)?;
@@ -341,7 +312,7 @@ impl Correlation {
         requires numbered { AreNumbered fields.now numbers.now }
         requires group_by { group_by.now ≡ self.now.group_by }
         requires aliases { aliases.now ≡ spec.names_of self.now.aliases }
-        ensures { Judged (λ done. Unit {0}) (spec.groups_refusal fields.now self.now) result }
+        ensures { Judged (λ done. Unit {0}) (spec.groups_refusal fields.now (correlation_view self.now)) result }
     {
         let rules = self.rules.as_slice();
         let bindable = are_bindable(numbers, fields, rules, group_by, self.aliases.as_slice());
@@ -377,7 +348,7 @@ impl Correlation {
     ) -> Result<Sequence<Sequence<u32>>, Fault>
         requires numbered { AreNumbered fields.now numbers.now }
         requires names { names.now ≡ spec.names_of self.now.aliases }
-        ensures ok { IfOk result (λ groups. groups ≡ spec.groups_of fields.now self.now) }
+        ensures ok { IfOk result (λ groups. groups ≡ spec.groups_of fields.now (correlation_view self.now)) }
         ensures err { IfErr result (λ e. e ≡ Fault.Memory) }
     {
         let all = find_sources(alloc, numbers, fields, names, self.group_by.as_slice())?;
@@ -393,7 +364,7 @@ impl Correlation {
         fields: &[Field],
     ) -> Result<Sequence<Sequence<u32>>, Fault>
         requires { AreNumbered fields.now numbers.now }
-        ensures { Judged (λ groups. groups ≡ spec.groups_of fields.now self.now) (spec.groups_refusal fields.now self.now) result }
+        ensures { Judged (λ groups. groups ≡ spec.groups_of fields.now (correlation_view self.now)) (spec.groups_refusal fields.now (correlation_view self.now)) result }
     {
         let group_by = self.index_names(alloc)?;
         let names = self.index_aliases(alloc)?;
@@ -402,18 +373,24 @@ impl Correlation {
         Ok(groups)
     }
 
-    /// Binds the correlation to the rules of these heads, in the order of their files, and to a schema. It's refused 141 where
-    /// a text of `rules` is no rule's name or identifier, 143 where an alias that it groups by lacks one of the rules or
-    /// names no field, and 144 where it groups by what is neither alias nor field, or counts what is no field.
-    pub fn bind(&self, alloc: Global, heads: &[Head], schema: &Schema) -> Result<Bound, Fault>
-        requires { length heads.now < 2 ^ 32 }
-        ensures bound { Judged (spec.IsBound heads.now schema.now.fields self.now) (spec.bind_refusal heads.now schema.now.fields self.now) result }
+    /// Binds the correlation as `bind` does, by an index of the rules of these heads and by the numbers of the schema's fields, which
+    /// many correlations share.
+    pub fn bind_by(
+        &self,
+        alloc: Global,
+        index: &RuleIndex,
+        heads: &[Head],
+        numbers: &FieldNumbers,
+        schema: &Schema,
+    ) -> Result<Bound, Fault>
+        requires index { IsRuleIndex heads.now index.now }
+        requires numbers { AreNumbered schema.now.fields numbers.now }
+        ensures bound { Judged (spec.IsBound (map spec.names_of_head heads.now) schema.now.fields (correlation_view self.now)) (spec.bind_refusal (map spec.names_of_head heads.now) schema.now.fields (correlation_view self.now)) result }
         ensures within { IfOk result (λ b. spec.IsWithin (length heads.now) (length schema.now.fields) b) }
     {
         let fields = schema.fields.as_slice();
-        let rules = find_rules(alloc, heads, self.rules.as_slice(), self.place)?;
-        let numbers = FieldNumbers::of(alloc, fields)?;
-        let groups = self.find_groups(alloc, &numbers, fields)?;
+        let rules = find_rules(alloc, index, heads, self.rules.as_slice(), self.place)?;
+        let groups = self.find_groups(alloc, numbers, fields)?;
         let condition = copy_condition(alloc, self.condition.as_slice())?;
         Ok(Bound {
             kind: self.kind,
@@ -421,7 +398,20 @@ impl Correlation {
             groups,
             span: self.span,
             condition,
-            counted: counted_number(&numbers, fields, &self.counted),
+            counted: counted_number(numbers, fields, &self.counted),
         })
+    }
+
+    /// Binds the correlation to the rules of these heads, in the order of their files, and to a schema. It's refused 141 where
+    /// a text of `rules` is no rule's name or identifier, 143 where an alias that it groups by lacks one of the rules or
+    /// names no field, and 144 where it groups by what is neither alias nor field, or counts what is no field.
+    pub fn bind(&self, alloc: Global, heads: &[Head], schema: &Schema) -> Result<Bound, Fault>
+        requires { length heads.now < 2 ^ 32 }
+        ensures bound { Judged (spec.IsBound (map spec.names_of_head heads.now) schema.now.fields (correlation_view self.now)) (spec.bind_refusal (map spec.names_of_head heads.now) schema.now.fields (correlation_view self.now)) result }
+        ensures within { IfOk result (λ b. spec.IsWithin (length heads.now) (length schema.now.fields) b) }
+    {
+        let index = RuleIndex::of(alloc, heads)?;
+        let numbers = FieldNumbers::of(alloc, schema.fields.as_slice())?;
+        self.bind_by(alloc, &index, heads, &numbers, schema)
     }
 }

@@ -2,11 +2,15 @@
 #![tactic(auto)]
 
 pub use correlation::{Alias, AliasField, Correlation};
+pub use index::RuleIndex;
+pub use law::{bounds_are_within, one_bound, one_correlation};
 pub use timespan::span_of;
 
 mod binding;
 mod checks;
 mod correlation;
+mod index;
+mod law;
 mod reading;
 #[cfg(test)]
 mod tests;

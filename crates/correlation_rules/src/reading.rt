@@ -1,11 +1,12 @@
 //! Reading correlations.
 
-ghost use Rattle.std.specs.Prelude.{◌≡◌, true, codes, map as list_map, IfOk, IfErr};
+ghost use Rattle.std.specs.Prelude.{◌≡◌, [], true, codes, map as list_map, IfOk, IfErr};
 ghost use Rattle.std.specs.List.{filter_map};
 ghost use Rattle.sig_base.specs.Judged.{Judged};
 ghost use Rattle.sig_base.specs.Texts.{is_ascii};
 ghost use Rattle.yaml_tree.specs.View.{node_view, nodes_view, entry_view, entries_view};
 ghost use Rattle.yaml_tree.specs.Nodes as nodes;
+ghost use Rattle.rule_head.specs.Heads.{rest_of};
 ghost use Rattle.correlation_rules.specs.Checks.{body_refusal, correlation_refusal};
 ghost use Rattle.correlation_rules.specs.Correlations as spec;
 
@@ -192,12 +193,14 @@ fn read_body(alloc: Global, node: &Node) -> Result<Body, Fault>
 impl Correlation {
     /// Reads the correlation that a document is. The head is judged first, as a rule's. Then the first key or value in the
     /// document's order that isn't allowed is refused, 142 at a timespan and 140 at all else; a key that is missing is
-    /// refused 140 at its map.
+    /// refused 140 at its map. It takes no copy of the document: of the head no other keys are kept, and `rest` is empty.
     pub fn read(alloc: Global, node: &Node) -> Result<Correlation, Fault>
-        ensures judged { Judged (λ c. spec.IsCorrelation (node_view node.now) (spec.correlation_view c)) (correlation_refusal (node_view node.now)) result }
+        ensures judged { Judged (λ c. spec.IsCorrelation (node_view node.now) (spec.correlation_with (rest_of (node_view node.now)) (spec.correlation_view c)))
+            (correlation_refusal (node_view node.now)) result }
+        ensures bare { IfOk result (λ c. (spec.correlation_view c).head.rest ≡ []) }
         ensures span { IfOk result (λ c. spec.IsSpan c.span) }
     {
-        let head = Head::read(alloc, node)?;
+        let head = Head::read_bare(alloc, node)?;
         let Some(value) = value_at(node, "correlation") else {
             return Err(refused(Code::CORRELATION_SHAPE, place_of(node)));
         };

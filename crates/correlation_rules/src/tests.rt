@@ -2,7 +2,7 @@
 //! own from line 3 on: its key stands in column 3 and its value in column 10. What a value holds stands in the columns
 //! behind, one for each part.
 
-use crate::{Correlation, span_of};
+use crate::{Correlation, RuleIndex, span_of};
 use event_schema::{Field, FieldKind, FieldList, Schema};
 use rule_head::Head;
 use sig_base::{Fault, Place, Text, Texts};
@@ -158,6 +158,36 @@ fn the_first_cause_is_told(rt: HostRuntime) -> Result<(), Fail> {
     Ok(())
 }
 
+/// The row of a correlation that lists so many rules.
+fn listing(alloc: Global, count: u32) -> Result<String, Fail> {
+    let mut row = String::from_str(alloc, "type=temporal|timespan=5m|rules=[r")?;
+    for number in 1..count {
+        row.push_str(format!(in alloc; ",r{number}")?.as_str())?;
+    }
+    Ok(row)
+}
+
+#[test]
+fn up_to_sixty_four_rules_are_listed(rt: HostRuntime) -> Result<(), Fail> {
+    let row = listing(rt.alloc(), 64)?;
+    assert_eq!(rt; refusal(rt.alloc(), row.as_str())?.as_str(), "");
+    let row = listing(rt.alloc(), 65)?;
+    assert_eq!(rt; refusal(rt.alloc(), row.as_str())?.as_str(), "140 5 10");
+    Ok(())
+}
+
+#[test]
+fn comparisons_are_read(rt: HostRuntime) -> Result<(), Fail> {
+    let row = "type=event_count|rules=a|timespan=5m|condition={lte=#4,gt=#1,lt=#3,gte=#2,eq=#0";
+    let correlation = Correlation::read(rt.alloc(), &document(rt.alloc(), row)?)?;
+    let mut text = String::new(rt.alloc());
+    for (op, number) in correlation.condition.as_slice() {
+        text.push_str(format!(in rt.alloc(); "{op:?} {number} ")?.as_str())?;
+    }
+    assert_eq!(rt; text.as_str(), "Lte 4 Gt 1 Lt 3 Gte 2 Eq 0 ");
+    Ok(())
+}
+
 fn nanoseconds(alloc: Global, text: &str) -> Result<String, Fail> {
     match span_of(&Text::copy(alloc, text)?) {
         Some(span) => Ok(format!(in alloc; "{span}")?),
@@ -261,6 +291,9 @@ type=temporal|rules=[a,c|timespan=5m|group-by=[x~141 1 1
 type=temporal|rules=[a,2|timespan=5m|group-by=[u,x|aliases={u=a:User;b:Host~143 1 1
 type=temporal|rules=a|timespan=5m|group-by=u|aliases={u=a:User;b:Pid~143 1 1
 type=temporal|rules=a|timespan=5m|group-by=User|aliases={u=b:Pid~0:0.
+type=temporal|rules=[1,a|timespan=5m~0:0:
+type=temporal|rules=[a,c|timespan=5m|group-by=u|aliases={u=b:Pid~141 1 1
+type=temporal|rules=a|timespan=5m|group-by=[x,u|aliases={u=b:User~143 1 1
 type=temporal|rules=a|timespan=5m|group-by=[User,x~144 1 1
 type=value_count|rules=a|timespan=5m|condition={gte=#1,field=v|aliases={v=a:User~144 1 1";
 
@@ -270,6 +303,64 @@ fn rules_and_fields_are_found(rt: HostRuntime) -> Result<(), Fail> {
         if let Some((row, want)) = line.split_once('~') {
             assert_eq!(rt; bound(rt.alloc(), row)?.as_str(), want, "{row}");
         }
+    }
+    Ok(())
+}
+
+/// So many rules of the names `r0`, `r1` and so on. Of each ten those from the fifth on have no identifier, and the ninth has no name
+/// either; the others' identifiers are `i0`, `i1` and so on, and that of `r20` is `r3`.
+fn many_heads(alloc: Global, count: u32) -> Result<Vec<Head>, Fail> {
+    let mut heads = Vec::new(alloc);
+    for number in 0..count {
+        let name = format!(in alloc; "r{number}")?;
+        let id = format!(in alloc; "i{number}")?;
+        let mut one = head(alloc, name.as_str(), id.as_str())?;
+        if number % 10 >= 5 {
+            one.id = None;
+        }
+        if number % 10 == 9 {
+            one.name = None;
+        }
+        if number == 20 {
+            one.id = Some(Text::copy(alloc, "r3")?);
+        }
+        heads.push(one)?;
+    }
+    Ok(heads)
+}
+
+/// The number of the rule that each of these words means, found by an index.
+fn found(alloc: Global, heads: &[Head], words: &str) -> Result<String, Fail> {
+    let index = RuleIndex::of(alloc, heads)?;
+    let mut text = String::new(alloc);
+    for word in words.split(' ') {
+        match index.find(heads, &Text::copy(alloc, word)?) {
+            Some(number) => text.push_str(format!(in alloc; "{number} ")?.as_str())?,
+            None => text.push_str("- ")?,
+        }
+    }
+    Ok(text)
+}
+
+#[test]
+fn rules_are_found_by_an_index(rt: HostRuntime) -> Result<(), Fail> {
+    let alloc = rt.alloc();
+    for (count, words, want) in [
+        (
+            40,
+            "r0 i0 r4 i4 r5 i5 r9 i9 r3 r20 i20 r38 r39 R0",
+            "0 0 4 4 5 - - - 3 20 - 38 - - ",
+        ),
+        (17, "r0 i4 r5 i5 r16 i16 r17", "0 4 5 - 16 - - "),
+        (16, "r0 i4 r5 i5 r15 i16 r16", "0 4 5 - 15 - - "),
+        (0, "r0", "- "),
+    ] {
+        let heads = many_heads(alloc, count)?;
+        assert_eq!(rt;
+            found(alloc, heads.as_slice(), words)?.as_str(),
+            want,
+            "{count}"
+        );
     }
     Ok(())
 }

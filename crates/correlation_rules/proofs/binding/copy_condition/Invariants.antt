@@ -1,4 +1,4 @@
-use Rattle.std.proofs.Common.{◌≡◌, take, drop, map}
+use Rattle.std.proofs.Common.{◌≡◌, take}
 use Rattle.correlation_rules.proofs.binding.copy_condition.Given as goal
 
 abbrev pub invariant-loop-test : goal.invariant-loop-test

@@ -1,4 +1,4 @@
-use Rattle.std.proofs.Common.{◌≡◌, take, drop, map}
+use Rattle.std.proofs.Common.{◌≡◌, take}
 use Rattle.correlation_rules.specs.Binding as spec
 use Rattle.correlation_rules.proofs.binding.copy_names.Given as goal
 

@@ -5,6 +5,6 @@ use Rattle.correlation_rules.proofs.binding.find_rules.Given as goal
 
 abbrev pub invariant-loop-text : goal.invariant-loop-text
 invariant-loop-text l = record {
-  cause : list_all (spec.is_there l.heads) (drop l.text-index l.texts) ≡ list_all (spec.is_there l.heads) l.texts;
-  found : AllZip (spec.IsNumbered l.heads) (take l.text-index l.texts) l.numbers;
+  cause : list_all (spec.is_there (map spec.names_of_head l.heads)) (drop l.text-index l.texts) ≡ list_all (spec.is_there (map spec.names_of_head l.heads)) l.texts;
+  found : AllZip (spec.IsNumbered (map spec.names_of_head l.heads)) (take l.text-index l.texts) l.numbers;
 }

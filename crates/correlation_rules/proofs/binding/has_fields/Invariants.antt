@@ -1,4 +1,4 @@
-use Rattle.std.proofs.Common.{◌≡◌, take, drop, map}
+use Rattle.std.proofs.Common.{◌≡◌, drop}
 use Rattle.std.specs.List.{list_all}
 use Rattle.correlation_rules.specs.Binding as spec
 use Rattle.correlation_rules.proofs.binding.has_fields.Given as goal

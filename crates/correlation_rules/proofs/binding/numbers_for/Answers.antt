@@ -1,5 +1,4 @@
 use Rattle.std.proofs.Common.{◌∙◌, ap}
-use Rattle.event_schema.specs.declared.schema.Field.{Field}
 use Rattle.field_numbers.specs.Numbers.{number_of}
 use Rattle.correlation_rules.specs.Binding.{alias_field}
 use Rattle.correlation_rules.proofs.Positions.{mapped_more}

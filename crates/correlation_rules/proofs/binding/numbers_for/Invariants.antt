@@ -1,4 +1,4 @@
-use Rattle.std.proofs.Common.{◌≡◌, take, drop, map}
+use Rattle.std.proofs.Common.{◌≡◌, take}
 use Rattle.correlation_rules.specs.Sources as sources
 use Rattle.correlation_rules.proofs.binding.numbers_for.Given as goal
 
