@@ -71,7 +71,7 @@ pub fn answer_lines<C: LineCommand, W: Outside>(
 }
 
 /// Writes the diagnostic about events that can't be read.
-fn tell_unread_events<W: Outside>(outside: &mut W) -> Stop
+pub(crate) fn tell_unread_events<W: Outside>(outside: &mut W) -> Stop
     ensures told { ToldUnread Events result (W.state outside.old) (W.state outside.new) }
     ensures inputs { (W.state outside.new).inputs ≡ (W.state outside.old).inputs }
     ensures kept { (W.state outside.new).references ≡ (W.state outside.old).references }
@@ -82,13 +82,13 @@ fn tell_unread_events<W: Outside>(outside: &mut W) -> Stop
     }
 }
 
-fn ends_events(step: &LineStep) -> bool
+pub(crate) fn ends_events(step: &LineStep) -> bool
     ensures { result ≡ is_end step.now }
 {
     matches!(step, LineStep::End)
 }
 
-fn either(first: bool, second: bool) -> bool
+pub(crate) fn either(first: bool, second: bool) -> bool
     ensures { result ≡ (first || second) }
 {
     first || second
@@ -135,7 +135,7 @@ fn answer_line<C: LineCommand, W: Outside>(
     command.answer(alloc, number, line, outside)
 }
 
-fn is_blank_line(line: &[u8]) -> bool
+pub(crate) fn is_blank_line(line: &[u8]) -> bool
     ensures { result ≡ is_blank line.now }
 {
     line.iter()

@@ -2,6 +2,9 @@
 #![tactic(auto)]
 
 mod events;
+mod following;
+#[cfg(test)]
+mod following_tests;
 mod outside;
 mod reading;
 mod stop;
@@ -10,6 +13,7 @@ mod tests;
 mod writing;
 
 pub use events::{LineCommand, answer_lines, tell_line_refusal};
+pub use following::{LineFollower, follow_lines};
 pub use outside::{Lent, Outside};
 pub use reading::read_file;
 pub use stop::Stop;

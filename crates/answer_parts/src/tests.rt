@@ -75,11 +75,11 @@ fn ordinals(alloc: Global, call: u64) -> Result<Vec<u64>, Fail> {
     Ok(all)
 }
 
-fn sink_of(alloc: Global, most: usize, call: u64) -> Result<MemorySink, Fail> {
+pub(crate) fn sink_of(alloc: Global, most: usize, call: u64) -> Result<MemorySink, Fail> {
     Ok(MemorySink::new(alloc, 4096, most.max(1), ordinals(alloc, call)?)?)
 }
 
-fn ending(answer: Result<bool, Stop>) -> &'static str {
+pub(crate) fn ending(answer: Result<bool, Stop>) -> &'static str {
     match answer {
         Ok(false) => "done",
         Ok(true) => "found",
@@ -89,7 +89,7 @@ fn ending(answer: Result<bool, Stop>) -> &'static str {
     }
 }
 
-fn push_bytes(text: &mut String, bytes: &[u8]) -> Result<(), Fail> {
+pub(crate) fn push_bytes(text: &mut String, bytes: &[u8]) -> Result<(), Fail> {
     for byte in bytes {
         text.push(*byte as char)?;
     }

@@ -1,6 +1,7 @@
 use Rattle.std.proofs.Common.{◌∙◌, sym, true, [], Ok, Err}
 use Rattle.answer_parts.proofs.Ending.{ends_memory}
-use Rattle.answer_parts.proofs.Lined.{Asks, step_within, lines_start, lines_next, lines_end, lines_stop, lines_memory, lines_unread, each_answer}
+use Rattle.answer_parts.proofs.Asked.{Asks}
+use Rattle.answer_parts.proofs.Lined.{step_within, lines_start, lines_next, lines_end, lines_stop, lines_memory, lines_unread, each_answer}
 use Rattle.answer_parts.proofs.Wrote.{writes_as}
 use Rattle.answer_parts.specs.EventLines.{StepGives, EventLines}
 use Rattle.sig_base.specs.declared.faults.LineFault.TheVariants.{Read, Memory}

@@ -1,4 +1,5 @@
-use Rattle.answer_parts.proofs.Lined.{Going, measure}
+use Rattle.answer_parts.proofs.Asked.{measure}
+use Rattle.answer_parts.proofs.Lined.{Going}
 use Rattle.answer_parts.specs.EventLines.{AnswersWithin}
 use Rattle.answer_parts.proofs.events.answer_lines.Given as goal
 
