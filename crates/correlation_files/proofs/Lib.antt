@@ -1,0 +1,8 @@
+mod Placed
+mod Growing
+mod Fitting
+mod Documents
+mod Gathering
+mod Filed
+mod Verdicts
+mod Binds

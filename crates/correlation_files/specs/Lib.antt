@@ -1,0 +1,9 @@
+pub mod Outcomes
+pub mod Places
+pub mod Found
+pub mod Accepted
+pub mod Read
+pub mod Bindings
+pub mod Bound
+pub mod Checked
+pub mod Laws

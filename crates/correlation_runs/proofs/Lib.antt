@@ -1,0 +1,4 @@
+pub mod Brought
+pub mod Followed
+pub mod Judged
+pub mod Lined

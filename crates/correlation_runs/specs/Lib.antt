@@ -1,0 +1,4 @@
+pub mod Followed
+pub mod Judges
+pub mod Laws
+pub mod References
