@@ -1,0 +1,3 @@
+pub mod Drawn
+pub mod Fitting
+pub mod Wholeness
