@@ -6,11 +6,13 @@
 PROGRAM is the built program, as crates/sigma_app/out/sigma_app. The script makes N events of Windows process creations as JSON lines,
 and a rule that some of them match, and prints for each way the least of some times, in seconds of the clock, the events in a second, and
 the peak of its memory: `sigma run`; `sigma query` with the rule's query in SQL, and with that in Lucene; Python's `json` with `sqlite3`, which loads the events into a table and runs the rule's own query
-there; `jq`, where it is installed, with the like filter; `grep -i` for one word; `wc -l`. The ways take turns, so that a busy machine
-slows none of them alone. That `sigma run` and `sigma query` select the events that SQLite selects is looked at too. Then the memory of `sigma run`
+there; `sigma correlate` with the rule and one correlation of it, `event_count` by user in a minute; `jq`, where it is installed, with the like filter; `grep -i` for one word;
+`wc -l`. The ways take turns, so that a busy machine slows none of them alone. That `sigma run` and `sigma query` select the events that SQLite selects, and that
+`sigma correlate` reports what counting the selected events plainly gives, is looked at too. Then the memory of `sigma run` and of `sigma correlate`
 is measured at a tenth of the events.
 """
 import argparse
+import collections
 import json
 import math
 import os
@@ -42,12 +44,24 @@ FILTER = r"""select((.Image // "" | ascii_downcase | (endswith("\\powershell.exe
     and (.CommandLine // "" | ascii_downcase | contains(" -enc "))
     and (((.User // "" | ascii_downcase) == "system" and (.ParentImage // "" | ascii_downcase | endswith("\\services.exe"))) | not))"""
 FIELDS = ["Image", "CommandLine", "User", "ParentImage"]
+# How many matches of one user within how many seconds are reported; there are ten events a second.
+SPAN, LEAST = 60, 30
+CORRELATION = RULE.replace("\n", "\nname: encoded\n", 1) + f"""---
+title: Many encoded commands
+correlation:
+  type: event_count
+  rules: encoded
+  group-by: User
+  timespan: {SPAN}s
+  condition:
+    gte: {LEAST}
+"""
 
 
 def event(rng, number):
     tool = rng.choice(["cmd", "powershell", "PowerShell", "pwsh", "svchost", "notepad", "chrome", "rundll32"])
     line = rng.choice(["", " -enc ", " -ENC ", " -q ", " /c "]) + str(rng.randrange(10 ** 9))
-    return {"UtcTime": f"2026-05-{number % 28 + 1:02} 12:{number % 60:02}:07.{number % 1000:03}", "EventID": 1, "ProcessId": rng.randrange(65536),
+    return {"Time": number // 10, "UtcTime": f"2026-05-{number % 28 + 1:02} 12:{number % 60:02}:07.{number % 1000:03}", "EventID": 1, "ProcessId": rng.randrange(65536),
             "Image": f"C:\\Windows\\System32\\{tool}.exe", "CommandLine": f"{tool}.exe{line}",
             "User": rng.choice(["SYSTEM", "alice", "bob"]), "ParentImage": rng.choice(["C:\\Windows\\explorer.exe", "C:\\Windows\\services.exe"])}
 
@@ -91,6 +105,24 @@ def spent(words, path, out):
         return time.monotonic() - start, peak
 
 
+def reports_of(events, selected):
+    """The reports of the correlation, by counting for each selected line those of its user that are at most so long before it."""
+    windows, wanted = collections.defaultdict(collections.deque), set(selected.split(b"\n"))
+    with open(events, "rb") as file:
+        lines = [(number, line.rstrip(b"\n")) for number, line in enumerate(file, 1) if line.rstrip(b"\n") in wanted]
+    out = []
+    for number, line in lines:
+        found = json.loads(line)
+        window = windows[found["User"]]
+        window.append((number, found["Time"]))
+        while window[0][1] <= found["Time"] - SPAN:
+            window.popleft()
+        if len(window) >= LEAST:
+            report = {"correlation": "Many encoded commands", "line": number, "from": window[0][0], "count": len(window), "group": [found["User"]]}
+            out.append(json.dumps(report, separators=(",", ":")) + "\n")
+    return "".join(out).encode()
+
+
 def bytes_of(path):
     with open(path, "rb") as file:
         return file.read()
@@ -124,6 +156,12 @@ def main():
             with open(asked, "wb") as file:
                 subprocess.run([program, "convert", "--backend", backend, rule], stdout=file, check=True)
             ways[f"sigma query, {backend}"] = [program, "query", "--backend", backend, "--schema", schema, asked]
+        correlated, timed = os.path.join(folder, "c.yml"), os.path.join(folder, "timed.json")
+        with open(correlated, "w", encoding="utf-8", newline="") as file:
+            file.write(CORRELATION)
+        with open(timed, "w", encoding="utf-8") as file:
+            json.dump({"fields": [{"name": field, "kind": "text"} for field in FIELDS], "time": {"at": ["Time"], "form": "seconds"}}, file)
+        ways["sigma correlate"] = [program, "correlate", "--schema", timed, correlated]
         ways |= {"Python's json and sqlite3": [sys.executable, "-c", IN_PYTHON.format(fields=FIELDS, query=query)]}
         if shutil.which("jq"):
             ways["jq"] = ["jq", "-c", FILTER]
@@ -139,12 +177,16 @@ def main():
         for way, seconds in times.items():
             print(f"  {way}: {seconds:.3f} s, {told.events / seconds / 1e3:.0f} thousand events/s, {size / seconds / 1e6:.0f} MB/s, {peaks[way]} KiB,"
                   f" {seconds / times['sigma run']:.1f} times sigma run")
-        _, peak = spent(ways["sigma run"], few, os.path.join(folder, "few_out"))
-        print(f"  sigma run over a tenth of them: {peak} KiB")
+        for way in ["sigma run", "sigma correlate"]:
+            _, peak = spent(ways[way], few, os.path.join(folder, "few_out"))
+            print(f"  {way} over a tenth of them: {peak} KiB")
         lines = bytes_of(outs["sigma run"])
-        same = all(bytes_of(outs[way]) == lines for way in ways if "sigma" in way or "sqlite3" in way)
+        same = all(bytes_of(outs[way]) == lines for way in ways if way.startswith(("sigma run", "sigma query")) or "sqlite3" in way)
+        reports = bytes_of(outs["sigma correlate"])
+        counted = reports == reports_of(path, lines)
         print(f"  {lines.count(10)} lines selected, {'the same' if same else 'NOT the same'} as SQLite selects")
-        sys.exit(0 if same else 1)
+        print(f"  {reports.count(10)} reports, {'the same' if counted else 'NOT the same'} as counting the selected lines gives")
+        sys.exit(0 if same and counted else 1)
 
 
 if __name__ == "__main__":

@@ -2,7 +2,7 @@
 _sigma() {
     local word=${COMP_WORDS[COMP_CWORD]} before=${COMP_WORDS[COMP_CWORD - 1]} options=''
     if [ "$COMP_CWORD" -eq 1 ]; then
-        mapfile -t COMPREPLY < <(compgen -W 'check convert run query --help --version' -- "$word")
+        mapfile -t COMPREPLY < <(compgen -W 'check convert run query correlate generate --help --version' -- "$word")
         return
     fi
     case ${COMP_WORDS[1]} in
@@ -10,6 +10,8 @@ _sigma() {
         convert) options='--backend --schema --pipeline' ;;
         run) options='--schema --pipeline' ;;
         query) options='--backend --schema' ;;
+        correlate) options='--schema --pipeline' ;;
+        generate) options='--seed --events' ;;
     esac
     if [ "$before" = --backend ]; then
         mapfile -t COMPREPLY < <(compgen -W 'sqlite lucene' -- "$word")

@@ -15,17 +15,26 @@ TABLE = "crates/command_words/specs/Table.antt"
 BACKENDS = ["sqlite", "lucene"]
 
 COMMANDS = {
-    "check": ("which documents are rules", "Writes FILE:LINE:COLUMN: ok for each document that is a rule.", ""),
+    "check": ("which documents are rules or correlations", "Writes FILE:LINE:COLUMN: ok for each document that is a rule or a correlation.", ""),
     "convert": ("a query for each rule", "Writes a line for each rule, its query in the language of the backend.", ""),
     "run": ("the events that a rule matches", "Writes each event of the standard input that the file's one rule matches, as it was read.", " < EVENTS"),
     "query": ("the events that a query selects", "Writes each event of the standard input that the query in the file selects, as it was read.", " < EVENTS"),
+    "correlate": ("the reports of correlations over events", "Writes a line of JSON for each report of the files' correlations over the events of the standard input.", " < EVENTS"),
+    "generate": (
+        "a rule compared with its queries over made events",
+        "Makes a rule and K events of the number N, and writes a line: how many of the events the rule matches, and how many its queries select. No file is read.",
+        "",
+    ),
 }
-FILES = {"check": "RULE", "convert": "RULE", "run": "RULE", "query": "QUERY"}
+FILES = {"check": "RULE", "convert": "RULE", "run": "RULE", "query": "QUERY", "correlate": "RULE"}
 OPTIONS = {
     "backend": ("B", "the query language: sqlite or lucene"),
     "schema": ("F", "the fields of events, as JSON; without it every name of a rule is a field of one value, of the kind that its tests ask for"),
     "pipeline": ("F", "processing pipelines, as YAML, which change each rule before its query is written or it is run"),
+    "seed": ("N", "the number of which all is made, from 0 to 4294967295"),
+    "events": ("K", "how many events are made, from 0 to 100000"),
 }
+NUMBERS = ["seed", "events"]
 EXIT = [
     ("0", "All was read, and nothing was refused."),
     ("1", "Something was refused; each such document, file or line has its own line on standard error."),
@@ -39,7 +48,7 @@ EXIT = [
 
 
 def rows():
-    """The commands in the table's order: the name, the options asked for, those that may stand, and whether there may be several files."""
+    """The commands in the table's order: the name, the options asked for, those that may stand, and whether there may be several files, if any."""
     with open(f"{TOP}/{TABLE}", encoding="utf-8") as it:
         text = it.read()
     form = re.compile(r'record \{ name = codes "(\w+)"; required = ([^;]*); optional = ([^;]*); files = (\w+) \}')
@@ -55,7 +64,8 @@ def words(row):
     """The usage of a command, behind the program's name."""
     name, required, optional, several = row
     said = [name] + [f"--{o} {OPTIONS[o][0]}" for o in required] + [f"[--{o} {OPTIONS[o][0]}]" for o in optional]
-    return " ".join(said) + f" {FILES[name]}" + (".." if several else "") + COMMANDS[name][2]
+    files = f" {FILES[name]}" + (".." if several else "") if name in FILES else ""
+    return " ".join(said) + files + COMMANDS[name][2]
 
 
 def roff(text):
@@ -68,7 +78,7 @@ def man(table):
         lines += [f".B sigma {roff(words(row))}", ".br"]
     lines += [
         ".SH DESCRIPTION",
-        "RULE is a file of Sigma rules in YAML, with one or more documents. EVENTS are JSON objects, one a line. An option stands before, between or behind the files,",
+        "RULE is a file of Sigma rules and correlations in YAML, with one or more documents. EVENTS are JSON objects, one a line. An option stands before, between or behind the files,",
         "as \\-\\-schema F or \\-\\-schema=F; behind \\-\\- every word is a file.",
         ".SH COMMANDS",
     ]
@@ -87,6 +97,7 @@ def man(table):
         "sigma convert \\-\\-backend sqlite rules/x.yml",
         "sigma convert \\-\\-backend lucene \\-\\-pipeline ecs.yml rules/x.yml",
         "sigma run \\-\\-schema schema.json rules/x.yml < events.jsonl",
+        "sigma correlate \\-\\-schema schema.json rules/x.yml rules/bursts.yml < events.jsonl",
         ".fi",
         ".SH SEE ALSO",
         "README.md and docs/FORMAT.md of the program's repository.",
@@ -126,10 +137,11 @@ def zsh(table):
         "schema": "'--schema[the fields of events]:schema:_files'",
         "pipeline": "'--pipeline[processing pipelines]:pipelines:_files'",
     }
+    spec.update({name: f"'--{name}[{OPTIONS[name][1]}]:number:'" for name in NUMBERS})
     cases = []
     for name, required, optional, several in table:
-        files = "'*:file:_files'" if several else "'1:file:_files'"
-        cases.append(f"        {name}) _arguments {' '.join([spec[o] for o in required + optional] + [files])} ;;")
+        files = ["'*:file:_files'" if several else "'1:file:_files'"] if name in FILES else []
+        cases.append(f"        {name}) _arguments {' '.join([spec[o] for o in required + optional] + files)} ;;")
     commands = "\n".join(f"        '{row[0]}:{COMMANDS[row[0]][0]}'" for row in table)
     return f"""#compdef sigma
 # Completions of sigma for zsh: a file of a folder that fpath names.
@@ -157,7 +169,7 @@ def fish(table):
     for name, required, optional, _ in table:
         lines.append(f"complete -c sigma -n __fish_use_subcommand -f -a {name} -d '{COMMANDS[name][0]}'")
         for option in required + optional:
-            values = f"-x -a '{' '.join(BACKENDS)}'" if option == "backend" else "-r -F"
+            values = f"-x -a '{' '.join(BACKENDS)}'" if option == "backend" else "-x" if option in NUMBERS else "-r -F"
             lines.append(f"complete -c sigma -n '__fish_seen_subcommand_from {name}' -l {option} {values}")
     return "\n".join(lines) + "\n"
 

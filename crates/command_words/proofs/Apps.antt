@@ -9,7 +9,7 @@ use Rattle.clap.specs.Simple.{built, is_simple}
 use Rattle.command_words.specs.Given.{Word, is_among}
 use Rattle.command_words.specs.declared.command_name.Count.{Count}
 use Rattle.command_words.specs.declared.command_name.Count.TheVariants.{NoName}
-use Rattle.command_words.specs.Table.{Row, takes_names, backend, schema, pipeline, check, convert, run, query}
+use Rattle.command_words.specs.Table.{Row, takes_names, backend, schema, pipeline, seed, events, check, convert, run, query, correlate, generate}
 use Rattle.command_words.proofs.Shapes.{file_id, option_rule, file_rule, shape_with, IsName, IsOption, HasFiles, Serves}
 use Rattle.command_words.specs.Apps.{app_with}
 
@@ -50,6 +50,15 @@ schema_name = record { alone = refl; both = λ v. refl; no_end = refl; no_end_bo
 
 pipeline_name : IsName pipeline
 pipeline_name = record { alone = refl; both = λ v. refl; no_end = refl; no_end_both = λ v. refl; same = refl; other = refl; other_way = refl }
+
+seed_name : IsName seed
+seed_name = record { alone = refl; both = λ v. refl; no_end = refl; no_end_both = λ v. refl; same = refl; other = refl; other_way = refl }
+
+events_name : IsName events
+events_name = record { alone = refl; both = λ v. refl; no_end = refl; no_end_both = λ v. refl; same = refl; other = refl; other_way = refl }
+
+not_taken : false ≡ true → ⊥
+not_taken e = cc
 
 pub check_served : IsServed check
 check_served = record {
@@ -106,6 +115,34 @@ query_served = record {
       (λ e. record { by_index = refl; by_id = refl });
   free = refl;
   defaults = (refl, (refl, (refl, tt)));
+  pass = refl;
+  known = (refl, (refl, tt));
+}
+
+pub correlate_served : IsServed correlate
+correlate_served = record {
+  simple = refl;
+  built_is = refl;
+  no_name = refl;
+  serves = serves_by (rules_of_row correlate) (schema ∷ pipeline ∷ []) true
+      (record { required = true; by_long = refl; by_id = refl; name = schema_name }, (record { required = false; by_long = refl; by_id = refl; name = pipeline_name }, tt))
+      (λ e. record { by_index = refl; by_id = refl });
+  free = refl;
+  defaults = (refl, (refl, (refl, tt)));
+  pass = refl;
+  known = (refl, tt);
+}
+
+pub generate_served : IsServed generate
+generate_served = record {
+  simple = refl;
+  built_is = refl;
+  no_name = refl;
+  serves = serves_by (rules_of_row generate) (seed ∷ events ∷ []) false
+      (record { required = true; by_long = refl; by_id = refl; name = seed_name }, (record { required = true; by_long = refl; by_id = refl; name = events_name }, tt))
+      (λ e. absurd (not_taken e));
+  free = refl;
+  defaults = (refl, (refl, tt));
   pass = refl;
   known = (refl, (refl, tt));
 }

@@ -8,7 +8,7 @@ use Rattle.clap.proofs.CutLemmas.{Lacks, list_any-Lacks, list_any-at, before_fir
 use Rattle.command_words.specs.Given.{Word, Item, named, file, is_value, is_nonempty, dashed, joined, is_among, less, Reads, nothing, apart, together, placed, ended, value_of, names_of}
 use Rattle.command_words.specs.Clean.{behind_dashes}
 use Rattle.command_words.specs.Computed.{before, with_value, word_items, items_of, items_apart, is_all, if_all, given}
-use Rattle.command_words.specs.Table.{Row, row_of, backend, schema, pipeline, takes_names, are_enough, IsGiven}
+use Rattle.command_words.specs.Table.{Row, row_of, backend, schema, pipeline, seed, events, takes_names, are_enough, IsGiven}
 use Rattle.command_words.specs.declared.command_name.CommandName.{CommandName}
 use Rattle.command_words.specs.declared.command_name.CommandName.TheVariants as commands
 use Rattle.command_words.proofs.Fresh.{and_left, and_right, still_among}
@@ -200,8 +200,16 @@ plain_schema = (refl, lacks_of schema refl)
 plain_pipeline : IsOptionName pipeline
 plain_pipeline = (refl, lacks_of pipeline refl)
 
+plain_seed : IsOptionName seed
+plain_seed = (refl, lacks_of seed refl)
+
+plain_events : IsOptionName events
+plain_events = (refl, lacks_of events refl)
+
 pub plain_names : (command : CommandName) → AreNames ((row_of command).required ++ (row_of command).optional)
 plain_names commands.Check x e = absurd cc
 plain_names commands.Convert x e = each_name (backend ∷ schema ∷ pipeline ∷ []) (plain_backend, (plain_schema, (plain_pipeline, tt))) x e
 plain_names commands.Run x e = each_name (schema ∷ pipeline ∷ []) (plain_schema, (plain_pipeline, tt)) x e
 plain_names commands.Query x e = each_name (backend ∷ schema ∷ []) (plain_backend, (plain_schema, tt)) x e
+plain_names commands.Correlate x e = each_name (schema ∷ pipeline ∷ []) (plain_schema, (plain_pipeline, tt)) x e
+plain_names commands.Generate x e = each_name (seed ∷ events ∷ []) (plain_seed, (plain_events, tt)) x e

@@ -13,7 +13,7 @@ use Rattle.command_words.specs.Given.{Word, Item, Reads, value_of}
 use Rattle.command_words.specs.Apps.{app_with, file_id}
 use Rattle.command_words.specs.Matched.{HasItems}
 use Rattle.command_words.specs.Table.{row_of, takes_names, IsGiven}
-use Rattle.command_words.proofs.Apps.{IsServed, check_served, convert_served, run_served, query_served}
+use Rattle.command_words.proofs.Apps.{IsServed, check_served, convert_served, run_served, query_served, correlate_served, generate_served}
 use Rattle.command_words.proofs.Fresh.{new_row}
 use Rattle.command_words.proofs.Taken.{read_by_clap, taken_by_clap}
 
@@ -22,6 +22,8 @@ served commands.Check = check_served
 served commands.Convert = convert_served
 served commands.Run = run_served
 served commands.Query = query_served
+served commands.Correlate = correlate_served
+served commands.Generate = generate_served
 
 pub takes_of : (w : CommandName) (a : App) (words : List Word) (items : List Item) → a ≡ app_with (row_of w) → IsGiven (row_of w) words items → takes a words ≡ true
 takes_of w a words items is given = subst (λ (b : App). takes b words ≡ true) (sym is) (taken_by_clap (row_of w) words items (served w) given)

@@ -23,6 +23,12 @@ schema = codes "schema"
 abbrev pub pipeline : Word
 pipeline = codes "pipeline"
 
+abbrev pub seed : Word
+seed = codes "seed"
+
+abbrev pub events : Word
+events = codes "events"
+
 -- a row for each command
 abbrev pub check : Row
 check = record { name = codes "check"; required = []; optional = []; files = SomeNames }
@@ -36,11 +42,19 @@ run = record { name = codes "run"; required = []; optional = schema ∷ pipeline
 abbrev pub query : Row
 query = record { name = codes "query"; required = backend ∷ schema ∷ []; optional = []; files = OneName }
 
+abbrev pub correlate : Row
+correlate = record { name = codes "correlate"; required = schema ∷ []; optional = pipeline ∷ []; files = SomeNames }
+
+abbrev pub generate : Row
+generate = record { name = codes "generate"; required = seed ∷ events ∷ []; optional = []; files = NoName }
+
 abbrev pub row_of : CommandName → Row
 row_of commands.Check = check
 row_of commands.Convert = convert
 row_of commands.Run = run
 row_of commands.Query = query
+row_of commands.Correlate = correlate
+row_of commands.Generate = generate
 
 abbrev pub takes_names : Count → Bool
 takes_names NoName = false

@@ -18,15 +18,23 @@ pub enum CommandName {
     Convert,
     Run,
     Query,
+    Correlate,
+    Generate,
 }
 
 static NO_OPTIONS: [&str; 0] = [];
 
 static BACKEND: [&str; 1] = ["backend"];
 
+static SCHEMA: [&str; 1] = ["schema"];
+
+static PIPELINE: [&str; 1] = ["pipeline"];
+
 static SCHEMA_AND_PIPELINE: [&str; 2] = ["schema", "pipeline"];
 
 static BACKEND_AND_SCHEMA: [&str; 2] = ["backend", "schema"];
+
+static SEED_AND_EVENTS: [&str; 2] = ["seed", "events"];
 
 impl CommandName {
     /// The word that stands for the command.
@@ -38,6 +46,8 @@ impl CommandName {
             CommandName::Convert => "convert",
             CommandName::Run => "run",
             CommandName::Query => "query",
+            CommandName::Correlate => "correlate",
+            CommandName::Generate => "generate",
         }
     }
 
@@ -49,6 +59,8 @@ impl CommandName {
             CommandName::Check | CommandName::Run => NO_OPTIONS.as_slice(),
             CommandName::Convert => BACKEND.as_slice(),
             CommandName::Query => BACKEND_AND_SCHEMA.as_slice(),
+            CommandName::Correlate => SCHEMA.as_slice(),
+            CommandName::Generate => SEED_AND_EVENTS.as_slice(),
         }
     }
 
@@ -57,8 +69,11 @@ impl CommandName {
         ensures { map (λ s. s.now) result.now ≡ (row_of self).optional }
     {
         match self {
-            CommandName::Check | CommandName::Query => NO_OPTIONS.as_slice(),
+            CommandName::Check | CommandName::Query | CommandName::Generate => {
+                NO_OPTIONS.as_slice()
+            }
             CommandName::Convert | CommandName::Run => SCHEMA_AND_PIPELINE.as_slice(),
+            CommandName::Correlate => PIPELINE.as_slice(),
         }
     }
 
@@ -67,8 +82,11 @@ impl CommandName {
         ensures { result ≡ (row_of self).files }
     {
         match self {
-            CommandName::Check | CommandName::Convert => Count::SomeNames,
+            CommandName::Check | CommandName::Convert | CommandName::Correlate => {
+                Count::SomeNames
+            }
             CommandName::Run | CommandName::Query => Count::OneName,
+            CommandName::Generate => Count::NoName,
         }
     }
 

@@ -4,7 +4,7 @@ use crate::{CommandName, read};
 use std::alloc::Global;
 use std::test::Fail;
 
-/// What the words behind a command's name give: the backend, the schema, the pipelines, and the files with a `;` behind each.
+/// What the words behind a command's name give: the values of the options, and the files with a `;` behind each.
 fn told(alloc: Global, command: CommandName, words: &[&str]) -> Result<String, Fail> {
     let mut all = String::new(alloc);
     let Ok(Some(matches)) = read(alloc, command, words) else {
@@ -24,6 +24,15 @@ fn told(alloc: Global, command: CommandName, words: &[&str]) -> Result<String, F
         all.push_str("by ")?;
         all.push_str(pipeline)?;
         all.push_str(": ")?;
+    }
+    if let Some(seed) = matches.get_str("seed") {
+        all.push_str("from ")?;
+        all.push_str(seed)?;
+        all.push_str(": ")?;
+    }
+    if let Some(events) = matches.get_str("events") {
+        all.push_str(events)?;
+        all.push_str(" events: ")?;
     }
     if let Some(files) = matches.get_raw("FILE") {
         for file in files {
@@ -272,6 +281,78 @@ fn words_of_query(rt: HostRuntime) -> Result<(), Fail> {
         ([].as_slice(), "not taken"),
     ] {
         assert_eq!(rt; told(alloc, CommandName::Query, words)?.as_str(), want);
+    }
+    Ok(())
+}
+
+#[test]
+fn words_of_correlate(rt: HostRuntime) -> Result<(), Fail> {
+    let alloc = rt.alloc();
+    for (words, want) in [
+        (["--schema", "s", "r.yml"].as_slice(), "under s: r.yml;"),
+        (
+            ["a", "--pipeline=p", "b", "--schema=s", "a"].as_slice(),
+            "under s: by p: a;b;a;",
+        ),
+        (
+            ["--schema=s", "--", "-r", "--"].as_slice(),
+            "under s: -r;--;",
+        ),
+        (["r"].as_slice(), "not taken"),
+        (["--pipeline", "p", "r"].as_slice(), "not taken"),
+        (["--schema", "s"].as_slice(), "not taken"),
+        (["--schema=s", "--"].as_slice(), "not taken"),
+        (["--schema=s", "r", "--schema=s"].as_slice(), "not taken"),
+        (
+            ["--schema=s", "--backend=sqlite", "r"].as_slice(),
+            "not taken",
+        ),
+        (["--schema=", "r"].as_slice(), "not taken"),
+        (["--schema", "-s", "r"].as_slice(), "not taken"),
+        ([].as_slice(), "not taken"),
+    ] {
+        assert_eq!(rt; told(alloc, CommandName::Correlate, words)?.as_str(), want);
+    }
+    Ok(())
+}
+
+#[test]
+fn words_of_generate(rt: HostRuntime) -> Result<(), Fail> {
+    let alloc = rt.alloc();
+    for (words, want) in [
+        (
+            ["--seed", "0", "--events", "3"].as_slice(),
+            "from 0: 3 events: ",
+        ),
+        (["--events=3", "--seed=x"].as_slice(), "from x: 3 events: "),
+        (
+            ["--seed=7", "--events", "3", "--"].as_slice(),
+            "from 7: 3 events: ",
+        ),
+        (["x"].as_slice(), "not taken"),
+        (["--seed=1", "--events=3", "x"].as_slice(), "not taken"),
+        (["x", "--seed=1", "--events=3"].as_slice(), "not taken"),
+        (
+            ["--seed=1", "--events=3", "--", "x"].as_slice(),
+            "not taken",
+        ),
+        (["--seed", "1"].as_slice(), "not taken"),
+        (["--events", "3"].as_slice(), "not taken"),
+        (["--seed=1", "--events"].as_slice(), "not taken"),
+        (
+            ["--seed=1", "--events=3", "--seed=1"].as_slice(),
+            "not taken",
+        ),
+        (["--seed=-1", "--events=3"].as_slice(), "not taken"),
+        (["--seed", "-1", "--events=3"].as_slice(), "not taken"),
+        (["--seed=", "--events=3"].as_slice(), "not taken"),
+        (
+            ["--seed=1", "--events=3", "--schema=s"].as_slice(),
+            "not taken",
+        ),
+        ([].as_slice(), "not taken"),
+    ] {
+        assert_eq!(rt; told(alloc, CommandName::Generate, words)?.as_str(), want);
     }
     Ok(())
 }

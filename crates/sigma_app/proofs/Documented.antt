@@ -13,6 +13,7 @@ use Rattle.answer_parts.specs.Stands.{Writes}
 use Rattle.answer_parts.specs.State.{State}
 use Rattle.answer_parts.specs.declared.stop.Stop.{Stop}
 use Rattle.answer_parts.specs.declared.stop.Stop.TheVariants.{Memory}
+use Rattle.correlation_files.specs.Places.{AreOfDocument}
 use Rattle.event_schema.specs.Lists.{EachOf}
 use Rattle.rule_building.proofs.Lists.{each_joined}
 use Rattle.rule_building.specs.Unbuilt.{Unbuilt, none_unbuilt, refused_texts}
@@ -24,7 +25,7 @@ use Rattle.sigma_app.proofs.Placed.{firsts, of_both, follows_both, paired_of, no
 use Rattle.sigma_app.proofs.Trees.{cut}
 use Rattle.sigma_app.specs.Laws.{EachTree, EachDocument, EachFile, OneTree, OneDocument, OneFile}
 use Rattle.sigma_app.specs.Reports.{refusal_share}
-use Rattle.sigma_app.specs.RuleFiles.{ByTree, ByUnbuilt, BySome, DocumentGives, FileGivesAt, as_one_at, by_document_at, AreOfDocument, DocumentsBySome, FileBySome}
+use Rattle.sigma_app.specs.RuleFiles.{ByTree, ByUnbuilt, BySome, DocumentGives, FileGivesAt, as_one_at, by_document_at, DocumentsBySome, FileBySome}
 use Rattle.yaml_documents.specs.Given.{answers_view}
 use Rattle.yaml_documents.specs.Verdicts as yaml
 use Rattle.yaml_files.specs.Call.{IsCallRefusal, IsTaken}

@@ -15,6 +15,7 @@ use Rattle.answer_parts.specs.Parts.{Share, Part}
 use Rattle.answer_parts.specs.Stands.{Writes, Ends, StopsBefore}
 use Rattle.answer_parts.specs.State.{State}
 use Rattle.answer_parts.specs.declared.stop.Stop.{Stop}
+use Rattle.correlation_files.specs.Places.{AreOfFile}
 use Rattle.event_schema.specs.Lists.{EachOf}
 use Rattle.rule_building.proofs.Lists.{each_joined}
 use Rattle.rule_building.specs.Unbuilt.{Unbuilt}
@@ -23,7 +24,7 @@ use Rattle.sig_base.specs.declared.limits.Limits.{Limits}
 use Rattle.sigma_app.proofs.Placed.{firsts, of_both, follows_both, paired_of, no_more, beside, beside_of, beside_follows, none_of_files, each_later}
 use Rattle.sigma_app.proofs.Trees.{cut}
 use Rattle.sigma_app.specs.Laws.{EachFile, OneFile}
-use Rattle.sigma_app.specs.RuleFiles.{ByUnbuilt, FileGivesAt, as_one_at, by_document_at, RuleFileAt, AreOfFile, AreOfFiles, FileBySome, FilesBySome, all_texts, contents}
+use Rattle.sigma_app.specs.RuleFiles.{ByUnbuilt, FileGivesAt, as_one_at, by_document_at, RuleFileAt, AreOfFiles, FileBySome, FilesBySome, all_texts, contents}
 use Rattle.yaml_files.specs.Call.{IsCallRefusal}
 use Rattle.yaml_tree.specs.Tree.{At}
 

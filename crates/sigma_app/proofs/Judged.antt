@@ -1,29 +1,38 @@
 -- That each tree has exactly one answer under each command.
 use Rattle.std.proofs.Common.{◌≡◌, ℕ, List, refl, ap, sym, ◌∙◌, Option, Some, None, Result, Ok, Err}
 use Rattle.answer_parts.specs.Parts.{Share}
+use Rattle.correlation_files.specs.Checked.{check_refusal}
 use Rattle.event_schema.specs.declared.schema.Schema.{Schema}
 use Rattle.pipeline_chain.specs.Chained.{run_pipelines, Makes}
 use Rattle.pipeline_model.specs.declared.pipeline.Pipeline.{Pipeline}
 use Rattle.rule_building.specs.Unbuilt.{Unbuilt}
 use Rattle.rule_model.specs.Plain.{PlainRule}
-use Rattle.rule_model.specs.Rules.{rule_refusal, lone_refusal, IsLoneRule}
+use Rattle.rule_model.specs.Rules.{lone_refusal, IsLoneRule}
 use Rattle.rule_queries.specs.NamedQueries.{query_of, query_refusal, IsConverted, IsRefused}
 use Rattle.rule_queries.specs.Verdicts as rules
 use Rattle.rule_queries.specs.declared.backend_name.BackendName.{BackendName}
+use Rattle.sig_base.specs.Judged.{Judged}
 use Rattle.sig_base.specs.declared.limits.Limits.{Limits}
+use Rattle.sig_base.specs.declared.refusal.Fault.{Fault}
+use Rattle.sig_base.specs.declared.refusal.Place.{Place}
 use Rattle.sig_base.specs.declared.refusal.Refusal.{Refusal}
-use Rattle.sigma_app.specs.Check.{CheckGives, is_rule, no_rule}
+use Rattle.sigma_app.specs.Check.{CheckGives, accepted, refused}
 use Rattle.sigma_app.specs.Convert.{ConvertGives, has_query, no_query}
-use Rattle.sigma_app.specs.Laws.{EachTree, OneTree, EachRule, OneRule, EachLone, OneLone}
+use Rattle.sigma_app.specs.Laws.{EachTree, OneTree, EachLone, OneLone}
 use Rattle.sigma_app.specs.Reports.{ok_line, line_share, refusal_share}
+use Rattle.yaml_tree.specs.Nodes.{place_of}
 use Rattle.yaml_tree.specs.Tree.{Tree}
 
-pub each_checks : EachRule → (limits : Limits) (unbuilt : Unbuilt) → EachTree (CheckGives limits unbuilt)
-each_checks each limits unbuilt name t = by (rule_refusal unbuilt.values limits t) refl
+-- what checking a tree answers
+abbrev pub Checked : Limits → Tree → Result Place Fault → Unbuilt → Type 0
+Checked limits t result unbuilt = Judged (λ place. place ≡ place_of t) (check_refusal unbuilt.values limits t) result
+
+pub each_checks : (limits : Limits) (unbuilt : Unbuilt) → EachTree (CheckGives limits unbuilt)
+each_checks limits unbuilt name t = by (check_refusal unbuilt.values limits t) refl
   where
-    by : (r : Option Refusal) → rule_refusal unbuilt.values limits t ≡ r → (share : Share) × CheckGives limits unbuilt name t share
-    by None is = let rule = each unbuilt limits t is in (line_share (ok_line name rule.0.head.place), is_rule rule.0 rule.1 refl)
-    by (Some r) is = (refusal_share name r, no_rule r is refl)
+    by : (r : Option Refusal) → check_refusal unbuilt.values limits t ≡ r → (share : Share) × CheckGives limits unbuilt name t share
+    by None is = (line_share (ok_line name (place_of t)), accepted is refl)
+    by (Some r) is = (refusal_share name r, refused r is refl)
 
 pub each_converts : EachLone → (backend : BackendName) (limits : Limits) (ps : List Pipeline) (given : Option Schema) (unbuilt : Unbuilt) → EachTree (ConvertGives backend limits ps given unbuilt)
 each_converts each backend limits ps given unbuilt name t = by (lone_refusal unbuilt.values limits t) refl
@@ -59,12 +68,11 @@ one_cause r a b first second = some_is a b (sym first ∙ second)
 same_refusal : (name : List ℕ) (r s : Refusal) (a b : Share) → r ≡ s → a ≡ refusal_share name r → b ≡ refusal_share name s → a ≡ b
 same_refusal name r s a b same first second = first ∙ (ap (λ (x : Refusal). refusal_share name x) same ∙ sym second)
 
-pub one_checks : OneRule → (limits : Limits) (unbuilt : Unbuilt) → OneTree (CheckGives limits unbuilt)
-one_checks one limits unbuilt name t a b (is_rule rule checked is) (is_rule other checked_too too) =
-    is ∙ (ap (λ (r : PlainRule). line_share (ok_line name r.head.place)) (one unbuilt unbuilt limits t rule other checked checked_too) ∙ sym too)
-one_checks one limits unbuilt name t a b (is_rule rule checked is) (no_rule r so too) = absurd (not_none _ r checked.taken so)
-one_checks one limits unbuilt name t a b (no_rule r so is) (is_rule rule checked too) = absurd (not_none _ r checked.taken so)
-one_checks one limits unbuilt name t a b (no_rule r so is) (no_rule s so_too too) = same_refusal name r s a b (one_cause _ r s so so_too) is too
+pub one_checks : (limits : Limits) (unbuilt : Unbuilt) → OneTree (CheckGives limits unbuilt)
+one_checks limits unbuilt name t a b (accepted so is) (accepted so_too too) = is ∙ sym too
+one_checks limits unbuilt name t a b (accepted so is) (refused r so_too too) = absurd (not_none _ r so so_too)
+one_checks limits unbuilt name t a b (refused r so is) (accepted so_too too) = absurd (not_none _ r so_too so)
+one_checks limits unbuilt name t a b (refused r so is) (refused s so_too too) = same_refusal name r s a b (one_cause _ r s so so_too) is too
 
 abbrev made_ok : PlainRule → Result PlainRule Refusal
 made_ok made = Ok made

@@ -6,6 +6,8 @@ use Rattle.answer_parts.proofs.Rows.{all_one, each_parts, parts_one}
 use Rattle.answer_parts.specs.Each.{EachShare, EachPart}
 use Rattle.answer_parts.specs.Input.{World}
 use Rattle.answer_parts.specs.Parts.{Share, Part, no_share}
+use Rattle.correlation_files.specs.Laws as sources
+use Rattle.correlation_runs.specs.Laws as runs
 use Rattle.event_reading.specs.SchemaOf.{schema_of}
 use Rattle.event_schema.specs.Lists.{EachOf}
 use Rattle.event_schema.specs.Schemas.{IsSchema}
@@ -25,37 +27,41 @@ use Rattle.sig_base.specs.Judged.{refusal as refused_at}
 use Rattle.sig_base.specs.declared.limits.Limits.{Limits}
 use Rattle.sig_base.specs.declared.refusal.Refusal.{Refusal}
 use Rattle.sigma_app.proofs.Documented.{each_document_at, each_file_at, one_document_at, one_file_at}
+use Rattle.sigma_app.proofs.Correlated.{each_files_cut, each_timed_cut, one_correlate}
 use Rattle.sigma_app.proofs.Filed.{each_part, files_left, files_placed, one_part, parts_as}
 use Rattle.sigma_app.proofs.Judged.{each_checks, each_converts, one_checks, one_converts}
-use Rattle.sigma_app.proofs.Lifted.{in_documents, convert_places, run_places, query_places}
+use Rattle.sigma_app.proofs.Lifted.{nowhere, in_documents, convert_places, run_places, query_places, correlate_places}
+use Rattle.sigma_app.proofs.Once.{one_piped, one_schema}
 use Rattle.sigma_app.proofs.Piped.{each_ordered, each_piped}
 use Rattle.sigma_app.proofs.Ran.{each_ran_cut}
 use Rattle.sigma_app.proofs.Schemed.{each_schema}
 use Rattle.sigma_app.specs.Check.{CheckGives}
 use Rattle.sigma_app.specs.Convert.{ConvertGives, has_query, no_query, ConvertMeans, means_rule, means_none}
 use Rattle.sigma_app.specs.Converted.{Converted, RulesAt, RulesBySome, PipedRules}
+use Rattle.sigma_app.specs.Correlated.{CorrelatedAt, FilesCorrelated, TimedBy}
+use Rattle.sigma_app.specs.Generate.{Generated}
 use Rattle.sigma_app.specs.Languages.{AskedBy, AskedAt}
-use Rattle.sigma_app.specs.Laws.{EachDocument, EachFile, EachUnder, EachAnswer, EachConverted, EachQueried, EachRan, OneDocument, OneFile, OneQueried, OneUnder, OneAnswer, OfBoth, EachRule, OneRule, EachLone, OneLone, QueriesMean, AnswersMean}
+use Rattle.sigma_app.specs.Laws.{EachDocument, EachFile, EachUnder, EachAnswer, EachConverted, EachCorrelated, EachQueried, EachRan, OneDocument, OneFile, OneQueried, OneUnder, OneAnswer, OfBoth, EachGenerated, OneGenerated, EachLone, OneLone, QueriesMean}
 use Rattle.sigma_app.specs.Ran.{RanUnder, RanBySome, PipedRun}
-use Rattle.sigma_app.specs.Reports.{refusal_share}
+use Rattle.sigma_app.specs.Reports.{refusal_share, line_share}
 use Rattle.sigma_app.specs.RuleFiles.{DocumentGives, as_one_at, by_document_at, RuleFileAt, contents}
 use Rattle.sigma_app.specs.UnderPipelines.{AreReported, UnderPipelines, unpiped, piped_by, not_piped, PipedBuilder}
 use Rattle.sigma_app.specs.UnderSchema.{BySchema, UnderSchema, without, under, refused, file_part}
-use Rattle.sigma_app.specs.declared.request.Request.TheVariants.{Check, Convert, Run, Query}
+use Rattle.sigma_app.specs.declared.request.Request.TheVariants.{Check, Convert, Run, Query, Correlate, Generate}
 use Rattle.yaml_bounds.specs.Laws.{TextsAreScalars}
 use Rattle.yaml_documents.specs.Verdicts as yaml
 use Rattle.yaml_tree.specs.Texts.{HasScalarTexts, AnswerHas}
 use Rattle.yaml_tree.specs.Tree.{Tree, Answer, tree, refusal}
 
-pub both_documents : EachRule → EachLone → OfBoth EachDocument
-both_documents rule lone limits = (
-  each_document_at (CheckGives limits) (each_checks rule limits),
+pub both_documents : EachLone → OfBoth EachDocument
+both_documents lone limits = (
+  each_document_at (CheckGives limits) (each_checks limits),
   λ backend ps given. each_document_at (ConvertGives backend limits ps given) (each_converts lone backend limits ps given),
 )
 
-pub both_files : EachRule → EachLone → yaml.EachVerdict → OfBoth EachFile
-both_files rule lone file limits = (
-  each_file_at (CheckGives limits) (each_checks rule limits) file,
+pub both_files : EachLone → yaml.EachVerdict → OfBoth EachFile
+both_files lone file limits = (
+  each_file_at (CheckGives limits) (each_checks limits) file,
   λ backend ps given. each_file_at (ConvertGives backend limits ps given) (each_converts lone backend limits ps given) file,
 )
 
@@ -68,33 +74,51 @@ pub each_converted_cut : OfBoth EachFile → (backend : BackendName) (limits : L
     → EachUnder (RulesBySome (ConvertGives backend limits) limits rules ps texts texts false)
 each_converted_cut file backend limits rules ps texts given world = files_left (ConvertGives backend limits ps given) limits ps ((file limits).1 backend ps given) texts rules world
 
-module _ (rule : EachRule) (lone : EachLone) (file : yaml.EachVerdict) (piped : pipelined.EachFile) (one : pipelined.OnePipelines) (never : pipelined.NeverBoth) where
-  pub each_answer : EachRan → EachQueried → EachAnswer
-  each_answer ran queried limits built (Check rules) world =
-      let all = files_left (CheckGives limits) limits [] (both_files rule lone file limits).0 built rules world in
+-- there is one answer of what is generated
+pub each_made : EachGenerated → (seed events : ℕ) → (parts : List Part) × Generated seed events parts
+each_made each seed events =
+    let a = each seed events in
+    let part : Part = record { input = None; share = line_share a.0 } in
+    (part ∷ [], record { line = a.0; is = a.1; all = refl })
+
+one_made : OneGenerated → (seed events : ℕ) (a b : List Part) → Generated seed events a → Generated seed events b → a ≡ b
+one_made one seed events a b first second =
+    first.all ∙ (ap (λ (l : List ℕ). record { input = None; share = line_share l } ∷ []) (one seed events first.line second.line first.is second.is) ∙ sym second.all)
+
+module _ (lone : EachLone) (file : yaml.EachVerdict) (piped : pipelined.EachFile) (one : pipelined.OnePipelines) (never : pipelined.NeverBoth) where
+  pub each_answer : EachRan → EachQueried → EachCorrelated → sources.EachFile → EachGenerated → EachAnswer
+  each_answer ran queried correlated outcomes made limits built (Check rules) world =
+      let all = files_left (CheckGives limits) limits [] (both_files lone file limits).0 built rules world in
       let placed = files_placed (CheckGives limits) limits [] built built false rules world all.0 all.1 in
       (all.0, (in_documents [] placed.0, placed.1, placed.2))
-  each_answer ran queried limits built (Convert backend schema pipelines rules) world =
+  each_answer ran queried correlated outcomes made limits built (Convert backend schema pipelines rules) world =
       let a = each_schema (PipedBuilder (RulesBySome (ConvertGives backend limits) limits rules) limits pipelines built built false) limits
-      (each_piped (RulesBySome (ConvertGives backend limits) limits rules) limits pipelines built (λ ps. each_converted_cut (both_files rule lone file) backend limits rules ps built) piped) schema world in
+      (each_piped (RulesBySome (ConvertGives backend limits) limits rules) limits pipelines built (λ ps. each_converted_cut (both_files lone file) backend limits rules ps built) piped) schema world in
       (a.0, convert_places one never limits built built false schema pipelines backend rules world a.0 (λ _. refl) a.1)
-  each_answer ran queried limits built (Run schema pipelines rule_file) world =
+  each_answer ran queried correlated outcomes made limits built (Run schema pipelines rule_file) world =
       let a = each_schema (PipedBuilder (RanBySome limits rule_file) limits pipelines built built false) limits
       (each_piped (RanBySome limits rule_file) limits pipelines built (λ ps. each_ran_cut ran limits rule_file ps built) piped) schema world in
       (a.0, run_places one never limits built built false schema pipelines rule_file world a.0 (λ _. refl) a.1)
-  each_answer ran queried limits built (Query backend schema query) world =
+  each_answer ran queried correlated outcomes made limits built (Query backend schema query) world =
       let a = each_schema (AskedBy backend limits query built built false) limits (queried backend limits query built built [] (sym (append-nil built))) (Some schema) world in
       (a.0, query_places backend limits schema query built built false world a.0 (λ _. refl) a.1)
+  each_answer ran queried correlated outcomes made limits built (Correlate schema pipelines rules) world =
+      let own : EachUnder (PipedBuilder (FilesCorrelated limits rules) limits pipelines built built false) =
+      each_piped (FilesCorrelated limits rules) limits pipelines built (λ ps. each_files_cut correlated outcomes limits rules ps built) piped in
+      let a = each_schema (TimedBy (PipedBuilder (FilesCorrelated limits rules) limits pipelines) schema built built false) limits
+      (each_timed_cut (PipedBuilder (FilesCorrelated limits rules) limits pipelines) schema built own) (Some schema) world in
+      (a.0, correlate_places one never limits built built false schema pipelines rules world a.0 (λ _. refl) a.1)
+  each_answer ran queried correlated outcomes made limits built (Generate seed events) world = let a = each_made made seed events in (a.0, (nowhere, refl, a.1))
 
-pub one_documents : OneRule → OneLone → OfBoth OneDocument
-one_documents rule lone limits = (
-  one_document_at (CheckGives limits) (one_checks rule limits),
+pub one_documents : OneLone → OfBoth OneDocument
+one_documents lone limits = (
+  one_document_at (CheckGives limits) (one_checks limits),
   λ backend ps given. one_document_at (ConvertGives backend limits ps given) (one_converts lone backend limits ps given),
 )
 
-pub one_files : OneRule → OneLone → yaml.NeverBoth → yaml.OneList → yaml.OneRefusal → OfBoth OneFile
-one_files rule lone never list cause limits = (
-  one_file_at (CheckGives limits) (one_checks rule limits) never list cause,
+pub one_files : OneLone → yaml.NeverBoth → yaml.OneList → yaml.OneRefusal → OfBoth OneFile
+one_files lone never list cause limits = (
+  one_file_at (CheckGives limits) (one_checks limits) never list cause,
   λ backend ps given. one_file_at (ConvertGives backend limits ps given) (one_converts lone backend limits ps given) never list cause,
 )
 
@@ -103,121 +127,27 @@ one_under : OfBoth OneFile → (backend : BackendName) (limits : Limits) (unbuil
 one_under file backend limits unbuilt rules ps given world a b first second =
     parts_one (RuleFileAt (ConvertGives backend limits ps given) limits) (one_part (ConvertGives backend limits ps given) limits ((file limits).1 backend ps given)) (paired [] unbuilt rules) world a b first second
 
--- ---- one answer under a schema
-
-none_some : {A : Type 0} (o : Option A) (x : A) → o ≡ None → o ≡ Some x → ⊥
-none_some o x none some = apart (sym none ∙ some)
-  where
-    apart : None ≡ Some x → ⊥
-    apart same = cc
-
-some_is : {A : Type 0} (o : Option A) (x y : A) → o ≡ Some x → o ≡ Some y → x ≡ y
-some_is o x y first second = by (sym first ∙ second)
-  where
-    by : Some x ≡ Some y → x ≡ y
-    by same = cc
-
-abbrev taken : Schema → Result Schema ℕ
-taken schema = Ok schema
-
-abbrev coded : ℕ → Result Schema ℕ
-coded code = Err code
-
-ok_is : (r : Result Schema ℕ) (a b : Schema) → r ≡ Ok a → r ≡ Ok b → a ≡ b
-ok_is r a b first second = by (sym first ∙ second)
-  where
-    by : taken a ≡ taken b → a ≡ b
-    by same = cc
-
-err_is : (r : Result Schema ℕ) (a b : ℕ) → r ≡ Err a → r ≡ Err b → a ≡ b
-err_is r a b first second = by (sym first ∙ second)
-  where
-    by : coded a ≡ coded b → a ≡ b
-    by same = cc
-
-not_both : (r : Result Schema ℕ) (a : Schema) (code : ℕ) → r ≡ Ok a → r ≡ Err code → ⊥
-not_both r a code first second = apart (sym first ∙ second)
-  where
-    apart : Ok a ≡ Err code → ⊥
-    apart same = cc
-
-module _ (by : BySchema) (one_by : OneUnder by) (limits : Limits) (schema : Option (List ℕ)) (world : World) where
-  -- what the file of this name is as a schema, also said of the same name written otherwise
-  moved : (name other : List ℕ) → schema ≡ Some name → schema ≡ Some other → (r : Result Schema ℕ)
-      → schema_of limits (contents world.files other) ≡ r → schema_of limits (contents world.files name) ≡ r
-  moved name other is too r so = ap (λ (n : List ℕ). schema_of limits (contents world.files n)) (some_is schema name other is too) ∙ so
-
-  pub one_schema : (a b : List Part) → UnderSchema by limits schema world a → UnderSchema by limits schema world b → a ≡ b
-  one_schema a b (without is each) (without too each_too) = one_by None world a b each each_too
-  one_schema a b (without is each) (under other too given so others each_too same) = absurd (none_some schema other is too)
-  one_schema a b (without is each) (refused other too code so same) = absurd (none_some schema other is too)
-  one_schema a b (under name is given so others each same) (without too each_too) = absurd (none_some schema name too is)
-  one_schema a b (under name is given so others each same) (under other too given_too so_too others_too each_too same_too) =
-      let one : given_too ≡ given = ok_is (schema_of limits (contents world.files name)) given_too given (moved name other is too (Ok given_too) so_too) so in
-      let rest : others ≡ others_too = one_by (Some given) world others others_too each
-      (subst (λ (g : Schema). by (Some g) world others_too) one each_too) in
-      same ∙ (ap (λ (n : List ℕ). file_part n no_share ∷ others) (some_is schema name other is too)
-      ∙ (ap (λ (ps : List Part). file_part other no_share ∷ ps) rest ∙ sym same_too))
-  one_schema a b (under name is given so others each same) (refused other too code so_too same_too) =
-      absurd (not_both (schema_of limits (contents world.files name)) given code so (moved name other is too (Err code) so_too))
-  one_schema a b (refused name is code so same) (without too each_too) = absurd (none_some schema name too is)
-  one_schema a b (refused name is code so same) (under other too given so_too others each_too same_too) =
-      absurd (not_both (schema_of limits (contents world.files name)) given code (moved name other is too (Ok given) so_too) so)
-  one_schema a b (refused name is code so same) (refused other too code_too so_too same_too) =
-      same ∙ (ap (λ (c : ℕ). file_part name (refusal_share name (refused_at c file_start)) ∷ []) (err_is (schema_of limits (contents world.files name)) code code_too so (moved name other is too (Err code_too) so_too))
-      ∙ (ap (λ (n : List ℕ). file_part n (refusal_share n (refused_at code_too file_start)) ∷ []) (some_is schema name other is too) ∙ sym same_too))
-
--- ---- one answer under the pipelines of a file
-
-module _ (one : pipelined.OnePipelines) (causes_one : pipelined.OneCauses) (never : pipelined.NeverBoth) (by : List Pipeline → World → List Part → Type 0)
-    (one_by : (ps : List Pipeline) (world : World) (a b : List Part) → by ps world a → by ps world b → a ≡ b) (limits : Limits) (piped : List Unbuilt) (file : Option (List ℕ)) (world : World) where
-  -- what the file of this name is, also said of the same name written otherwise
-  same_name : (name other : List ℕ) → file ≡ Some name → file ≡ Some other → (P : List ℕ → Type 0) → P other → P name
-  same_name name other is too P so = subst P (sym (some_is file name other is too)) so
-
-  one_share_of : (name : List ℕ) (causes : List Refusal) (a b : Share) → AreReported name causes a → AreReported name causes b → a ≡ b
-  one_share_of name causes = all_one (λ (r : Refusal) one. one ≡ refusal_share name r) (λ r a b first second. first ∙ sym second) causes
-
-  pub one_piped : (a b : List Part) → UnderPipelines by limits piped file world a → UnderPipelines by limits piped file world b → a ≡ b
-  one_piped a b (unpiped is other) (unpiped too other_too) = one_by [] world a b other other_too
-  one_piped a b (unpiped is other) (piped_by name too ps are others other_too same) = absurd (none_some file name is too)
-  one_piped a b (unpiped is other) (not_piped name too causes are share reported same) = absurd (none_some file name is too)
-  one_piped a b (piped_by name is ps are others other same) (unpiped too other_too) = absurd (none_some file name too is)
-  one_piped a b (piped_by name is ps are others other same) (piped_by name_too too qs are_too others_too other_too same_too) =
-      let both : qs ≡ ps = one piped piped limits (contents world.files name) qs ps (same_name name name_too is too (λ n. ArePipelines piped limits (contents world.files n) qs) are_too) are in
-      let rest : others ≡ others_too = one_by (by_priority ps) world others others_too other (subst (λ (l : List Pipeline). by (by_priority l) world others_too) both other_too) in
-      same ∙ (ap (λ (n : List ℕ). file_part n no_share ∷ others) (some_is file name name_too is too)
-      ∙ (ap (λ (l : List Part). file_part name_too no_share ∷ l) rest ∙ sym same_too))
-  one_piped a b (piped_by name is ps are others other same) (not_piped name_too too causes are_too share reported same_too) =
-      absurd (never piped limits (contents world.files name) ps causes are (same_name name name_too is too (λ n. AreCauses piped limits (contents world.files n) causes) are_too))
-  one_piped a b (not_piped name is causes are share reported same) (unpiped too other_too) = absurd (none_some file name too is)
-  one_piped a b (not_piped name is causes are share reported same) (piped_by name_too too ps are_too others other same_too) =
-      absurd (never piped limits (contents world.files name) ps causes (same_name name name_too is too (λ n. ArePipelines piped limits (contents world.files n) ps) are_too) are)
-  one_piped a b (not_piped name is causes are share reported same) (not_piped name_too too causes_too are_too share_too reported_too same_too) =
-      let both : causes_too ≡ causes = causes_one piped limits (contents world.files name) causes_too causes
-      (same_name name name_too is too (λ n. AreCauses piped limits (contents world.files n) causes_too) are_too) are in
-      let shares : share ≡ share_too = one_share_of name causes share share_too reported
-      (subst (λ (c : List Refusal). AreReported name c share_too) both (same_name name name_too is too (λ n. AreReported n causes_too share_too) reported_too)) in
-      same ∙ (ap (λ (n : List ℕ). file_part n share ∷ []) (some_is file name name_too is too)
-      ∙ (ap (λ (s : Share). file_part name_too s ∷ []) shares ∙ sym same_too))
-
 -- one answer to a file that is run
 abbrev pub OneRan : Type 0
 OneRan = (limits : Limits) (unbuilt : Unbuilt) (file : List ℕ) (ps : List Pipeline) → OneUnder (RanUnder limits unbuilt file ps)
 
 module _ (one : pipelined.OnePipelines) (causes : pipelined.OneCauses) (never : pipelined.NeverBoth) where
-  pub one_answer : OfBoth OneFile → OneRan → OneQueried → OneAnswer
-  one_answer file ran queried limits places (Check rules) world a b first second =
+  pub one_answer : OfBoth OneFile → OneRan → OneQueried → sources.OneFile → sources.OneJudged → runs.OneFollowed → OneGenerated → OneAnswer
+  one_answer file ran queried source judge follow made limits places (Check rules) world a b first second =
       parts_one (RuleFileAt (CheckGives limits) limits) (one_part (CheckGives limits) limits (file limits).0) (paired [] places.documents rules) world a b first second
-  one_answer file ran queried limits places (Convert backend schema pipelines rules) world a b first second =
+  one_answer file ran queried source judge follow made limits places (Convert backend schema pipelines rules) world a b first second =
       one_schema (PipedRules (ConvertGives backend limits) limits places.pipelines places.documents pipelines rules)
       (λ given. one_piped one causes never (λ ps. RulesAt (ConvertGives backend limits) limits places.documents rules ps given)
       (λ ps. one_under file backend limits places.documents rules ps given) limits places.pipelines pipelines) limits schema world a b first second
-  one_answer file ran queried limits places (Run schema pipelines rule) world a b first second =
+  one_answer file ran queried source judge follow made limits places (Run schema pipelines rule) world a b first second =
       one_schema (PipedRun limits places.pipelines places.rule pipelines rule)
       (λ given. one_piped one causes never (λ ps. RanUnder limits places.rule rule ps given) (λ ps. ran limits places.rule rule ps given) limits places.pipelines pipelines) limits schema world a b first second
-  one_answer file ran queried limits places (Query backend schema query) world a b first second =
+  one_answer file ran queried source judge follow made limits places (Query backend schema query) world a b first second =
       one_schema (AskedAt backend limits query places.query) (queried backend limits query places.query) limits (Some schema) world a b first second
+  one_answer file ran queried source judge follow made limits places (Correlate schema pipelines rules) world a b first second =
+      one_schema (CorrelatedAt limits places.pipelines places.documents schema pipelines rules)
+      (one_correlate one causes never source judge follow limits places.pipelines places.documents schema pipelines rules) limits (Some schema) world a b first second
+  one_answer file ran queried source judge follow made limits places (Generate seed events) world a b first second = one_made made seed events a b first second
 
 -- ---- what queries mean
 

@@ -1,10 +1,19 @@
+pub mod Correlated
+pub mod Correlating
+pub mod Digits
 pub mod Documented
+pub mod Ended
 pub mod Filed
+pub mod FollowServed
 pub mod Fronts
+pub mod Histories
+pub mod Hits
 pub mod Judged
 pub mod Laws
 pub mod Lifted
+pub mod Made
 pub mod Named
+pub mod Once
 pub mod Piped
 pub mod Placed
 pub mod Queried
@@ -14,5 +23,6 @@ pub mod Running
 pub mod SameLines
 pub mod Schemed
 pub mod Selected
+pub mod Sourced
 pub mod Trees
 pub mod Wording

@@ -1,13 +1,14 @@
 -- The places of a request: what is answered under a schema for some places is the answer to the request for these.
-use Rattle.std.proofs.Common.{◌≡◌, ℕ, Bool, true, false, List, [], sym, ◌∙◌, subst, Option, Some, None, Result, Ok, Err}
+use Rattle.std.proofs.Common.{◌≡◌, ℕ, Bool, true, false, List, [], refl, sym, ◌∙◌, subst, ◌∷◌, Option, Some, None, Result, Ok, Err, inl, inr}
 use Rattle.answer_parts.proofs.Ending.{ends_as}
 use Rattle.answer_parts.specs.Input.{World, Needs}
-use Rattle.answer_parts.specs.Parts.{Part}
+use Rattle.answer_parts.specs.Parts.{Part, no_share}
 use Rattle.answer_parts.specs.Stands.{Ends}
 use Rattle.answer_parts.specs.State.{State}
 use Rattle.answer_parts.specs.declared.stop.Stop.{Stop}
 use Rattle.event_reading.specs.SchemaOf.{schema_of}
 use Rattle.event_schema.specs.declared.schema.Schema.{Schema}
+use Rattle.event_schema.specs.declared.schema.Time.{Time}
 use Rattle.pipeline_chain.specs.Priorities.{by_priority}
 use Rattle.pipeline_files.specs.Laws as files
 use Rattle.pipeline_files.specs.Outcomes.{ArePipelines, AreCauses}
@@ -21,17 +22,19 @@ use Rattle.sigma_app.proofs.Filed.{files_placed}
 use Rattle.sigma_app.proofs.Piped.{piped_later}
 use Rattle.sigma_app.proofs.Placed.{files_later}
 use Rattle.sigma_app.proofs.Trees.{cut}
-use Rattle.sigma_app.specs.Answers.{Places, IsSchemed, AreChecked, AreRun, ArePlaces, Answers}
+use Rattle.sigma_app.specs.Answers.{Places, IsSchemed, IsTimed, IsUntimed, AreChecked, AreRun, ArePlaces, Answers}
 use Rattle.sigma_app.specs.Check.{CheckGives}
 use Rattle.sigma_app.specs.Convert.{ConvertGives}
 use Rattle.sigma_app.specs.Converted.{RulesAt, RulesBySome, PipedRules}
+use Rattle.sigma_app.specs.Correlated.{CorrelatedUnder, Timed, untimed, timed, PipedCorrelated, FilesCorrelated, TimedBySome, TimedBy}
+use Rattle.sigma_app.specs.Generate.{Generated}
 use Rattle.sigma_app.specs.Languages.{AskedBy, AreOfQuery}
 use Rattle.sigma_app.specs.Ran.{RanUnder, RanBySome, PipedRun}
 use Rattle.sigma_app.specs.RuleFiles.{FilesBySome, contents}
 use Rattle.sigma_app.specs.UnderPipelines.{UnderPipelines, unpiped, piped_by, not_piped, ArePiped, ByPipelines, PipedBuilder, PipedPlaces}
-use Rattle.sigma_app.specs.UnderSchema.{UnderSchema, without, under, refused, IsUnschemed, UnderBuilder}
+use Rattle.sigma_app.specs.UnderSchema.{UnderSchema, without, under, refused, file_part, IsUnschemed, UnderBuilder}
 use Rattle.sigma_app.specs.declared.request.Request.{Request}
-use Rattle.sigma_app.specs.declared.request.Request.TheVariants.{Check, Convert, Run, Query}
+use Rattle.sigma_app.specs.declared.request.Request.TheVariants.{Check, Convert, Run, Query, Correlate, Generate}
 use Rattle.text_places.specs.Places.{CodeAt}
 
 -- ---- places of one kind
@@ -200,6 +203,78 @@ module _ (one : files.OnePipelines) (never : files.NeverBoth) (limits : Limits) 
         ends_as needs (UnderBuilder (PipedBuilder (RanBySome limits rule) limits pipelines) limits schema before after ended) (Answers limits before after ended (Run schema pipelines rule)) result old new
         (λ w ps u. run_places rule w ps u.still u.answer) e
 
+-- ---- rule files that are correlated, under a schema
+
+no_time : (o : Option Time) (t : Time) → o ≡ Some t → o ≡ None → ⊥
+no_time o t some none = apart (sym some ∙ none)
+  where
+    apart : Some t ≡ None → ⊥
+    apart same = cc
+
+module _ (one : files.OnePipelines) (never : files.NeverBoth) (limits : Limits) (before after : List (List ℕ)) (ended : Bool) (schema : List ℕ) (pipelines : Option (List ℕ)) (rules : List (List ℕ)) where
+  abbrev Correlated : ByPipelines
+  Correlated = FilesCorrelated limits rules
+
+  module _ (world : World) where
+    correlated_places : (given : Schema) (parts : List Part) → PipedBuilder Correlated limits pipelines before after ended (Some given) world parts
+        → (piped : List Unbuilt) × (documents : List (List Unbuilt))
+        × PipedPlaces (AreChecked limits ended rules world (in_documents piped documents)) limits pipelines before after ended world piped
+        × PipedCorrelated limits piped documents pipelines rules given world parts
+    correlated_places given parts b =
+        let all = piped_places one never limits pipelines before after ended (Some given) world [] Correlated
+        (λ documents ps. CorrelatedUnder limits given documents rules ps) (λ documents. AreChecked limits ended rules world (in_documents [] documents))
+        (λ ps middle parts_too some. (some.unbuilt, (some.follows, some.are), some.correlated)) parts b in
+        (all.0, all.1, record { middle = all.2.middle; follows = all.2.follows; are = all.2.are; behind = all.2.behind; still = all.2.still }, all.3)
+
+    module _ (file : List ℕ) (is : Some schema ≡ Some file) where
+      -- what the schema's file is, said by its other name
+      named_so : (r : Result Schema ℕ) → schema_of limits (contents world.files schema) ≡ r → schema_of limits (contents world.files file) ≡ r
+      named_so r so = subst (λ (n : List ℕ). schema_of limits (contents world.files n) ≡ r) (sym (some_is schema file is)) so
+
+      module _ (given : Schema) (so : schema_of limits (contents world.files file) ≡ Ok given) where
+        never_timed : given.time ≡ None → IsTimed limits schema world → ⊥
+        never_timed none (other, so_too, time, has) =
+            no_time given.time time (subst (λ (g : Schema). g.time ≡ Some time) (ok_is (schema_of limits (contents world.files file)) other given (named_so (Ok other) so_too) so) has) none
+
+        never_untimed : (time : Time) → given.time ≡ Some time → IsUntimed limits schema world → ⊥
+        never_untimed time has (inl (code, refused_so)) = not_both (schema_of limits (contents world.files file)) given code so (named_so (Err code) refused_so)
+        never_untimed time has (inr (other, so_too, none)) =
+            no_time given.time time has (subst (λ (g : Schema). g.time ≡ None) (ok_is (schema_of limits (contents world.files file)) other given (named_so (Ok other) so_too) so) none)
+
+        given_places : (parts others : List Part) → parts ≡ file_part file no_share ∷ others → TimedBySome (PipedBuilder Correlated limits pipelines) schema before after ended given world others
+            → Answers limits before after ended (Correlate schema pipelines rules) world parts
+        given_places parts others same some = by some.answer
+          where
+            by : Timed (λ (s : Schema). PipedBuilder Correlated limits pipelines before after ended (Some s)) schema given world others
+                → Answers limits before after ended (Correlate schema pipelines rules) world parts
+            by (untimed none note) = (nowhere, ((λ has. absurd (never_timed none has)), (λ _. some.still none)), under file is given so others (untimed none note) same)
+            by (timed time has answer) =
+                let placed = correlated_places given others answer in
+                (in_documents placed.0 placed.1, ((λ _. placed.2), (λ none. absurd (never_untimed time has none))), under file is given so others (timed time has placed.3) same)
+
+      never_given : (code : ℕ) → schema_of limits (contents world.files file) ≡ Err code → IsTimed limits schema world → ⊥
+      never_given code so (given, so_too, time, has) = not_both (schema_of limits (contents world.files file)) given code (named_so (Ok given) so_too) so
+
+    pub correlate_places : (parts : List Part) → (IsUnschemed limits (Some schema) world → after ≡ before)
+        → UnderSchema (TimedBy (PipedBuilder Correlated limits pipelines) schema before after ended) limits (Some schema) world parts → Answers limits before after ended (Correlate schema pipelines rules) world parts
+    correlate_places parts still (without is none) = absurd (none_some schema schema is)
+    correlate_places parts still (under file is given so others some same) = given_places file is given so parts others same some
+    correlate_places parts still (refused file is code so same) = (
+      nowhere,
+      (
+        (λ has. absurd (never_given file is code so has)),
+        (λ _. still (code, subst (λ (n : List ℕ). schema_of limits (contents world.files n) ≡ Err code) (some_is schema file is) so)),
+      ),
+      refused file is code so same,
+    )
+
+  pub correlate_answers : (needs : Needs) (result : Result Bool Stop) (old new : State)
+      → Ends needs (UnderBuilder (TimedBy (PipedBuilder Correlated limits pipelines) schema) limits (Some schema) before after ended) result old new
+      → Ends needs (Answers limits before after ended (Correlate schema pipelines rules)) result old new
+  correlate_answers needs result old new e =
+      ends_as needs (UnderBuilder (TimedBy (PipedBuilder Correlated limits pipelines) schema) limits (Some schema) before after ended) (Answers limits before after ended (Correlate schema pipelines rules)) result old new
+      (λ w ps u. correlate_places w ps u.still u.answer) e
+
 -- ---- the query that is asked, under a schema
 
 pub query_places : (backend : BackendName) (limits : Limits) (schema file : List ℕ) (before after : List (List ℕ)) (ended : Bool) (world : World) (parts : List Part)
@@ -230,6 +305,16 @@ pub query_answers : (backend : BackendName) (limits : Limits) (schema file : Lis
 query_answers backend limits schema file before after ended needs result old new e =
     ends_as needs (UnderBuilder (AskedBy backend limits file) limits (Some schema) before after ended) (Answers limits before after ended (Query backend schema file)) result old new
     (λ w ps u. query_places backend limits schema file before after ended w ps u.still u.answer) e
+
+-- ---- what is generated
+
+abbrev pub IsMadeLine : ℕ → ℕ → World → List Part → Type 0
+IsMadeLine seed events world parts = Generated seed events parts
+
+pub generate_answers : (limits : Limits) (seed events : ℕ) (texts : List (List ℕ)) (ended : Bool) (needs : Needs) (result : Result Bool Stop) (old new : State) → Ends needs (IsMadeLine seed events) result old new
+    → Ends needs (Answers limits texts texts ended (Generate seed events)) result old new
+generate_answers limits seed events texts ended needs result old new e =
+    ends_as needs (IsMadeLine seed events) (Answers limits texts texts ended (Generate seed events)) result old new (λ w ps is. (nowhere, refl, is)) e
 
 -- ---- an answer that came to its end is one that may have been cut off
 
@@ -273,3 +358,9 @@ places_cut limits before after ended (Run schema pipelines rule) world places ar
   are.1,
 )
 places_cut limits before after ended (Query backend schema query) world places are = ((λ given so. query_cut backend limits query before after ended given world places.query (are.0 given so)), are.1)
+places_cut limits before after ended (Correlate schema pipelines rules) world places are = (
+  (λ has. piped_cut limits pipelines before after ended world places.pipelines (AreChecked limits ended rules world places) (AreChecked limits false rules world places)
+      (checked_cut limits ended rules world places) (are.0 has)),
+  are.1,
+)
+places_cut limits before after ended (Generate seed events) world places are = are

@@ -6,11 +6,12 @@ use Rattle.std.specs.List.{flat_map}
 use Rattle.std.proofs.lemmas.Grind.{flat_map-append}
 use Rattle.std.proofs.lemmas.List.{length-map, map-append}
 use Rattle.answer_parts.specs.Input.{World}
+use Rattle.correlation_files.specs.Places.{AreOfDocument, AreOfFile}
 use Rattle.event_schema.specs.Lists.{EachOf}
 use Rattle.rule_building.specs.Unbuilt.{Unbuilt, none_unbuilt}
 use Rattle.rule_runs.proofs.Runs.{none_are, unbuilt_later}
 use Rattle.sig_base.specs.declared.limits.Limits.{Limits}
-use Rattle.sigma_app.specs.RuleFiles.{AreOfDocument, AreOfFile, AreOfFiles, contents}
+use Rattle.sigma_app.specs.RuleFiles.{AreOfFiles, contents}
 use Rattle.yaml_tree.specs.Tree.{Answer, tree, refusal}
 
 -- ---- lists of pairs

@@ -25,6 +25,8 @@ named_so commands.Check = refl
 named_so commands.Convert = refl
 named_so commands.Run = refl
 named_so commands.Query = refl
+named_so commands.Correlate = refl
+named_so commands.Generate = refl
 
 pub accepted_read : (words : List (List ℕ)) (request : Request) → IsAccepted words request → read words ≡ Some request
 accepted_read words request accepted =
@@ -59,8 +61,14 @@ one_of word first command others rest is = elim (choose (bytes_eq word (row_of f
   | inr h ↦ rest h.1
 ]
 
+abbrev named_generate : List ℕ → Option CommandName
+named_generate word = cond (bytes_eq word (row_of commands.Generate).name) (Some commands.Generate) None
+
+abbrev named_correlate : List ℕ → Option CommandName
+named_correlate word = cond (bytes_eq word (row_of commands.Correlate).name) (Some commands.Correlate) (named_generate word)
+
 abbrev named_query : List ℕ → Option CommandName
-named_query word = cond (bytes_eq word (row_of commands.Query).name) (Some commands.Query) None
+named_query word = cond (bytes_eq word (row_of commands.Query).name) (Some commands.Query) (named_correlate word)
 
 abbrev named_run : List ℕ → Option CommandName
 named_run word = cond (bytes_eq word (row_of commands.Run).name) (Some commands.Run) (named_query word)
@@ -72,7 +80,9 @@ name_of : (word : List ℕ) (command : CommandName) → command_named word ≡ S
 name_of word command is =
     one_of word commands.Check command (named_convert word)
     (one_of word commands.Convert command (named_run word)
-    (one_of word commands.Run command (named_query word) (one_of word commands.Query command None (λ none. absurd (none_some command none))))) is
+    (one_of word commands.Run command (named_query word)
+    (one_of word commands.Query command (named_correlate word)
+    (one_of word commands.Correlate command (named_generate word) (one_of word commands.Generate command None (λ none. absurd (none_some command none))))))) is
 
 -- the items that were read, and what they ask for
 asked_of : (command : CommandName) (others : List (List ℕ)) (request : Request) → asked command others ≡ Some request

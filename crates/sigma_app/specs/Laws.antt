@@ -3,18 +3,18 @@ use Rattle.std.specs.Prelude.{◌≡◌, ◌↔◌, ◌++◌, ℕ, false, List, 
 use Rattle.answer_parts.specs.EventLines.{EachLine}
 use Rattle.answer_parts.specs.Input.{World}
 use Rattle.answer_parts.specs.Parts.{Share, Part, NoneOfEvents}
+use Rattle.correlation_files.specs.Found.{Named}
 use Rattle.event_reading.specs.SchemaOf.{schema_of}
 use Rattle.event_schema.specs.Lists.{EachOf}
 use Rattle.event_schema.specs.Schemas.{IsSchema}
 use Rattle.event_schema.specs.declared.schema.Schema.{Schema}
+use Rattle.generation.specs.Lines.{IsGenerated}
 use Rattle.pipeline_chain.specs.Kept.{IsWholePipeline}
 use Rattle.pipeline_files.specs.Outcomes.{AreCauses}
 use Rattle.pipeline_model.specs.declared.pipeline.Pipeline.{Pipeline}
 use Rattle.rule_building.specs.Unbuilt.{Unbuilt}
 use Rattle.rule_model.specs.Plain.{PlainRule}
-use Rattle.rule_model.specs.Rules.{rule_refusal}
 use Rattle.rule_model.specs.Rules.{lone_refusal, IsLoneRule}
-use Rattle.rule_queries.specs.Verdicts.{IsChecked}
 use Rattle.rule_queries.specs.declared.backend_name.BackendName.{BackendName}
 use Rattle.rule_runs.specs.Runs.{IsNotRun}
 use Rattle.sig_base.specs.declared.limits.Limits.{Limits}
@@ -24,6 +24,7 @@ use Rattle.sigma_app.specs.Answers.{Places, AnswersAt, Answers}
 use Rattle.sigma_app.specs.Check.{CheckGives}
 use Rattle.sigma_app.specs.Convert.{ConvertGives, ConvertMeans}
 use Rattle.sigma_app.specs.Converted.{Converted, RulesAt}
+use Rattle.sigma_app.specs.Correlated.{CorrelatedBy}
 use Rattle.sigma_app.specs.Languages.{AskedBy, AskedAt}
 use Rattle.sigma_app.specs.Ran.{RunGives, RanUnder, PipedRun, Ran}
 use Rattle.sigma_app.specs.RuleFiles.{ByTree, ByUnbuilt, DocumentGives, FileGivesAt, contents}
@@ -61,9 +62,21 @@ abbrev pub EachQueried : Type 0
 EachQueried = (backend : BackendName) (limits : Limits) (file : List ℕ) (before after gained : List (List ℕ)) → after ≡ before ++ gained
     → EachUnder (AskedBy backend limits file before after false)
 
+-- said of what is answered once the files are read whose rules are correlated
+abbrev pub EachCorrelated : Type 0
+EachCorrelated = (limits : Limits) (schema : Schema) (rules : List PlainRule) (correlations : List Named) (world : World)
+    → (parts : List Part) × CorrelatedBy limits schema rules correlations world parts
+
 -- each request has an answer in each world, and one that is cut off before anything is built
 abbrev pub EachAnswer : Type 0
 EachAnswer = (limits : Limits) (refused : List (List ℕ)) (request : Request) (world : World) → (parts : List Part) × Answers limits refused refused false request world parts
+
+-- each number and number of events has a line, and one line only
+abbrev pub EachGenerated : Type 0
+EachGenerated = (seed events : ℕ) → (line : List ℕ) × IsGenerated seed events line
+
+abbrev pub OneGenerated : Type 0
+OneGenerated = (seed events : ℕ) (line other : List ℕ) → IsGenerated seed events line → IsGenerated seed events other → line ≡ other
 
 -- exactly where a file isn't run, its answer asks for no events
 abbrev pub AsksUnlessUnrun : Type 0
@@ -117,14 +130,7 @@ abbrev pub AnswersMean : Type 0
 AnswersMean = (backend : BackendName) (limits : Limits) (piped : List Unbuilt) (unbuilt : List (List Unbuilt)) (schema pipelines : Option (List ℕ)) (rules : List (List ℕ)) (world : World) (parts : List Part)
     → Converted (ConvertGives backend limits) limits piped unbuilt schema pipelines rules world parts → Converted (ConvertMeans backend limits) limits piped unbuilt schema pipelines rules world parts
 
--- a tree that isn't refused is a rule, and one rule only
-abbrev pub EachRule : Type 0
-EachRule = (unbuilt : Unbuilt) (limits : Limits) (t : Tree) → rule_refusal unbuilt.values limits t ≡ None → (rule : PlainRule) × IsChecked unbuilt limits t rule
-
-abbrev pub OneRule : Type 0
-OneRule = (u v : Unbuilt) (limits : Limits) (t : Tree) (a b : PlainRule) → IsChecked u limits t a → IsChecked v limits t b → a ≡ b
-
--- the same of a tree that is no correlation
+-- a tree that isn't refused is a rule, no correlation, and one rule only
 abbrev pub EachLone : Type 0
 EachLone = (unbuilt : List Place) (limits : Limits) (t : Tree) → lone_refusal unbuilt limits t ≡ None → (rule : PlainRule) × IsLoneRule unbuilt limits t rule
 

@@ -3,6 +3,9 @@ pub mod Check
 pub mod Codes
 pub mod Convert
 pub mod Converted
+pub mod Correlated
+pub mod Follow
+pub mod Generate
 pub mod Languages
 pub mod Laws
 pub mod Queried
@@ -11,6 +14,7 @@ pub mod Reports
 pub mod RuleFiles
 pub mod SameLines
 pub mod Served
+pub mod Sourced
 pub mod UnderPipelines
 pub mod UnderSchema
 pub mod Words

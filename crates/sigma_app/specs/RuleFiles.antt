@@ -4,13 +4,14 @@ use Rattle.std.specs.List.{flat_map}
 use Rattle.answer_parts.specs.Each.{AllShares, EachPart}
 use Rattle.answer_parts.specs.Input.{World, File}
 use Rattle.answer_parts.specs.Parts.{Share, Part}
+use Rattle.correlation_files.specs.Places.{AreOfDocument, AreOfFile}
 use Rattle.event_schema.specs.Lists.{EachOf}
 use Rattle.pipeline_chain.specs.Chained.{Makes}
 use Rattle.pipeline_files.specs.Paired.{paired}
 use Rattle.pipeline_files.specs.Places.{file_texts}
 use Rattle.pipeline_model.specs.declared.pipeline.Pipeline.{Pipeline}
 use Rattle.rule_building.specs.ForUnbuilt.{ForUnbuilt}
-use Rattle.rule_building.specs.Unbuilt.{Unbuilt, none_unbuilt, AreUnbuilt}
+use Rattle.rule_building.specs.Unbuilt.{Unbuilt, none_unbuilt}
 use Rattle.sig_base.specs.Files.{file_at}
 use Rattle.sig_base.specs.declared.limits.Limits.{Limits}
 use Rattle.rule_runs.specs.Files.{yaml_refusal}
@@ -54,17 +55,6 @@ pub record RuleFileAt (by : ByUnbuilt) (limits : Limits) (file : List Unbuilt ×
   pub share : FileGivesAt by limits file.0 file.1 (contents world.files file.1) part.share
 
 -- ---- what the places are
-
--- of a document that is a tree, and of the rule that these pipelines make of it; of one that YAML refuses there are none
-abbrev pub AreOfDocument : Limits → List Pipeline → Bool → Unbuilt × Answer → Type 0
-AreOfDocument limits ps ended (unbuilt, tree t) = AreUnbuilt (Makes limits ps) limits t ended unbuilt
-AreOfDocument limits ps ended (unbuilt, refusal p) = unbuilt ≡ none_unbuilt
-
--- of each document of a file; there are no more, and none where the file is refused as one
-pub record AreOfFile (limits : Limits) (ps : List Pipeline) (bytes : List ℕ) (ended : Bool) (unbuilt : List Unbuilt) : Type 0 where
-  pub each : (documents : List Answer) → IsTaken limits.file_bytes limits.documents limits.yaml_depth bytes documents
-      → EachOf (AreOfDocument limits ps ended) (paired none_unbuilt unbuilt documents) × (length unbuilt ≤ length documents)
-  pub whole : (p : ℕ × At) → IsCallRefusal limits.file_bytes limits.documents bytes p → unbuilt ≡ []
 
 -- of each of these files; there are no more
 abbrev pub AreOfFiles : Limits → List Pipeline → Bool → World → List (List Unbuilt) → List (List ℕ) → Type 0

@@ -1,15 +1,16 @@
 -- The words that the program accepts, and the request that they are.
-use Rattle.std.specs.Prelude.{◌≡◌, ℕ, ◌^◌, ◌<◌, nat_lt, if◌then◌else◌, List, [], ◌∷◌, length, map, codes, Option, Some, None, option_map, option_and_then, encode_utf8_all}
+use Rattle.std.specs.Prelude.{◌≡◌, ℕ, ◌+◌, ◌-◌, ◌*◌, ◌^◌, ◌<◌, Bool, false, ◌&&◌, ◌||◌, nat_le, nat_lt, if◌then◌else◌, List, [], ◌∷◌, length, map, codes, Option, Some, None, option_map, option_and_then, encode_utf8_all}
+use Rattle.std.specs.List.{list_all}
 use Rattle.std.specs.Str.{bytes_eq, chars}
 use Rattle.command_words.specs.Computed.{given}
 use Rattle.command_words.specs.Given.{Item, value_of, names_of}
-use Rattle.command_words.specs.Table.{row_of, backend, schema, pipeline, IsGiven}
+use Rattle.command_words.specs.Table.{row_of, backend, schema, pipeline, seed, events, IsGiven}
 use Rattle.command_words.specs.declared.command_name.CommandName.{CommandName}
 use Rattle.command_words.specs.declared.command_name.CommandName.TheVariants as commands
 use Rattle.rule_queries.specs.declared.backend_name.BackendName.{BackendName}
 use Rattle.rule_queries.specs.declared.backend_name.BackendName.TheVariants.{Sqlite, Lucene}
 use Rattle.sigma_app.specs.declared.request.Request.{Request}
-use Rattle.sigma_app.specs.declared.request.Request.TheVariants.{Check, Convert, Run, Query}
+use Rattle.sigma_app.specs.declared.request.Request.TheVariants.{Check, Convert, Run, Query, Correlate, Generate}
 
 -- the words in UTF-8
 abbrev pub in_utf8 : List (List ℕ) → List (List ℕ)
@@ -49,6 +50,39 @@ only [] = None
 only (name ∷ []) = Some name
 only (name ∷ other ∷ others) = None
 
+-- ---- numbers
+
+abbrev pub is_digit : ℕ → Bool
+is_digit c = nat_le 48 c && nat_le c 57
+
+-- a digit 1 to 9, and any digits
+abbrev pub is_positive : List ℕ → Bool
+is_positive [] = false
+is_positive (c ∷ cs) = nat_le 49 c && nat_le c 57 && list_all is_digit cs
+
+-- a canonical decimal without a sign: 0, or a digit 1 to 9 and any digits
+abbrev pub is_canonical : List ℕ → Bool
+is_canonical word = bytes_eq word (codes "0") || is_positive word
+
+-- the number that digits make, behind those that make n
+abbrev pub digits_from : ℕ → List ℕ → ℕ
+digits_from n [] = n
+digits_from n (c ∷ cs) = digits_from (n * 10 + (c - 48)) cs
+
+-- the number from 0 to the last one of which the word is the canonical decimal
+abbrev pub number_to : ℕ → List ℕ → Option ℕ
+number_to last word = if is_canonical word && nat_le (digits_from 0 word) last then Some (digits_from 0 word) else None
+
+-- the number that the generator begins with, if the items name one: one of 32 bits
+abbrev pub seed_in : List Item → Option ℕ
+seed_in items = option_and_then (number_to 4294967295) (value_of seed items)
+
+-- how many events it makes, if they tell it: 100,000 at most
+abbrev pub count_in : List Item → Option ℕ
+count_in items = option_and_then (number_to 100000) (value_of events items)
+
+-- ---- requests
+
 -- what a command with these items asks for
 abbrev pub request_with : CommandName → List Item → Option Request
 request_with commands.Check items = Some (Check (files_of items))
@@ -58,6 +92,8 @@ request_with commands.Run items = option_map (Run (schema_in items) (pipelines_i
 request_with commands.Query items =
     option_and_then (λ name. option_and_then (λ under. option_map (Query name under) (only (files_of items))) (schema_in items))
     (option_and_then backend_named (value_of backend items))
+request_with commands.Correlate items = option_map (λ under. Correlate under (pipelines_in items) (files_of items)) (schema_in items)
+request_with commands.Generate items = option_and_then (λ start. option_map (Generate start) (count_in items)) (seed_in items)
 
 -- The first word is a command's name, and those behind it give items that ask for the request. There are fewer than 2^20 words.
 pub record IsAccepted (words : List (List ℕ)) (request : Request) : Type 0 where
@@ -90,6 +126,8 @@ command_named word =
     else if bytes_eq word (row_of commands.Convert).name then Some commands.Convert
     else if bytes_eq word (row_of commands.Run).name then Some commands.Run
     else if bytes_eq word (row_of commands.Query).name then Some commands.Query
+    else if bytes_eq word (row_of commands.Correlate).name then Some commands.Correlate
+    else if bytes_eq word (row_of commands.Generate).name then Some commands.Generate
     else None
 
 abbrev pub request_of : List (List ℕ) → Option Request

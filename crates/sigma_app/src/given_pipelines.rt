@@ -127,7 +127,7 @@ fn answer_read<T: PipelineCommand, W: Outside, B: Builder>(
 }
 
 /// Writes a diagnostic about each refusal, in their order, and tells whether there was one.
-fn put_refusals<W: Outside>(
+pub(crate) fn put_refusals<W: Outside>(
     alloc: Global,
     name: &Text,
     causes: &[Refusal],

@@ -1,7 +1,7 @@
 //! That words are one request at most, that each request has exactly one answer, and that each rule's query means the rule.
 
 ghost use Rattle.std.specs.Prelude.{◌≡◌, ◌↔◌, List, ℕ, Some};
-ghost use Rattle.sigma_app.specs.Laws.{AsksUnlessUnrun, AsksNoneUnschemed, AsksNoneUnpiped, EachDocument, EachFile, EachConverted, EachQueried, EachRan, EachSelected, EachAnswer, OneDocument, OneFile, OneAnswer, OfBoth, QueriesMean, AnswersMean};
+ghost use Rattle.sigma_app.specs.Laws.{AsksUnlessUnrun, AsksNoneUnschemed, AsksNoneUnpiped, EachDocument, EachFile, EachConverted, EachCorrelated, EachQueried, EachRan, EachSelected, EachAnswer, OneDocument, OneFile, OneAnswer, OfBoth, QueriesMean, AnswersMean};
 ghost use Rattle.sigma_app.specs.Words.{IsAccepted, read};
 ghost use Rattle.sigma_app.specs.declared.request.Request.{Request};
 
@@ -14,7 +14,8 @@ pub fn words_are_read()
     ensures { (words : List (List ℕ)) (request : Request) → IsAccepted words request ↔ (read words ≡ Some request) }
 {}
 
-/// Each document of a rule file has an answer, and so has each file, each file that is run, each line of events, and each request.
+/// Each document of a rule file has an answer, and so has each file, each file that is run, each line of events, what follows rule files
+/// whose rules are correlated, and each request.
 pub fn each_answer()
     ensures document { OfBoth EachDocument }
     ensures file { OfBoth EachFile }
@@ -22,9 +23,9 @@ pub fn each_answer()
     ensures ran { EachRan }
     ensures queried { EachQueried }
     ensures selected { EachSelected }
+    ensures correlated { EachCorrelated }
     ensures request { EachAnswer }
 {
-    rule_queries::one_verdict();
     rule_model::lone_rules();
     rule_runs::one_run();
     detection_eval::matches_or_not();
@@ -34,6 +35,10 @@ pub fn each_answer()
     LuceneReader::law();
     yaml_documents::laws::verdicts();
     pipeline_files::one_outcome();
+    correlation_files::one_outcome();
+    correlation_files::one_binding();
+    correlation_runs::one_follower();
+    generation::generated_lines();
 }
 
 /// A document has at most one answer, and so each file and each request.
@@ -42,7 +47,6 @@ pub fn one_answer()
     ensures file { OfBoth OneFile }
     ensures request { OneAnswer }
 {
-    rule_queries::one_verdict();
     rule_model::lone_rules();
     rule_runs::one_run();
     query_runs::asked_once::<SqlReader>();
@@ -50,6 +54,10 @@ pub fn one_answer()
     yaml_documents::laws::verdicts();
     yaml_documents::laws::one_verdict();
     pipeline_files::one_outcome();
+    correlation_files::one_outcome();
+    correlation_files::one_binding();
+    correlation_runs::one_follower();
+    generation::generated_lines();
 }
 
 /// The answer to `run` asks for events exactly where neither the schema nor the pipelines are refused and the file is run.

@@ -82,7 +82,7 @@ fn shown(c: char) -> char
     if c < ' ' { '?' } else { c }
 }
 
-/// The line of a document that is a rule, with its line feed.
+/// The line of a document that is a rule or a correlation, with its line feed.
 pub(super) fn ok_text(alloc: Global, name: &Text, place: Place) -> Result<String, AllocError>
     ensures { IfOk result (λ line. string_bytes line ≡ ended (ok_line name.now place)) }
 {

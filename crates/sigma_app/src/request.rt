@@ -31,4 +31,16 @@ pub enum Request {
         schema: Text,
         query: Text,
     },
+    /// Write the reports that the correlations of files make of the events, read under the schema of a file: they name the rules of these files,
+    /// of which the pipelines of a file, if one is named, make those that are run.
+    Correlate {
+        schema: Text,
+        pipelines: Option<Text>,
+        rules: Texts,
+    },
+    /// Compare a rule with its queries over so many events, all of them made from a number.
+    Generate {
+        seed: u32,
+        events: u32,
+    },
 }

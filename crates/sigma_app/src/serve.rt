@@ -12,6 +12,8 @@ ghost use Rattle.sigma_app.specs.Words.{IsUnaccepted};
 
 use crate::commands::check::Check;
 use crate::commands::convert::answer_convert;
+use crate::commands::correlate::answer_correlate;
+use crate::commands::generate::answer_generate;
 use crate::commands::query::answer_query;
 use crate::commands::run::answer_run;
 use crate::files::answer_files;
@@ -182,5 +184,19 @@ fn answer_request<W: Outside, B: Builder>(
             schema,
             query,
         } => answer_query(alloc, *backend, limits, schema, query, outside, builder),
+        Request::Correlate {
+            schema,
+            pipelines,
+            rules,
+        } => answer_correlate(
+            alloc,
+            limits,
+            schema,
+            pipelines,
+            rules.as_slice(),
+            outside,
+            builder,
+        ),
+        Request::Generate { seed, events } => { answer_generate(alloc, *seed, *events, outside) }
     }
 }

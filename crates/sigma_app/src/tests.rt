@@ -1,8 +1,11 @@
 //! The program over shelves and sinks in memory.
 
+mod checking;
+mod correlating;
 mod cuts;
 mod expressions;
 mod faults;
+mod generating;
 mod modifiers;
 mod pipelines;
 mod query_faults;

@@ -8,6 +8,7 @@ ghost use Rattle.sigma_app.specs.Words.{IsAccepted, IsUnaccepted, files_of, only
 ghost use Rattle.sigma_app.specs.Words as accepted_words;
 ghost use Rattle.sigma_app.specs.declared.request.Request.TheVariants as requests;
 
+use crate::numbers::number_if_any;
 use crate::request::Request;
 use clap::ArgMatches;
 use command_words::{CommandName, items_are_read, read};
@@ -17,6 +18,9 @@ use std::alloc::{AllocError, Global};
 
 /// So many words, or more, aren't accepted.
 const TOO_MANY_WORDS: usize = 1 << 20;
+
+/// So many events can be generated, and no more.
+const MOST_EVENTS: u32 = 100_000;
 
 /// The command of this name.
 fn command_named(word: &Text) -> Option<CommandName>
@@ -33,6 +37,12 @@ fn command_named(word: &Text) -> Option<CommandName>
     }
     if word.is("query") {
         return Some(CommandName::Query);
+    }
+    if word.is("correlate") {
+        return Some(CommandName::Correlate);
+    }
+    if word.is("generate") {
+        return Some(CommandName::Generate);
     }
     None
 }
@@ -215,6 +225,40 @@ fn query_request(alloc: Global, found: &ArgMatches) -> Result<Option<Request>, A
     }
 }
 
+/// What `correlate` asks for.
+fn correlate_request(alloc: Global, found: &ArgMatches) -> Result<Option<Request>, AllocError>
+    ensures { (items : List Item) → HasItems found.now items → IfOk result (λ r. r ≡ request_with CommandName.Correlate items) }
+{
+    let named = match copy_if_any(alloc, found.get_str("schema")) {
+        Ok(named) => named,
+        Err(error) => return Err(error),
+    };
+    let Some(schema) = named else {
+        return Ok(None);
+    };
+    let pipelines = match copy_if_any(alloc, found.get_str("pipeline")) {
+        Ok(pipelines) => pipelines,
+        Err(error) => return Err(error),
+    };
+    match copies_if_any(alloc, found.get_raw("FILE")) {
+        Ok(rules) => Ok(Some(Request::Correlate {
+            schema,
+            pipelines,
+            rules,
+        })),
+        Err(error) => Err(error),
+    }
+}
+
+/// What `generate` asks for.
+fn generate_request(found: &ArgMatches) -> Option<Request>
+    ensures { (items : List Item) → HasItems found.now items → result ≡ request_with CommandName.Generate items }
+{
+    let seed = number_if_any(found.get_str("seed"), u32::MAX)?;
+    let events = number_if_any(found.get_str("events"), MOST_EVENTS)?;
+    Some(Request::Generate { seed, events })
+}
+
 /// What a command asks for, by what clap found in the words behind its name.
 fn request_with(
     alloc: Global,
@@ -228,6 +272,8 @@ fn request_with(
         CommandName::Convert => convert_request(alloc, found),
         CommandName::Run => run_request(alloc, found),
         CommandName::Query => query_request(alloc, found),
+        CommandName::Correlate => correlate_request(alloc, found),
+        CommandName::Generate => Ok(generate_request(found)),
     }
 }
 

@@ -1,4 +1,4 @@
-//! `check`: which documents are rules.
+//! `check`: which documents are rules or correlations.
 
 ghost use Rattle.std.specs.Prelude.{◌≡◌, [], ⊤, List};
 ghost use Rattle.answer_parts.specs.Stands.{Writes};
@@ -14,13 +14,13 @@ ghost use Rattle.yaml_tree.specs.View.{node_view};
 use crate::documents::{TreeCommand, put_refusal};
 use crate::report::ok_text;
 use answer_parts::{Outside, Stop, put_text};
+use correlation_files::check_document;
 use languages::Builder;
-use rule_queries::check_node;
 use sig_base::{Fault, Limits, Text};
 use std::alloc::Global;
 use yaml_tree::Node;
 
-/// Tells the place of each rule.
+/// Tells the place of each rule and of each correlation.
 #[derive(Drop)]
 pub(crate) struct Check;
 
@@ -41,7 +41,7 @@ impl TreeCommand for Check {
         builder: &mut B,
     ) -> Result<bool, Stop> {
         self.each_tree();
-        match check_node(alloc, limits, node, builder) {
+        match check_document(alloc, limits, node, builder) {
             Ok(place) => match ok_text(alloc, name, place) {
                 Ok(text) => put_text(text.as_bytes(), outside),
                 Err(_) => Err(Stop::Memory),
@@ -51,7 +51,5 @@ impl TreeCommand for Check {
         }
     }
 
-    fn each_tree(&self) {
-        rule_queries::one_verdict();
-    }
+    fn each_tree(&self) {}
 }

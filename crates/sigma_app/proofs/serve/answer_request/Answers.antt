@@ -1,4 +1,4 @@
-use Rattle.sigma_app.proofs.Lifted.{check_answers, convert_answers, run_answers, query_answers}
+use Rattle.sigma_app.proofs.Lifted.{check_answers, convert_answers, run_answers, query_answers, correlate_answers, generate_answers}
 use Rattle.sigma_app.specs.UnderSchema.{is_ended}
 use Rattle.sigma_app.proofs.serve.answer_request.Goals as goal
 
@@ -23,3 +23,14 @@ pub returns-in-Query : goal.returns-in-Query
 returns-in-Query g c =
     rw c.in-Query.is (query_answers c.in-Query.backend c.args.limits.now c.in-Query.schema c.in-Query.query (g.B.Builder.refused c.args.builder.now) (g.B.Builder.refused c.answer_query.new.builder)
     (is_ended c.answer_query.result) _ c.answer_query.result (g.W.Outside.state c.args.outside.now) (g.W.Outside.state c.answer_query.new.outside) c.answer_query.ensures)
+
+pub returns-in-Correlate : goal.returns-in-Correlate
+returns-in-Correlate g c =
+    let e = rw c.as_slice-in-Correlate.ensures at c.answer_correlate.ensures in
+    rw c.in-Correlate.is (correlate_answers c.one_outcome.ensures.pipelines c.one_outcome.ensures.never_both c.args.limits.now (g.B.Builder.refused c.args.builder.now) (g.B.Builder.refused c.answer_correlate.new.builder) (is_ended c.answer_correlate.result) _ _ _ _
+    c.answer_correlate.result (g.W.Outside.state c.args.outside.now) (g.W.Outside.state c.answer_correlate.new.outside) e)
+
+pub returns-in-Generate : goal.returns-in-Generate
+returns-in-Generate g c =
+    rw c.in-Generate.is (generate_answers c.args.limits.now c.in-Generate.seed c.in-Generate.events (g.B.Builder.refused c.args.builder.now) (is_ended c.answer_generate.result) _ c.answer_generate.result
+    (g.W.Outside.state c.args.outside.now) (g.W.Outside.state c.answer_generate.new.outside) c.answer_generate.ensures)
