@@ -1,13 +1,7 @@
-//! `correlate`, and events that are followed by an engine that is lent.
+//! `correlate`.
 
-use crate::following::follow;
-use crate::status::Status;
 use crate::tests::{check, front, run_over, still};
-use correlation_engine::Engine;
-use correlation_files::{Bindings, Found, read_rules};
-use event_reading::read_schema;
-use languages::CrateBuilder;
-use sig_base::{Bytes, Limits, MemorySink, MemorySource, Text};
+use sig_base::Limits;
 use std::test::Fail;
 
 const CORRELATE: [&str; 4] = ["correlate", "--schema", "s.json", "c.yml"];
@@ -329,53 +323,5 @@ fn refuses_expressions(rt: HostRuntime) -> Result<(), Fail> {
             err,
         );
     }
-    Ok(())
-}
-
-/// The engine that is lent holds the four matches that the timespan reaches back from the last event that was taken.
-#[test]
-fn follows_events_by_an_engine(rt: HostRuntime) -> Result<(), Fail> {
-    let alloc = rt.alloc();
-    let limits = Limits::standard();
-    let mut builder = CrateBuilder::new(alloc, Vec::new(alloc));
-    let schema = read_schema(alloc, &limits, SCHEMA.as_bytes())?;
-    let name = Text::copy(alloc, "c.yml")?;
-    let mut found = Found::new(alloc);
-    let refusals = read_rules(
-        alloc,
-        &limits,
-        &[],
-        &schema,
-        &name,
-        BOTH.as_bytes(),
-        &mut found,
-        &mut builder,
-    )?;
-    assert!(rt; refusals.as_slice().is_empty());
-    let Bindings { bounds, names, .. } = found.bind(alloc, &schema)?;
-    let mut engine = Engine::make(alloc, bounds)?;
-    let mut events = MemorySource::new(
-        Bytes::copy(alloc, EVENTS.as_bytes())?,
-        4096,
-        Vec::new(alloc),
-    );
-    let mut out = MemorySink::new(alloc, 4096, 4096, Vec::new(alloc))?;
-    let mut err = MemorySink::new(alloc, 4096, 4096, Vec::new(alloc))?;
-    let status = follow(
-        alloc,
-        &limits,
-        &schema,
-        found.rules.as_slice(),
-        found.ready.as_slice(),
-        names.as_slice(),
-        &mut engine,
-        &mut events,
-        &mut out,
-        &mut err,
-    );
-    assert_eq!(rt; status, Status::Found);
-    assert_eq!(rt; engine.held(), 4);
-    assert_eq!(rt; out.taken(), REPORTS.as_bytes());
-    assert_eq!(rt; err.taken(), EARLY.as_bytes());
     Ok(())
 }
