@@ -116,7 +116,7 @@ def worked_out(rules, correlations, places, events):
             err.append(f"events:{line}: 29 NoMoment")
             continue
         if last is not None and event["t"] < last:
-            err.append(f"events:{line}: 145 OutOfOrder {event['t']}000000000 {last}000000000")
+            err.append(f"events:{line}: 145 OutOfOrder {event['t'] * 10 ** 9} {last * 10 ** 9}")
             continue
         last = event["t"]
         for number, (c, rule_numbers, groups) in enumerate(bounds):
