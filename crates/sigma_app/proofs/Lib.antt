@@ -21,6 +21,7 @@ pub mod Ran
 pub mod ReportLines
 pub mod Running
 pub mod SameLines
+pub mod SamePiped
 pub mod Schemed
 pub mod Selected
 pub mod Sourced
