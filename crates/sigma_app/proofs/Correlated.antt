@@ -1,8 +1,8 @@
 -- What correlating the rules of files leaves, and that there is exactly one answer.
-use Rattle.std.proofs.Common.{◌≡◌, ℕ, ◌≤◌, Bool, true, false, List, [], ◌∷◌, ◌++◌, length, map, refl, ap, sym, ◌∙◌, subst, arith, append-nil, Option, Some, None, Result, Ok, Err}
+use Rattle.std.proofs.Common.{◌≡◌, ℕ, ◌≤◌, Bool, true, false, List, [], ◌∷◌, ◌++◌, length, map, refl, ap, sym, ◌∙◌, subst, arith, Option, Some, None, Result, Ok, Err}
 use Rattle.std.specs.Prelude.{⊤, ◌||◌, Contains}
 use Rattle.answer_parts.proofs.Behind.{ends_behind}
-use Rattle.answer_parts.proofs.Ending.{Kind, Then, ends_as, ends_both, ends_later, ends_nothing, ends_written, files_of}
+use Rattle.answer_parts.proofs.Ending.{Kind, Then, ends_as, ends_both, ends_later, ends_nothing, ends_written}
 use Rattle.answer_parts.proofs.Rows.{all_one, parts_one}
 use Rattle.answer_parts.specs.Each.{EachPart}
 use Rattle.answer_parts.specs.Input.{Input, World, Needs}
@@ -10,7 +10,7 @@ use Rattle.answer_parts.specs.Parts.{Share, Part}
 use Rattle.answer_parts.specs.Stands.{Writes, Ends}
 use Rattle.answer_parts.specs.State.{State}
 use Rattle.answer_parts.specs.declared.stop.Stop.{Stop}
-use Rattle.correlation_files.specs.Found.{StandsFor, Named}
+use Rattle.correlation_files.specs.Found.{StandsFor}
 use Rattle.correlation_files.specs.Laws as files
 use Rattle.correlation_files.specs.Outcomes.{Outcome, AreOutcomes, refusals_in}
 use Rattle.correlation_files.specs.Places.{AreOfFile}
@@ -23,7 +23,6 @@ use Rattle.pipeline_files.specs.Laws as pipelined
 use Rattle.pipeline_files.specs.Paired.{paired}
 use Rattle.pipeline_model.specs.declared.pipeline.Pipeline.{Pipeline}
 use Rattle.rule_building.specs.Unbuilt.{Unbuilt}
-use Rattle.rule_model.specs.Plain.{PlainRule}
 use Rattle.rule_runs.specs.Files.{file_start}
 use Rattle.sig_base.specs.Judged.{refusal}
 use Rattle.sig_base.specs.declared.limits.Limits.{Limits}
@@ -31,16 +30,14 @@ use Rattle.sig_base.specs.declared.refusal.Refusal.{Refusal}
 use Rattle.sigma_app.proofs.Correlating.{events_alone, one_correlated, same_found}
 use Rattle.sigma_app.proofs.Ended.{ends_longer}
 use Rattle.sigma_app.proofs.Once.{one_piped}
-use Rattle.sigma_app.proofs.Piped.{each_piped}
 use Rattle.sigma_app.proofs.Placed.{paired_of, no_more, firsts, seconds, files_later}
 use Rattle.sigma_app.proofs.Sourced.{Sources, sources_aside, sources_left}
 use Rattle.sigma_app.proofs.Trees.{cut}
 use Rattle.sigma_app.specs.Correlated.{SourceFile, SourcePart, rules_of, correlations_of, note_part, CorrelatedBy, CorrelatedUnder, Timed, untimed, timed, PipedCorrelated, CorrelatedAt, CorrelatedBySome, FilesCorrelated, TimedBySome, TimedBy}
 use Rattle.sigma_app.specs.Laws.{EachCorrelated, EachUnder, OneUnder}
 use Rattle.sigma_app.specs.Reports.{refusal_share}
-use Rattle.sigma_app.specs.RuleFiles.{AreOfFiles, contents}
+use Rattle.sigma_app.specs.RuleFiles.{contents}
 use Rattle.sigma_app.specs.Sourced.{GrowsBy, IsFound}
-use Rattle.sigma_app.specs.UnderPipelines.{PipedBuilder}
 use Rattle.sigma_app.specs.UnderSchema.{ByBuilder}
 
 -- ---- the places of files beside their names

@@ -1,9 +1,8 @@
 -- What correlating the rules of files leaves, once they are read.
-use Rattle.std.proofs.Common.{◌≡◌, ℕ, suc, ◌<◌, ◌≤◌, Bool, true, false, List, [], ◌∷◌, ◌++◌, length, map, refl, ap, sym, ◌∙◌, subst, arith, Option, Some, None, Result, Ok, Err}
-use Rattle.std.specs.Prelude.{◌||◌, Contains}
+use Rattle.std.proofs.Common.{◌≡◌, ℕ, Bool, true, List, [], ◌∷◌, ◌++◌, map, refl, ap, sym, ◌∙◌, subst, Some, None, Result, Ok, Err}
+use Rattle.std.specs.Prelude.{◌||◌}
 use Rattle.std.specs.List.{AllZip}
-use Rattle.answer_parts.proofs.Behind.{ends_behind}
-use Rattle.answer_parts.proofs.Ending.{Kind, Then, EventsAside, EachHas, ends_as, ends_both, ends_later, ends_less, ends_memory, ends_written, files_of}
+use Rattle.answer_parts.proofs.Ending.{Kind, Then, EachHas, ends_as, ends_both, ends_later, ends_less, ends_memory, ends_written, files_of}
 use Rattle.answer_parts.proofs.Rows.{all_one, each_all, shares_of}
 use Rattle.answer_parts.specs.FollowedLines.{FollowedLines}
 use Rattle.answer_parts.specs.Input.{World, Needs}

@@ -1,5 +1,5 @@
 -- An answer that was cut off, of which more would have been told.
-use Rattle.std.proofs.Common.{◌≡◌, Bool, false, true, List, ◌++◌, ap, sym, subst, append_assoc, refl, ◌∙◌, Option, None, Some, Result, Ok, Err}
+use Rattle.std.proofs.Common.{◌≡◌, false, true, List, ◌++◌, ap, sym, subst, append_assoc, refl, ◌∙◌, Option, None, Some, Err}
 use Rattle.answer_parts.proofs.Ending.{Kind, files_of}
 use Rattle.answer_parts.proofs.Shares.{cut_longer, share_append}
 use Rattle.answer_parts.specs.Cut.{Cut}

@@ -1,9 +1,9 @@
 -- What a call that follows events leaves, from how following them ended.
-use Rattle.std.proofs.Common.{◌≡◌, ℕ, ◌<◌, ◌+◌, Bool, true, false, List, [], refl, ap, sym, ◌∙◌, subst, arith, Option, None, Some, Result, Ok, Err}
-use Rattle.std.specs.Prelude.{Contains, OnOk}
+use Rattle.std.proofs.Common.{◌≡◌, ℕ, Bool, true, false, List, [], refl, ap, ◌∙◌, subst, arith, Option, None, Some, Ok, Err}
+use Rattle.std.specs.Prelude.{Contains}
 use Rattle.answer_parts.specs.FollowedLines.{FollowedLines}
 use Rattle.answer_parts.specs.Input.{Input, File, Events, World, Needs, IsTold}
-use Rattle.answer_parts.specs.Parts.{Share, Part, share_of, Gains}
+use Rattle.answer_parts.specs.Parts.{Part, share_of, Gains}
 use Rattle.answer_parts.specs.Stands.{Cause, Stands, Ends}
 use Rattle.answer_parts.specs.State.{State as OutsideState, SomeWriteFailed}
 use Rattle.answer_parts.specs.declared.stop.Stop.TheVariants as stop
@@ -14,7 +14,7 @@ use Rattle.correlation_windows.specs.Kept.{State, StandsFor}
 use Rattle.sig_base.specs.Causes.{Rose}
 use Rattle.sig_base.specs.declared.limits.Limits.{Limits}
 use Rattle.sigma_app.proofs.Histories.{one_followed}
-use Rattle.sigma_app.specs.Follow.{world_of, FollowedFrom, Followed, FollowedUnread, FollowedCut, MayBeUnreadEvents, FollowServes}
+use Rattle.sigma_app.specs.Follow.{world_of, FollowedFrom, FollowedCut, MayBeUnreadEvents, FollowServes}
 use Rattle.sigma_app.specs.Served.{IsCutOff, status_of}
 use Rattle.sigma_app.specs.declared.status.Status.{Status}
 use Rattle.sigma_app.specs.declared.status.Status.TheVariants.{Usage, ReadFault, WriteFault, Memory}

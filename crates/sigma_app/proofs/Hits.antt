@@ -1,5 +1,5 @@
 -- That the entries of a rule's head that decide nothing decide nothing of what is followed.
-use Rattle.std.proofs.Common.{◌≡◌, ℕ, ℤ, Bool, List, [], ◌∷◌, map, refl, sym, subst, Option, None, Some, Result, Ok, Err}
+use Rattle.std.proofs.Common.{ℕ, ℤ, Bool, List, [], ◌∷◌, map, sym, subst, Option, None, Some, Result, Ok, Err}
 use Rattle.std.specs.Prelude.{◌↔◌, IsTrue}
 use Rattle.std.specs.List.{AllZip}
 use Rattle.answer_parts.specs.FollowedLines.{FollowsWithin}

@@ -1,11 +1,11 @@
 -- The laws of the answers.
-use Rattle.std.proofs.Common.{◌≡◌, ℕ, false, List, [], ◌∷◌, refl, ap, sym, ◌∙◌, subst, append-nil, Option, None, Some, Result, Ok, Err}
+use Rattle.std.proofs.Common.{◌≡◌, ℕ, false, List, [], ◌∷◌, refl, ap, sym, ◌∙◌, append-nil, Option, None, Some, Ok}
 use Rattle.std.specs.Prelude.{IfSome}
 use Rattle.std.specs.List.{AllByRecursion}
-use Rattle.answer_parts.proofs.Rows.{all_one, each_parts, parts_one}
+use Rattle.answer_parts.proofs.Rows.{each_parts, parts_one}
 use Rattle.answer_parts.specs.Each.{EachShare, EachPart}
 use Rattle.answer_parts.specs.Input.{World}
-use Rattle.answer_parts.specs.Parts.{Share, Part, no_share}
+use Rattle.answer_parts.specs.Parts.{Share, Part}
 use Rattle.correlation_files.specs.Laws as sources
 use Rattle.correlation_runs.specs.Laws as runs
 use Rattle.event_reading.specs.SchemaOf.{schema_of}
@@ -15,17 +15,13 @@ use Rattle.event_schema.specs.declared.schema.Schema.{Schema}
 use Rattle.pipeline_chain.specs.Kept.{IsWholePipeline}
 use Rattle.pipeline_chain.specs.Priorities.{by_priority}
 use Rattle.pipeline_files.specs.Laws as pipelined
-use Rattle.pipeline_files.specs.Outcomes.{ArePipelines, AreCauses}
 use Rattle.pipeline_files.specs.Paired.{paired}
 use Rattle.pipeline_model.specs.declared.pipeline.Pipeline.{Pipeline}
 use Rattle.rule_building.specs.Unbuilt.{Unbuilt, none_unbuilt}
 use Rattle.rule_model.specs.Plain.{PlainRule}
 use Rattle.rule_queries.specs.NamedQueries.{query_of, Converts, IsConverted}
 use Rattle.rule_queries.specs.declared.backend_name.BackendName.{BackendName}
-use Rattle.rule_runs.specs.Files.{file_start}
-use Rattle.sig_base.specs.Judged.{refusal as refused_at}
 use Rattle.sig_base.specs.declared.limits.Limits.{Limits}
-use Rattle.sig_base.specs.declared.refusal.Refusal.{Refusal}
 use Rattle.sigma_app.proofs.Documented.{each_document_at, each_file_at, one_document_at, one_file_at}
 use Rattle.sigma_app.proofs.Correlated.{each_files_cut, each_timed_cut, one_correlate}
 use Rattle.sigma_app.proofs.Filed.{each_part, files_left, files_placed, one_part, parts_as}
@@ -43,10 +39,10 @@ use Rattle.sigma_app.specs.Generate.{Generated}
 use Rattle.sigma_app.specs.Languages.{AskedBy, AskedAt}
 use Rattle.sigma_app.specs.Laws.{EachDocument, EachFile, EachUnder, EachAnswer, EachConverted, EachCorrelated, EachQueried, EachRan, OneDocument, OneFile, OneQueried, OneUnder, OneAnswer, OfBoth, EachGenerated, OneGenerated, EachLone, OneLone, QueriesMean}
 use Rattle.sigma_app.specs.Ran.{RanUnder, RanBySome, PipedRun}
-use Rattle.sigma_app.specs.Reports.{refusal_share, line_share}
+use Rattle.sigma_app.specs.Reports.{line_share}
 use Rattle.sigma_app.specs.RuleFiles.{DocumentGives, as_one_at, by_document_at, RuleFileAt, contents}
-use Rattle.sigma_app.specs.UnderPipelines.{AreReported, UnderPipelines, unpiped, piped_by, not_piped, PipedBuilder}
-use Rattle.sigma_app.specs.UnderSchema.{BySchema, UnderSchema, without, under, refused, file_part}
+use Rattle.sigma_app.specs.UnderPipelines.{unpiped, piped_by, not_piped, PipedBuilder}
+use Rattle.sigma_app.specs.UnderSchema.{without, under, refused}
 use Rattle.sigma_app.specs.declared.request.Request.TheVariants.{Check, Convert, Run, Query, Correlate, Generate}
 use Rattle.yaml_bounds.specs.Laws.{TextsAreScalars}
 use Rattle.yaml_documents.specs.Verdicts as yaml

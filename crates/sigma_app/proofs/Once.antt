@@ -1,5 +1,5 @@
 -- That there is one answer under the schema of a file, and under the pipelines of one.
-use Rattle.std.proofs.Common.{◌≡◌, ℕ, List, [], ◌∷◌, refl, ap, sym, ◌∙◌, subst, Option, None, Some, Result, Ok, Err}
+use Rattle.std.proofs.Common.{◌≡◌, ℕ, List, [], ◌∷◌, ap, sym, ◌∙◌, subst, Option, None, Some, Result, Ok, Err}
 use Rattle.answer_parts.proofs.Rows.{all_one}
 use Rattle.answer_parts.specs.Input.{World}
 use Rattle.answer_parts.specs.Parts.{Share, Part, no_share}

@@ -1,5 +1,5 @@
 -- What answering under the pipelines of a file leaves.
-use Rattle.std.proofs.Common.{◌≡◌, ℕ, suc, ◌+◌, ◌<◌, Bool, true, false, List, [], ◌∷◌, ◌++◌, length, take, refl, ap, sym, ◌∙◌, subst, cond, arith, append-nil, Option, None, Some, Result, Ok, Err, inl, inr}
+use Rattle.std.proofs.Common.{◌≡◌, ℕ, suc, ◌+◌, ◌<◌, Bool, true, false, List, [], ◌∷◌, ◌++◌, length, take, refl, ap, sym, subst, cond, arith, append-nil, Option, None, Some, Result, Err, inl, inr}
 use Rattle.std.specs.Prelude.{◌⊎◌, Contains, int_le}
 use Rattle.std.proofs.lemmas.Bool.{cases_lt}
 use Rattle.std.proofs.lemmas.List.{take_all, length-take-le}
@@ -16,12 +16,11 @@ use Rattle.answer_parts.specs.declared.stop.Stop.{Stop}
 use Rattle.answer_parts.specs.declared.stop.Stop.TheVariants.{Memory}
 use Rattle.event_schema.specs.Lists.{EachOf}
 use Rattle.event_schema.specs.declared.schema.Schema.{Schema}
-use Rattle.pipeline_chain.specs.Kept.{IsWholePipeline}
 use Rattle.pipeline_chain.specs.Priorities.{placed_among, by_priority}
 use Rattle.pipeline_files.specs.Laws as files
 use Rattle.pipeline_files.specs.Outcomes.{ArePipelines, AreCauses, as_one, by_document}
 use Rattle.pipeline_files.specs.Paired.{paired}
-use Rattle.pipeline_files.specs.Places.{AreOfDocument, AreOfTree, AreOfPipelines, ForPipelines, file_texts}
+use Rattle.pipeline_files.specs.Places.{AreOfDocument, AreOfPipelines, file_texts}
 use Rattle.pipeline_model.specs.declared.pipeline.Pipeline.{Pipeline}
 use Rattle.rule_building.specs.Unbuilt.{Unbuilt, none_unbuilt}
 use Rattle.sig_base.specs.Files.{IsFront}
@@ -33,7 +32,7 @@ use Rattle.sigma_app.specs.Answers.{names_with}
 use Rattle.sigma_app.specs.Laws.{EachUnder}
 use Rattle.sigma_app.specs.Reports.{refusal_share}
 use Rattle.sigma_app.specs.RuleFiles.{contents}
-use Rattle.sigma_app.specs.UnderPipelines.{AreReported, UnderPipelines, unpiped, piped_by, not_piped, ByPipelines, PipedBuilder, ArePipedPlaces, IsUnpiped}
+use Rattle.sigma_app.specs.UnderPipelines.{AreReported, UnderPipelines, unpiped, piped_by, not_piped, ByPipelines, PipedBuilder, ArePipedPlaces}
 use Rattle.sigma_app.specs.UnderSchema.{file_part, is_ended}
 use Rattle.yaml_files.specs.Call.{IsCallRefusal}
 use Rattle.yaml_tree.specs.Tree.{At, Answer, tree, refusal}

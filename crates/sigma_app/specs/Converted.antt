@@ -9,8 +9,8 @@ use Rattle.pipeline_model.specs.declared.pipeline.Pipeline.{Pipeline}
 use Rattle.rule_building.specs.Unbuilt.{Unbuilt}
 use Rattle.sig_base.specs.declared.limits.Limits.{Limits}
 use Rattle.sigma_app.specs.RuleFiles.{ByUnbuilt, RuleFileAt, FilesBySome}
-use Rattle.sigma_app.specs.UnderPipelines.{ByPipelines, UnderPipelines, PipedBuilder}
-use Rattle.sigma_app.specs.UnderSchema.{BySchema, ByBuilder, UnderSchema}
+use Rattle.sigma_app.specs.UnderPipelines.{ByPipelines, UnderPipelines}
+use Rattle.sigma_app.specs.UnderSchema.{BySchema, UnderSchema}
 
 -- what a document is answered under pipelines and under a schema, or where none is given
 abbrev pub ByMade : Type 1

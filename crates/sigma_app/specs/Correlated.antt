@@ -1,5 +1,5 @@
 -- The answer to `correlate`: the reports of the correlations of rule files over the events.
-use Rattle.std.specs.Prelude.{◌≡◌, ⊤, ℕ, Bool, List, [], ◌∷◌, ◌++◌, map, Option, None, Some}
+use Rattle.std.specs.Prelude.{◌≡◌, ℕ, Bool, List, [], ◌∷◌, ◌++◌, map, Option, None, Some}
 use Rattle.std.specs.List.{flat_map}
 use Rattle.answer_parts.specs.Each.{AllShares, EachPart}
 use Rattle.answer_parts.specs.FollowedLines.{FollowedLines}

@@ -1,5 +1,5 @@
 -- What following events by an engine leaves: what `correlate` does from the first event on.
-use Rattle.std.specs.Prelude.{◌≡◌, ◌+◌, ℕ, Bool, true, false, List, [], Option, Some}
+use Rattle.std.specs.Prelude.{◌≡◌, ℕ, Bool, true, false, List, [], Option, Some}
 use Rattle.answer_parts.specs.Cut.{Cut}
 use Rattle.answer_parts.specs.FollowedLines.{FollowedLines}
 use Rattle.answer_parts.specs.Input.{World, Events}
@@ -15,7 +15,7 @@ use Rattle.sig_base.specs.Causes.{Rose}
 use Rattle.sig_base.specs.declared.limits.Limits.{Limits}
 use Rattle.sigma_app.specs.Served.{IsAnswered, IsCutOff, status_of}
 use Rattle.sigma_app.specs.declared.status.Status.{Status}
-use Rattle.sigma_app.specs.declared.status.Status.TheVariants.{Usage, ReadFault, WriteFault, Memory}
+use Rattle.sigma_app.specs.declared.status.Status.TheVariants.{Usage, ReadFault, WriteFault}
 
 -- the events alone
 abbrev pub world_of : List ℕ → World

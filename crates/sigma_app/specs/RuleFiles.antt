@@ -1,5 +1,5 @@
 -- What a file of rules is answered, document by document.
-use Rattle.std.specs.Prelude.{◌≡◌, ◌≤◌, ℕ, Bool, List, [], ◌∷◌, ◌++◌, length, map, Some, unwrap_or}
+use Rattle.std.specs.Prelude.{◌≡◌, ◌≤◌, ℕ, Bool, List, [], ◌++◌, length, map, Some, unwrap_or}
 use Rattle.std.specs.List.{flat_map}
 use Rattle.answer_parts.specs.Each.{AllShares, EachPart}
 use Rattle.answer_parts.specs.Input.{World, File}

@@ -1,5 +1,5 @@
 -- What reading rule files whose rules are correlated leaves.
-use Rattle.std.specs.Prelude.{◌≡◌, ◌<◌, ◌^◌, ℕ, Bool, List, [], ◌++◌, map, length}
+use Rattle.std.specs.Prelude.{◌≡◌, ◌<◌, ◌^◌, ℕ, Bool, List, ◌++◌, map, length}
 use Rattle.std.specs.List.{AllByRecursion}
 use Rattle.answer_parts.specs.Each.{AllShares, EachPart}
 use Rattle.answer_parts.specs.Input.{World}

@@ -13,7 +13,7 @@ use Rattle.sig_base.specs.declared.limits.Limits.{Limits}
 use Rattle.sig_base.specs.declared.refusal.Refusal.{Refusal}
 use Rattle.sigma_app.specs.Reports.{refusal_share}
 use Rattle.sigma_app.specs.RuleFiles.{contents}
-use Rattle.sigma_app.specs.UnderSchema.{BySchema, ByBuilder, file_part}
+use Rattle.sigma_app.specs.UnderSchema.{ByBuilder, file_part}
 
 -- one diagnostic about each of these causes, in their order
 abbrev pub AreReported : List ℕ → List Refusal → Share → Type 0

@@ -1,4 +1,4 @@
-use Rattle.std.proofs.Common.{List, [], map, true, false}
+use Rattle.std.proofs.Common.{map, true, false}
 use Rattle.correlation_runs.specs.Followed.{Correlating}
 use Rattle.rule_model.specs.Plain.{rule_view}
 use Rattle.sigma_app.proofs.FollowServed.{follow_whole, follow_unread, follow_unwritten, follow_memory}

@@ -1,6 +1,5 @@
 use Rattle.std.proofs.Common.{List, subst}
 use Rattle.answer_parts.specs.Stands.{Writes}
-use Rattle.rule_building.specs.ForUnbuilt.{is_answered}
 use Rattle.sig_base.specs.declared.refusal.Refusal.{Refusal}
 use Rattle.sigma_app.proofs.Sourced.{source_told, source_memory}
 use Rattle.sigma_app.specs.UnderPipelines.{AreReported}

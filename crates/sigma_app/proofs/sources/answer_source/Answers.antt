@@ -1,4 +1,4 @@
-use Rattle.std.proofs.Common.{◌≡◌, ℕ, List, subst}
+use Rattle.std.proofs.Common.{ℕ, List, subst}
 use Rattle.std.specs.Prelude.{OnOk}
 use Rattle.answer_parts.specs.Stands.{Writes}
 use Rattle.answer_parts.specs.State.{State}

@@ -1,8 +1,7 @@
-use Rattle.std.proofs.Common.{◌≡◌, ℕ, List, length, sym, ap, ◌∙◌, subst, Ok, Err}
-use Rattle.answer_parts.specs.Stands.{Ends, Writes}
+use Rattle.std.proofs.Common.{List, ◌∙◌, subst, Ok, Err}
+use Rattle.answer_parts.specs.Stands.{Writes}
 use Rattle.correlation_files.specs.declared.bindings.Unbound.{Unbound}
-use Rattle.correlation_windows.specs.declared.bound.Bound.{Bound}
-use Rattle.sigma_app.proofs.Correlating.{Lines, events_alone, told_stop, followed_stop, followed_whole, lines_judged}
+use Rattle.sigma_app.proofs.Correlating.{told_stop, followed_stop, followed_whole, lines_judged}
 use Rattle.sigma_app.specs.Sourced.{AreTold}
 use Rattle.sigma_app.proofs.commands.correlate.answer_bindings.Goals as goal
 

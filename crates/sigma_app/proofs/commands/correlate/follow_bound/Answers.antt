@@ -1,10 +1,9 @@
-use Rattle.std.proofs.Common.{ℕ, List, length, sym, ap, ◌∙◌, map, subst}
+use Rattle.std.proofs.Common.{List, sym, ap, map, subst}
 use Rattle.std.specs.Prelude.{[]}
 use Rattle.std.specs.List.{AllZip}
-use Rattle.correlation_windows.specs.declared.bound.Bound.{Bound}
 use Rattle.detection_eval.specs.Ready as ready
 use Rattle.detection_eval.specs.declared.ready.Ready.{Ready}
-use Rattle.rule_model.specs.Plain.{PlainRule, rule_view}
+use Rattle.rule_model.specs.Plain.{rule_view}
 use Rattle.rule_model.specs.declared.rule.Rule.{Rule}
 use Rattle.sigma_app.proofs.Correlating.{lines_bare, lines_memory}
 use Rattle.sigma_app.proofs.Hits.{bare_ready}
