@@ -1,11 +1,15 @@
 //! The program over shelves and sinks in memory.
 
+mod all_words;
 mod checking;
 mod correlating;
 mod cuts;
 mod expressions;
+mod failing;
 mod faults;
+mod following;
 mod generating;
+mod hostile;
 mod modifiers;
 mod pipelines;
 mod query_faults;
@@ -32,7 +36,7 @@ pub(super) const FOUR_LINES: &str =
     "b.yml:1:1: 4 Syntax\nb.yml:4:1: 8 Tab\nb.yml:7:1: 5 DuplicateKey\nb.yml:9:4: 3 Unsupported\n";
 
 /// The files and the events, which call of the shelf, of the events, of the output, of the error output and of the builder fails
-/// (0: none), and how many bytes one read and one write take.
+/// (0: none), how many bytes one read and one write take, and for how many each output has room.
 #[derive(Clone, Copy)]
 pub(super) struct World<'a> {
     pub(super) files: &'a [(&'a str, &'a [u8])],
@@ -44,6 +48,7 @@ pub(super) struct World<'a> {
     pub(super) unbuilt: u64,
     pub(super) read: usize,
     pub(super) piece: usize,
+    pub(super) room: usize,
 }
 
 #[derive(Drop)]
@@ -77,8 +82,13 @@ fn ordinals(alloc: Global, call: u64) -> Result<Vec<u64>, Fail> {
     Ok(all)
 }
 
-fn sink_of(alloc: Global, piece: usize, call: u64) -> Result<MemorySink, Fail> {
-    Ok(MemorySink::new(alloc, 4096, piece.max(1), ordinals(alloc, call)?)?)
+fn sink_of(alloc: Global, world: World<'_>, call: u64) -> Result<MemorySink, Fail> {
+    Ok(MemorySink::new(
+        alloc,
+        world.room,
+        world.piece.max(1),
+        ordinals(alloc, call)?,
+    )?)
 }
 
 /// Runs the words over the files of a world.
@@ -99,8 +109,8 @@ pub(super) fn run_over(
         world.read.max(1),
         ordinals(alloc, world.unread)?,
     );
-    let mut out = sink_of(alloc, world.piece, world.out)?;
-    let mut err = sink_of(alloc, world.piece, world.err)?;
+    let mut out = sink_of(alloc, world, world.out)?;
+    let mut err = sink_of(alloc, world, world.err)?;
     let mut builder = CrateBuilder::new(alloc, ordinals(alloc, world.unbuilt)?);
     let status = serve(
         alloc,
@@ -131,6 +141,7 @@ pub(super) fn still<'a>(files: &'a [(&'a str, &'a [u8])]) -> World<'a> {
         unbuilt: 0,
         read: 4096,
         piece: 4096,
+        room: 4096,
     }
 }
 

@@ -6,7 +6,7 @@ use std::test::Fail;
 
 const CORRELATE: [&str; 4] = ["correlate", "--schema", "s.json", "c.yml"];
 
-const SCHEMA: &str =
+pub(super) const SCHEMA: &str =
     "{\"fields\":[{\"name\":\"Code\",\"kind\":\"whole\"},{\"name\":\"User\",\"kind\":\"text\"}],\"time\":{\"at\":[\"t\"],\"form\":\"seconds\"}}";
 
 const UNTIMED: &str =
@@ -18,20 +18,20 @@ const RULE: &str =
 const BURST: &str =
     "title: Burst\ncorrelation:\n  type: event_count\n  rules: [logon]\n  group-by: [User]\n  timespan: 60s\n  condition:\n    gte: 3\n";
 
-const BOTH: &str =
+pub(super) const BOTH: &str =
     "title: T\nname: logon\nlogsource:\n  product: windows\ndetection:\n  sel:\n    Code: 1\n  condition: sel\n---\ntitle: Burst\ncorrelation:\n  type: event_count\n  rules: [logon]\n  group-by: [User]\n  timespan: 60s\n  condition:\n    gte: 3\n";
 
 /// Lines of 28, and then of 29 bytes.
-const EVENTS: &str =
+pub(super) const EVENTS: &str =
     "{\"Code\":1,\"User\":\"a\",\"t\":0}\n{\"Code\":1,\"User\":\"a\",\"t\":10}\n{\"Code\":1,\"User\":\"a\",\"t\":60}\n{\"Code\":1,\"User\":\"a\",\"t\":60}\n{\"Code\":1,\"User\":\"a\",\"t\":61}\n{\"Code\":1,\"User\":\"a\",\"t\":59}\n";
 
 const FIRST: &str =
     "{\"correlation\":\"Burst\",\"line\":4,\"from\":2,\"count\":3,\"group\":[\"a\"]}\n";
 
-const REPORTS: &str =
+pub(super) const REPORTS: &str =
     "{\"correlation\":\"Burst\",\"line\":4,\"from\":2,\"count\":3,\"group\":[\"a\"]}\n{\"correlation\":\"Burst\",\"line\":5,\"from\":2,\"count\":4,\"group\":[\"a\"]}\n";
 
-const EARLY: &str = "events:6: 145 OutOfOrder 59000000000 61000000000\n";
+pub(super) const EARLY: &str = "events:6: 145 OutOfOrder 59000000000 61000000000\n";
 
 const UNREAD: &str = "sigma: cannot read events\n";
 
