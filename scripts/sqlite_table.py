@@ -8,16 +8,17 @@ EVENTS.jsonl has a JSON object on each line, QUERIES.sql a query on each line, a
 standard input. The table `events` gets a column for each key of an event and each name of a query, and no index: INTEGER
 where a query compares it by `<`, `<=`, `>` or `>=` with a number, and else TEXT with BINARY collation, where a number becomes
 its text and a truth value `true` or `false`. A key inside an object is `outer.inner`, a list is its JSON text, null is no
-value. A line in which an INTEGER column has no whole number is told and left out. For each query the events that it selects
+value. A line that is no JSON object, or in which an INTEGER column has no whole number, is told and left out. For each query the events that it selects
 are printed, each as its line of EVENTS.jsonl, or with --count their number. The table is made in memory, or in FILE, which
 must not be there yet.
 
 With --schema the table has the schema's name and a column for each of its fields, filled from where the field stands in an
-event: INTEGER for `whole`, and else TEXT.
+event: INTEGER for `whole`, and else TEXT. Then a line is left out too in which a field has a list or an object, or a field of addresses a text
+that begins as an IPv4 address and is none, as `sigma run` refuses it (26).
 
 --check names each column and index of a table (`events`, or the schema's) by which a query could select too little or too
 much: columns that aren't TEXT with BINARY collation (INTEGER where the schema says `whole`, or without one where a query compares
-with a number), indexes with a column that isn't COLLATE NOCASE, values of another kind, and columns that a query tests and the
+with a number), texts that begin as an address and are none where the schema says `address`, indexes with a column that isn't COLLATE NOCASE, values of another kind, and columns that a query tests and the
 table lacks. Without a schema a column that one query compares with numbers and another with texts is named by both uses. The exit status is 1 where it
 names something, where a line is left out, and where a query fails.
 
@@ -94,11 +95,32 @@ class NoWhole(ValueError):
     pass
 
 
+class NoEvent(ValueError):
+    pass
+
+
+# what begins as an IPv4 address, and one
+BEGUN = re.compile(r"[0-9]{1,3}\.")
+OCTET = r"(?:25[0-5]|2[0-4][0-9]|1[0-9][0-9]|[1-9]?[0-9])"
+ADDRESS = re.compile(rf"{OCTET}(?:\.{OCTET}){{3}}")
+
+
+def object_of(line):
+    """The JSON object that a line is."""
+    try:
+        event = json.loads(line)
+    except (ValueError, RecursionError):
+        event = None
+    if not isinstance(event, dict):
+        raise NoEvent("it is no JSON object")
+    return event
+
+
 def schema_of(path):
-    """The table's name, and for each field its name, its keys in an event, and whether it takes whole numbers."""
+    """The table's name, and for each field its name, its keys in an event, and its kind."""
     with open(path, encoding="utf-8") as file:
         schema = json.load(file)
-    fields = [(field["name"], field.get("at", [field["name"]]), field["kind"] == "whole") for field in schema["fields"]]
+    fields = [(field["name"], field.get("at", [field["name"]]), field["kind"]) for field in schema["fields"]]
     return schema.get("table", "events"), fields
 
 
@@ -118,15 +140,23 @@ def whole_of(name, value):
     raise NoWhole(f"{name} is no whole number, or one out of range: {text_of(value)}")
 
 
+def value_of(name, value, kind):
+    """The value of a column for a field of this kind."""
+    if isinstance(value, (list, dict)):
+        raise NoEvent(f"{name} is no single value: {text_of(value)}")
+    if kind == "address" and isinstance(value, str) and BEGUN.match(value) and not ADDRESS.fullmatch(value):
+        raise NoEvent(f"{name} begins as an address and is none: {value}")
+    return whole_of(name, value) if kind == "whole" else text_of(value)
+
+
 def rows_of(lines, fields):
     """The row of each line, or None where it is left out, and whether none is."""
     good, rows = True, []
     for number, line in enumerate(lines, 1):
-        event = json.loads(line)
         try:
-            values = [(name, found_in(event, keys), is_whole) for name, keys, is_whole in fields]
-            rows.append([whole_of(name, value) if is_whole else text_of(value) for name, value, is_whole in values])
-        except NoWhole as why:
+            event = object_of(line)
+            rows.append([value_of(name, found_in(event, keys), kind) for name, keys, kind in fields])
+        except (NoEvent, NoWhole) as why:
             print(f"line {number}: {why}", file=sys.stderr)
             good = False
             rows.append(None)
@@ -150,15 +180,24 @@ def filled(database, table, columns, rows):
 
 def made(database, lines, queries):
     """Makes the table of all keys and of all names in queries; the rowid's name, and whether no line is left out."""
-    events = [list(flat(json.loads(line))) for line in lines]
-    columns = {}
+    events, columns, left_out = [], {}, set()
+    for number, line in enumerate(lines, 1):
+        try:
+            events.append(list(flat(object_of(line))))
+        except NoEvent as why:
+            print(f"line {number}: {why}", file=sys.stderr)
+            left_out.add(number)
+            events.append([])
     for name in [name for event in events for name, _ in event] + [name for query in queries for name in names_of(query)]:
         columns.setdefault(folded(name), name)
     if not columns:
         sys.exit("no event has a key, and no query a column")
     places = {name: place for place, name in enumerate(columns)}
-    wholes, rows, good = wholes_in(queries), [], True
+    wholes, rows, good = wholes_in(queries), [], not left_out
     for number, event in enumerate(events, 1):
+        if number in left_out:
+            rows.append(None)
+            continue
         row = [None] * len(columns)
         try:
             for name, value in event:
@@ -229,6 +268,16 @@ def column_faults(database, table, sql, wholes):
                 yield f"column {quoted(name)}: {number} of its values are {what}"
 
 
+def address_faults(database, table, addresses):
+    """Fields of addresses with texts that begin as one and are none, which no event may have."""
+    for _, name, *_ in database.execute(f"PRAGMA table_info({quoted(table)})").fetchall():
+        if folded(name) in addresses:
+            values = [row[0] for row in database.execute(f"SELECT {quoted(name)} FROM {quoted(table)} WHERE typeof({quoted(name)}) = 'text'")]
+            number = sum(1 for value in values if BEGUN.match(value) and not ADDRESS.fullmatch(value))
+            if number:
+                yield f"column {quoted(name)}: {number} of its values begin as an address and are none"
+
+
 def index_faults(database, table):
     for _, name, unique, *_ in database.execute(f"PRAGMA index_list({quoted(table)})").fetchall():
         parts = database.execute(f"PRAGMA index_xinfo({quoted(name)})").fetchall()
@@ -248,9 +297,10 @@ def checked(path, table, queries, fields):
     names = {folded(column[1]) for column in database.execute(f"PRAGMA table_info({quoted(table)})")}
     lacking = {folded(name): name for query in queries for name in names_of(query) if folded(name) not in names}
     faults = [f"column {quoted(name)}: the table lacks it, and SQLite takes its name for a text" for name in lacking.values()]
-    wholes = {folded(name) for name, _, is_whole in fields if is_whole} if fields else wholes_in(queries)
+    wholes = {folded(name) for name, _, kind in fields if kind == "whole"} if fields else wholes_in(queries)
+    addresses = {folded(name) for name, _, kind in fields if kind == "address"}
     faults += [f"column {quoted(name)}: the table lacks this field of the schema" for name, *_ in fields if folded(name) not in names]
-    faults += list(column_faults(database, table, sql, wholes)) + list(index_faults(database, table))
+    faults += list(column_faults(database, table, sql, wholes)) + list(address_faults(database, table, addresses)) + list(index_faults(database, table))
     for fault in faults:
         print(fault)
     return not faults
@@ -278,7 +328,7 @@ def main():
     good = True
     if fields:
         rows, good = rows_of(lines, fields)
-        kinds = [(name, "INTEGER" if is_whole else "TEXT COLLATE BINARY") for name, _, is_whole in fields]
+        kinds = [(name, "INTEGER" if kind == "whole" else "TEXT COLLATE BINARY") for name, _, kind in fields]
         number_of_row = filled(database, table, kinds, rows)
     else:
         number_of_row, good = made(database, lines, queries)
