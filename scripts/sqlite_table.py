@@ -46,9 +46,13 @@ def folded(name):
 
 
 def lines_of(path):
-    """The lines with something in them."""
     with sys.stdin if path == "-" else open(path, encoding="utf-8", newline="\n") as file:
-        return [line.rstrip("\n") for line in file if line.strip()]
+        return [line.rstrip("\n") for line in file]
+
+
+def is_blank(line):
+    """Whether a line is passed over, as `sigma run` does."""
+    return not line.strip(" \t\r")
 
 
 def names_of(query):
@@ -150,9 +154,12 @@ def value_of(name, value, kind):
 
 
 def rows_of(lines, fields):
-    """The row of each line, or None where it is left out, and whether none is."""
+    """The row of each line, or None where it is blank or left out, and whether none is left out."""
     good, rows = True, []
     for number, line in enumerate(lines, 1):
+        if is_blank(line):
+            rows.append(None)
+            continue
         try:
             event = object_of(line)
             rows.append([value_of(name, found_in(event, keys), kind) for name, keys, kind in fields])
@@ -180,22 +187,22 @@ def filled(database, table, columns, rows):
 
 def made(database, lines, queries):
     """Makes the table of all keys and of all names in queries; the rowid's name, and whether no line is left out."""
-    events, columns, left_out = [], {}, set()
+    events, columns, good = [], {}, True
     for number, line in enumerate(lines, 1):
         try:
-            events.append(list(flat(object_of(line))))
+            events.append(None if is_blank(line) else list(flat(object_of(line))))
         except NoEvent as why:
             print(f"line {number}: {why}", file=sys.stderr)
-            left_out.add(number)
-            events.append([])
-    for name in [name for event in events for name, _ in event] + [name for query in queries for name in names_of(query)]:
+            events.append(None)
+            good = False
+    for name in [name for event in events for name, _ in event or []] + [name for query in queries for name in names_of(query)]:
         columns.setdefault(folded(name), name)
     if not columns:
         sys.exit("no event has a key, and no query a column")
     places = {name: place for place, name in enumerate(columns)}
-    wholes, rows, good = wholes_in(queries), [], not left_out
+    wholes, rows = wholes_in(queries), []
     for number, event in enumerate(events, 1):
-        if number in left_out:
+        if event is None:
             rows.append(None)
             continue
         row = [None] * len(columns)
@@ -317,7 +324,7 @@ def main():
     told = parser.parse_args()
     if len(told.files) not in ((0, 1) if told.check else (2,)):
         parser.error("other files are wanted")
-    queries = lines_of(told.files[-1]) if told.files else []
+    queries = [line for line in lines_of(told.files[-1]) if line.strip()] if told.files else []
     table, fields = schema_of(told.schema) if told.schema else ("events", [])
     if told.check:
         sys.exit(0 if checked(told.check, told.table or table, queries, fields) else 1)
