@@ -87,8 +87,8 @@ def man(table):
     lines.append(".SH OPTIONS")
     for name in OPTIONS:
         lines += [".TP", f".B \\-\\-{name} {OPTIONS[name][0]}", roff(OPTIONS[name][1][:1].upper() + OPTIONS[name][1][1:]) + "."]
-    lines += [".TP", ".B \\-\\-help, \\-\\-version", "Alone, answered by the launcher.", ".SH DIAGNOSTICS"]
-    lines += ["Each document, file or line that isn't taken has one line on standard error, FILE:LINE:COLUMN: CODE NAME, and perhaps a detail.", ".SH EXIT STATUS"]
+    lines += [".TP", ".B \\-\\-help, \\-\\-version", "Alone, or \\-\\-help behind a command's name: answered by the launcher.", ".SH DIAGNOSTICS"]
+    lines += ["Each document, file or line that isn't taken has one line on standard error, FILE:LINE:COLUMN: CODE NAME, or events:LINE: CODE NAME of an event, and perhaps a detail.", ".SH EXIT STATUS"]
     for code, said in EXIT:
         lines += [".TP", f".B {code}", roff(said)]
     lines += [
@@ -143,6 +143,7 @@ def zsh(table):
         files = ["'*:file:_files'" if several else "'1:file:_files'"] if name in FILES else []
         cases.append(f"        {name}) _arguments {' '.join([spec[o] for o in required + optional] + files)} ;;")
     commands = "\n".join(f"        '{row[0]}:{COMMANDS[row[0]][0]}'" for row in table)
+    commands += "\n        '--help:commands and options'\n        '--version:what was built'"
     return f"""#compdef sigma
 # Completions of sigma for zsh: a file of a folder that fpath names.
 _sigma() {{
@@ -166,6 +167,7 @@ _sigma "$@"
 
 def fish(table):
     lines = ["# Completions of sigma for fish: a file of ~/.config/fish/completions."]
+    lines += [f"complete -c sigma -n __fish_use_subcommand -l {o} -d '{d}'" for o, d in (("help", "commands and options"), ("version", "what was built"))]
     for name, required, optional, _ in table:
         lines.append(f"complete -c sigma -n __fish_use_subcommand -f -a {name} -d '{COMMANDS[name][0]}'")
         for option in required + optional:

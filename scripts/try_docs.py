@@ -6,7 +6,7 @@
 PROGRAM is the built program, as crates/sigma_app/out/sigma_app. It tries
 - each example of README.md and docs/ that begins with `$ ./sigma`, where `..` stands for anything and `(cut ..)` isn't shown,
 - the table of lines in docs/FORMAT.md, each example that is given as lines of the page's own rule,
-- the tables there and in docs/LUCENE.md of what an item becomes in a query,
+- the table there of what an item becomes in a query,
 - the rules of examples/ with the queries beside them, under the schema and the pipelines beside them.
 It prints what differs, and how many were tried and how many are told in words and so aren't; the exit status is 1 where something differs.
 """
@@ -122,15 +122,14 @@ def shown_lines(trial, program, folder):
 
 
 def shown_items(trial, program, folder):
-    for path, backend, begin in [("docs/FORMAT.md", "sqlite", 'SELECT * FROM "events" WHERE '), ("docs/LUCENE.md", "lucene", "")]:
-        for row in table(read(path), "| Item | In the query |"):
-            item, query = row[:2]
-            if not re.fullmatch(r"`[^`]*`", item) or not query.startswith("`"):
-                trial.told += 1
-                continue
-            shown = query[1:query.index("`", 1)]
-            rule = "\n".join([*RULE[:5], "    " + item.strip("`"), RULE[6]]) + "\n"
-            trial.compare(f"{path}: {item}", begin + shown, query_of(program, folder, backend, rule)[0].rstrip("\n"))
+    for row in table(read("docs/FORMAT.md"), "| Item | In the query |"):
+        item, query = row[:2]
+        if not re.fullmatch(r"`[^`]*`", item) or not query.startswith("`"):
+            trial.told += 1
+            continue
+        shown = 'SELECT * FROM "events" WHERE ' + query[1:query.index("`", 1)]
+        rule = "\n".join([*RULE[:5], "    " + item.strip("`"), RULE[6]]) + "\n"
+        trial.compare(f"docs/FORMAT.md: {item}", shown, query_of(program, folder, "sqlite", rule)[0].rstrip("\n"))
 
 
 def shown_examples(trial, program):
