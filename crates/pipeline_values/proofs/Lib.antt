@@ -10,3 +10,4 @@ mod ChosenLeft
 mod Growing
 mod OneRun
 mod Rooms
+mod Unneeded

@@ -7,3 +7,4 @@ pub mod Longest
 pub mod Made
 pub mod Read
 pub mod Kept
+pub mod Unfilled

@@ -2,11 +2,15 @@
 
 ghost use Rattle.std.specs.Prelude.{◌≡◌};
 ghost use Rattle.sig_base.specs.Judged.{Judged};
+ghost use Rattle.sig_base.specs.declared.limits.Limits.{Limits};
+ghost use Rattle.sig_base.specs.declared.refusal.Place.{Place};
 ghost use Rattle.rule_model.specs.Plain.{rule_view};
+ghost use Rattle.pipeline_model.specs.declared.step.Step.{Step};
 ghost use Rattle.pipeline_values.specs.Changed as changed;
 ghost use Rattle.pipeline_values.specs.Grown.{change_refusal};
 
 use crate::change::Change;
+use crate::filled::are_filled;
 use crate::items::change_detections;
 use crate::sizes::judge;
 use pipeline_model::{Step, Var};
@@ -30,8 +34,8 @@ fn change_by(
     change_detections(alloc, change, detections.into_vec())
 }
 
-/// The detections with the tests that a step makes of theirs, unless it refuses them.
-fn change_within(
+/// The detections with the tests that a step makes of theirs with these variables, unless it refuses them.
+fn change_under(
     alloc: Global,
     limits: &Limits,
     place: Place,
@@ -44,6 +48,35 @@ fn change_within(
 {
     let change = Change::of(alloc, vars, step)?;
     change_by(alloc, limits, place, &change, detections)
+}
+
+/// The variables that a step looks up for detections: none where these have no placeholder, so that rules without one don't take the
+/// time that reading the variables takes.
+fn vars_for<'s>(vars: &'s [Var], detections: &[Detection]) -> &'s [Var]
+    ensures same { (step : Step) → changed.changed_detections result.now step detections.now ≡ changed.changed_detections vars.now step detections.now }
+    ensures refused { (limits : Limits) (step : Step) (place : Place)
+        → change_refusal limits result.now step place detections.now ≡ change_refusal limits vars.now step place detections.now }
+{
+    if are_filled(detections) {
+        return &[];
+    }
+    vars
+}
+
+/// The detections with the tests that a step makes of theirs, unless it refuses them.
+fn change_within(
+    alloc: Global,
+    limits: &Limits,
+    place: Place,
+    vars: &[Var],
+    step: &Step,
+    detections: Detections,
+) -> Result<Detections, Fault>
+    ensures { Judged (λ ds. ds ≡ changed.changed_detections vars.now step.now detections)
+        (change_refusal limits.now vars.now step.now place detections) result }
+{
+    let known = vars_for(vars, detections.as_slice());
+    change_under(alloc, limits, place, known, step, detections)
 }
 
 /// The rule with the tests that a step makes of those of its items: placeholders filled with the values of these variables or

@@ -8,6 +8,7 @@ mod change;
 mod changing;
 mod entries;
 mod entry;
+mod filled;
 mod filling;
 mod fillings;
 mod growth;
