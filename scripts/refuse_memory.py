@@ -51,6 +51,7 @@ CASES = [
     (["convert", "--backend", "lucene", *LOGON, "windows_network_logon.yml"], None),
     (["convert", "--backend", "sqlite", "windows_base64_argument.yml"], None),
     (["run", "windows_encoded_powershell.yml"], "windows_process_events.jsonl"),
+    (["run", *POWERSHELL], "windows_process_events.jsonl"),
     (["run", "windows_base64_argument.yml"], "windows_process_events.jsonl"),
     (["run", *LOGON, "windows_network_logon.yml"], "windows_network_logon.jsonl"),
     (["query", "--backend", "lucene", *LOGON, "windows_network_logon.lucene"], "windows_network_logon.jsonl"),

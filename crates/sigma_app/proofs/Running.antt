@@ -98,14 +98,14 @@ module _ (limits : Limits) (texts : RefusedTexts) (words : List (List ℕ)) (req
   unread_by : (unread : Option Input) → Cause (needs_of request) (Err stop.Unread) unread old new
       → ((world : World) → IsTold (needs_of request) old.inputs world → (parts : List Part) × By false world parts × Stands (By false) world (Err stop.Unread) unread parts old new
       × (NoneOfEvents parts → EventsStay old.inputs new.inputs))
-      → (input : Input) × IsRead words input × WasUnread input old.inputs new.inputs × NoWriteFailed old.streams new.streams × ((world : World) → Tells words old.inputs world → StandsUnread limits texts words world stop.Unread input new.inputs.left old.streams new.streams)
+      → (input : Input) × IsRead words input × WasUnread input old.inputs new.inputs × NoWriteFailed old.streams new.streams × ((world : World) → Tells words old.inputs world → StandsUnread limits texts words world stop.Unread input old.inputs new.inputs old.streams new.streams)
   unread_by None cause stands = absurd cause
   unread_by (Some input) cause stands = (
     input,
     (request, is_accepted, cause.0),
     cause.1,
     cause.2,
-    λ world tells. let s = stands world (tells request is_accepted) in (request, is_accepted, s.0, s.1, s.2),
+    λ world tells. let s = stands world (tells request is_accepted) in (request, is_accepted, s.0, s.1, s.2, s.3),
   )
 
   pub serves_unread : OneAnswer → Ends (needs_of request) (By false) (Err stop.Unread) old new → Serves limits texts words ReadFault old.inputs new.inputs old.streams new.streams
@@ -134,10 +134,11 @@ module _ (limits : Limits) (texts : RefusedTexts) (words : List (List ℕ)) (req
   unwritten_by (Some input) cause = (((request, is_accepted, cause.0), cause.1), cause.2)
 
   stands_after : (unread : Option Input) (world : World) (parts : List Part) → By false world parts
-      → Stands (By false) world (Err stop.Unwritten) unread parts old new → StandsAfter limits texts words world unread new.inputs.left old.streams new.streams
-  stands_after None world parts answers s =
-      (answers.0, of_words false world answers.0 answers.1, status_of (share_of parts).refused, parts, accepted request is_accepted answers.2 refl, s)
-  stands_after (Some input) world parts answers s = (request, is_accepted, parts, answers, s)
+      → Stands (By false) world (Err stop.Unwritten) unread parts old new → (NoneOfEvents parts → EventsStay old.inputs new.inputs)
+      → StandsAfter limits texts words world unread old.inputs new.inputs old.streams new.streams
+  stands_after None world parts answers s quiet =
+      (answers.0, of_words false world answers.0 answers.1, status_of (share_of parts).refused, parts, accepted request is_accepted answers.2 refl, s, quiet)
+  stands_after (Some input) world parts answers s quiet = (request, is_accepted, parts, answers, s, quiet)
 
   pub serves_unwritten : OneAnswer → Ends (needs_of request) (By false) (Err stop.Unwritten) old new
       → Serves limits texts words WriteFault old.inputs new.inputs old.streams new.streams
@@ -153,7 +154,7 @@ module _ (limits : Limits) (texts : RefusedTexts) (words : List (List ℕ)) (req
       e.unread,
       (λ is. absurd (apart_from_memory is)),
       (unwritten_by e.unread e.cause).0,
-      λ world tells. let s = e.stands world (tells request is_accepted) in stands_after e.unread world s.0 s.1 s.2,
+      λ world tells. let s = e.stands world (tells request is_accepted) in stands_after e.unread world s.0 s.1 s.2 s.3,
     );
     apart = λ quiet. e.apart (quiet request is_accepted);
     unasked = not_asked one false (Err stop.Unwritten) e;
@@ -180,7 +181,7 @@ memory_unwritten is = cc
 -- memory was missing: what stands is cut off
 pub serves_cut : (limits : Limits) (texts : RefusedTexts) (words : List (List ℕ)) (old new : State) → (ReadsNoEvents words → EventsStay old.inputs new.inputs)
     → ((world : World) → Tells words old.inputs world → Unasked limits texts words world old.inputs new.inputs)
-    → ((world : World) → Tells words old.inputs world → StandsCut limits texts words world old.streams new.streams) → Serves limits texts words Memory old.inputs new.inputs old.streams new.streams
+    → ((world : World) → Tells words old.inputs world → StandsCut limits texts words world old.inputs new.inputs old.streams new.streams) → Serves limits texts words Memory old.inputs new.inputs old.streams new.streams
 serves_cut limits texts words old new quiet unasked cut = record {
   answer = λ is. absurd is;
   headline = λ is. absurd is;
@@ -199,7 +200,7 @@ pub serves_memory : (limits : Limits) (texts : RefusedTexts) (words : List (List
 serves_memory limits texts words request is_accepted old new one e =
     serves_cut limits texts words old new (λ quiet. e.apart (quiet request is_accepted)) (not_asked limits texts words request is_accepted old new one false (Err stop.Memory) e)
     (λ world tells. let s = e.stands world (tells request is_accepted) in
-    (s.1.0, of_words limits texts words request is_accepted old new false world s.1.0 s.1.1, status_of (share_of s.0).refused, s.0, accepted request is_accepted s.1.2 refl, s.2))
+    (s.1.0, of_words limits texts words request is_accepted old new false world s.1.0 s.1.1, status_of (share_of s.0).refused, s.0, accepted request is_accepted s.1.2 refl, s.2, s.3))
 
 -- memory was missing for the words
 pub serves_nothing : EachAnswer → (limits : Limits) (refused : List (List ℕ)) (words : List (List ℕ)) (s : State)
@@ -208,11 +209,11 @@ serves_nothing each limits refused words s =
     serves_cut limits (record { before = refused; after = refused }) words s s (λ _. (refl, refl))
     (λ world tells. let c = some world (decided words) in (c.0, c.1, λ status parts answer none. (refl, refl))) (λ world _. some world (decided words))
   where
-    some : (world : World) → ((request : Request) × IsAccepted words request) ⊎ IsUnaccepted words → StandsCut limits (record { before = refused; after = refused }) words world s.streams s.streams
+    some : (world : World) → ((request : Request) × IsAccepted words request) ⊎ IsUnaccepted words → StandsCut limits (record { before = refused; after = refused }) words world s.inputs s.inputs s.streams s.streams
     some world (inl (request, is_accepted)) =
         let a = each limits refused request world in
-        (a.1.0, of_words limits (record { before = refused; after = refused }) words request is_accepted s s false world a.1.0 a.1.1, status_of (share_of a.0).refused, a.0, accepted request is_accepted a.1.2 refl, cut_nothing (share_of a.0) s.streams)
-    some world (inr other) = (nowhere, (λ request too. absurd (other request too)), Usage, usage_part ∷ [], unaccepted other refl refl, cut_nothing (share_of (usage_part ∷ [])) s.streams)
+        (a.1.0, of_words limits (record { before = refused; after = refused }) words request is_accepted s s false world a.1.0 a.1.1, status_of (share_of a.0).refused, a.0, accepted request is_accepted a.1.2 refl, cut_nothing (share_of a.0) s.streams, λ none. (refl, refl))
+    some world (inr other) = (nowhere, (λ request too. absurd (other request too)), Usage, usage_part ∷ [], unaccepted other refl refl, cut_nothing (share_of (usage_part ∷ [])) s.streams, λ none. (refl, refl))
 
 -- ---- words that aren't accepted
 
@@ -258,7 +259,20 @@ module _ (limits : Limits) (texts : RefusedTexts) (words : List (List ℕ)) (oth
     still = λ is. absurd is;
     read_fault = λ is. absurd (apart is);
     write_fault = λ _. w.outcome.1;
-    after_fault = λ _. (None, (λ _. refl), (λ _. (ap (λ (i : Inputs). i.failed) w.inputs, ap (λ (i : Inputs). i.faults) w.inputs)), λ world _. (nowhere, no_places false world, Usage, usage_part ∷ [], unaccepted other refl refl, same_cut w.share w.is w.outcome.0));
+    after_fault = λ _. (
+      None,
+      (λ _. refl),
+      (λ _. (ap (λ (i : Inputs). i.failed) w.inputs, ap (λ (i : Inputs). i.faults) w.inputs)),
+      λ world _. (
+        nowhere,
+        no_places false world,
+        Usage,
+        usage_part ∷ [],
+        unaccepted other refl refl,
+        same_cut w.share w.is w.outcome.0,
+        λ none. (ap (λ (i : Inputs). i.left) w.inputs, ap (λ (i : Inputs). i.faults) w.inputs),
+      ),
+    );
     apart = λ _. (ap (λ (i : Inputs). i.left) w.inputs, ap (λ (i : Inputs). i.faults) w.inputs);
     unasked = λ world tells. (nowhere, no_places false world, λ status parts answer none. (ap (λ (i : Inputs). i.left) w.inputs, ap (λ (i : Inputs). i.faults) w.inputs));
   }
@@ -270,7 +284,15 @@ module _ (limits : Limits) (texts : RefusedTexts) (words : List (List ℕ)) (oth
   usage_memory s w =
       serves_cut limits texts words old new (λ _. (ap (λ (i : Inputs). i.left) w.inputs, ap (λ (i : Inputs). i.faults) w.inputs))
       (λ world tells. (nowhere, no_places false world, λ status parts answer none. (ap (λ (i : Inputs). i.left) w.inputs, ap (λ (i : Inputs). i.faults) w.inputs)))
-      (λ world _. (nowhere, no_places false world, Usage, usage_part ∷ [], unaccepted other refl refl, same_cut w.share w.is (cut s w.outcome)))
+      (λ world _. (
+        nowhere,
+        no_places false world,
+        Usage,
+        usage_part ∷ [],
+        unaccepted other refl refl,
+        same_cut w.share w.is (cut s w.outcome),
+        λ none. (ap (λ (i : Inputs). i.left) w.inputs, ap (λ (i : Inputs). i.faults) w.inputs),
+      ))
     where
       cut : (by : Stop) → Outcome w.share (Err by) old.streams new.streams → Cut w.share old.streams new.streams
       cut stop.Unread outcome = absurd outcome

@@ -93,23 +93,25 @@ Headline limits texts words world old new =
     × (parts : List Part) × Converted (ConvertMeans backend limits) limits places.pipelines places.documents schema pipelines rules world parts × Gains (share_of parts) old new
 
 -- What stands where the run was cut off: a front of the answer's output, and of its diagnostics some whole ones and the beginning of at
--- most one more.
-abbrev pub StandsCut : Limits → RefusedTexts → List (List ℕ) → World → Streams → Streams → Type 0
-StandsCut limits texts words world old new =
+-- most one more. And where that answer asks for no events, they stay as they are.
+abbrev pub StandsCut : Limits → RefusedTexts → List (List ℕ) → World → Inputs → Inputs → Streams → Streams → Type 0
+StandsCut limits texts words world before after old new =
     (places : Places) × PlacesOf limits texts false words world places × (status : Status) × (parts : List Part) × Answer limits places words world status parts × Cut (share_of parts) old new
+    × (NoneOfEvents parts → EventsStay before after)
 
 -- What stands where an input couldn't be read: the answer's parts before the input, all of their output and all of their diagnostics, and
 -- then the diagnostic that names the input, or the beginning of it where it couldn't be written. The whole answer goes on behind those
--- parts. (Of a file that the words name twice they're the parts before one of its places.) `left` is what is left of the events.
-abbrev pub StandsUnread : Limits → RefusedTexts → List (List ℕ) → World → Stop → Input → Option (List ℕ) → Streams → Streams → Type 0
-StandsUnread limits texts words world stop input left old new =
+-- parts. (Of a file that the words name twice they're the parts before one of its places.) And where that answer asks for no events, they
+-- stay as they are.
+abbrev pub StandsUnread : Limits → RefusedTexts → List (List ℕ) → World → Stop → Input → Inputs → Inputs → Streams → Streams → Type 0
+StandsUnread limits texts words world stop input before after old new =
     (request : Request) × IsAccepted words request × (parts : List Part) × Answers limits texts.before texts.after false request world parts
-    × StopsAt (Answers limits texts.before texts.after false request) world stop input parts left old new
+    × StopsAt (Answers limits texts.before texts.after false request) world stop input parts after.left old new × (NoneOfEvents parts → EventsStay before after)
 
 -- what stands after a fault in writing, with or without an input that couldn't be read before it, or want of memory
-abbrev pub StandsAfter : Limits → RefusedTexts → List (List ℕ) → World → Option Input → Option (List ℕ) → Streams → Streams → Type 0
-StandsAfter limits texts words world None left old new = StandsCut limits texts words world old new
-StandsAfter limits texts words world (Some input) left old new = StandsUnread limits texts words world Unwritten input left old new
+abbrev pub StandsAfter : Limits → RefusedTexts → List (List ℕ) → World → Option Input → Inputs → Inputs → Streams → Streams → Type 0
+StandsAfter limits texts words world None before after old new = StandsCut limits texts words world before after old new
+StandsAfter limits texts words world (Some input) before after old new = StandsUnread limits texts words world Unwritten input before after old new
 
 -- Where the one answer asks for no events, these stay as they are, however the run ended.
 abbrev pub Unasked : Limits → RefusedTexts → List (List ℕ) → World → Inputs → Inputs → Type 0
@@ -131,10 +133,10 @@ pub record Serves (limits : Limits) (texts : RefusedTexts) (words : List (List �
   pub unaccepted : status ≡ Usage → IsUnaccepted words
   pub still : IsAnswered status → NoReadFailed before after × NoWriteFailed old new
   pub read_fault : status ≡ ReadFault → (input : Input) × IsRead words input × WasUnread input before after × NoWriteFailed old new
-      × ((world : World) → Tells words before world → StandsUnread limits texts words world Unread input after.left old new)
+      × ((world : World) → Tells words before world → StandsUnread limits texts words world Unread input before after old new)
   pub write_fault : status ≡ WriteFault → SomeWriteFailed old new
   pub after_fault : IsCutOff status → (unread : Option Input) × (status ≡ Memory → unread ≡ None) × MayBeUnread words status unread before after
-      × ((world : World) → Tells words before world → StandsAfter limits texts words world unread after.left old new)
+      × ((world : World) → Tells words before world → StandsAfter limits texts words world unread before after old new)
   pub apart : ReadsNoEvents words → EventsStay before after
   pub unasked : (world : World) → Tells words before world → Unasked limits texts words world before after
 

@@ -58,21 +58,26 @@ pub fn serve<F: Shelf, S: Source, O: Sink, E: Sink, B: Builder>(
         × WasUnread input (inputs_of F.files F.failed S.left S.faults shelf.old events.old) (inputs_of F.files F.failed S.left S.faults shelf.new events.new)
         × NoWriteFailed (streams_of O.taken O.faults E.taken E.faults out.old err.old) (streams_of O.taken O.faults E.taken E.faults out.new err.new)
         × ((world : World) → Tells words.now (inputs_of F.files F.failed S.left S.faults shelf.old events.old) world
-        → StandsUnread limits.now (record { before = B.refused builder.old; after = B.refused builder.new }) words.now world Unread input (S.left events.new) (streams_of O.taken O.faults E.taken E.faults out.old err.old) (streams_of O.taken O.faults E.taken E.faults out.new err.new)) }
+        → StandsUnread limits.now (record { before = B.refused builder.old; after = B.refused builder.new }) words.now world Unread input
+        (inputs_of F.files F.failed S.left S.faults shelf.old events.old) (inputs_of F.files F.failed S.left S.faults shelf.new events.new)
+        (streams_of O.taken O.faults E.taken E.faults out.old err.old) (streams_of O.taken O.faults E.taken E.faults out.new err.new)) }
     ensures write_fault { result ≡ Status.WriteFault
         → SomeWriteFailed (streams_of O.taken O.faults E.taken E.faults out.old err.old) (streams_of O.taken O.faults E.taken E.faults out.new err.new) }
 
     // What stands where the run was cut off. Where an input couldn't be read and its diagnostic not be written, all before that input
-    // stands whole; else no reading had failed where writing did.
+    // stands whole; else no reading had failed where writing did. Events that the answer which is cut off doesn't ask for stay.
     ensures after_fault { IsCutOff result → (unread : Option Input) × (result ≡ Status.Memory → unread ≡ None)
         × MayBeUnread words.now result unread (inputs_of F.files F.failed S.left S.faults shelf.old events.old) (inputs_of F.files F.failed S.left S.faults shelf.new events.new)
         × ((world : World) → Tells words.now (inputs_of F.files F.failed S.left S.faults shelf.old events.old) world
-        → StandsAfter limits.now (record { before = B.refused builder.old; after = B.refused builder.new }) words.now world unread (S.left events.new) (streams_of O.taken O.faults E.taken E.faults out.old err.old) (streams_of O.taken O.faults E.taken E.faults out.new err.new)) }
+        → StandsAfter limits.now (record { before = B.refused builder.old; after = B.refused builder.new }) words.now world unread
+        (inputs_of F.files F.failed S.left S.faults shelf.old events.old) (inputs_of F.files F.failed S.left S.faults shelf.new events.new)
+        (streams_of O.taken O.faults E.taken E.faults out.old err.old) (streams_of O.taken O.faults E.taken E.faults out.new err.new)) }
 
     // Events that the words' request doesn't read stay as they are, however the run ends.
     ensures apart { ReadsNoEvents words.now → (S.left events.new ≡ S.left events.old) × (S.faults events.new ≡ S.faults events.old) }
 
-    // And so do all events, however the run ends, where the answer asks for none: where the schema, the rule or the query is refused, say.
+    // And so do all events, however the run ends, where the one answer for some places asks for none: where the schema or the rule is
+    // refused, say.
     ensures unasked { (world : World) → Tells words.now (inputs_of F.files F.failed S.left S.faults shelf.old events.old) world
         → Unasked limits.now (record { before = B.refused builder.old; after = B.refused builder.new }) words.now world
         (inputs_of F.files F.failed S.left S.faults shelf.old events.old) (inputs_of F.files F.failed S.left S.faults shelf.new events.new) }

@@ -1,6 +1,7 @@
-//! A rule cut after each of its bytes.
+//! Rules cut after each of their bytes.
 
-use crate::tests::{front, run_over, still};
+use crate::tests::pipelines::ENCODED;
+use crate::tests::{run_over, still};
 use sig_base::Limits;
 use std::test::Fail;
 
@@ -20,16 +21,18 @@ fn lines_in(text: &[u8]) -> usize {
 fn answers_each_cut(rt: HostRuntime) -> Result<(), Fail> {
     let limits = Limits::standard();
     let words: [&str; 4] = ["convert", "--backend", "sqlite", "r.yml"];
-    for count in 1..RULE.len() {
-        let files: [(&str, &[u8]); 1] = [("r.yml", front(RULE, count))];
-        let run = run_over(rt.alloc(), &words, &limits, still(&files))?;
-        let queries = lines_in(run.out.as_slice());
-        let refusals = lines_in(run.err.as_slice());
-        assert_eq!(rt;
-            (queries == 1 && refusals == 0) || (queries == 0 && refusals == 1),
-            true
-        );
-        assert_eq!(rt; run.status.code() as usize, refusals);
+    for rule in [RULE.as_bytes(), ENCODED] {
+        for count in 1..rule.len() {
+            let files: [(&str, &[u8]); 1] = [("r.yml", rule.split_at(count.min(rule.len())).0)];
+            let run = run_over(rt.alloc(), &words, &limits, still(&files))?;
+            let queries = lines_in(run.out.as_slice());
+            let refusals = lines_in(run.err.as_slice());
+            assert_eq!(rt;
+                (queries == 1 && refusals == 0) || (queries == 0 && refusals == 1),
+                true
+            );
+            assert_eq!(rt; run.status.code() as usize, refusals);
+        }
     }
     Ok(())
 }
@@ -38,9 +41,11 @@ fn answers_each_cut(rt: HostRuntime) -> Result<(), Fail> {
 fn converts_the_whole(rt: HostRuntime) -> Result<(), Fail> {
     let limits = Limits::standard();
     let words: [&str; 4] = ["convert", "--backend", "sqlite", "r.yml"];
-    let files: [(&str, &[u8]); 1] = [("r.yml", RULE.as_bytes())];
-    let run = run_over(rt.alloc(), &words, &limits, still(&files))?;
-    assert_eq!(rt; run.out.as_slice(), QUERY.as_bytes());
-    assert_eq!(rt; run.status.code(), 0);
+    for rule in [RULE.as_bytes(), ENCODED] {
+        let files: [(&str, &[u8]); 1] = [("r.yml", rule)];
+        let run = run_over(rt.alloc(), &words, &limits, still(&files))?;
+        assert_eq!(rt; run.out.as_slice(), QUERY.as_bytes());
+        assert_eq!(rt; run.status.code(), 0);
+    }
     Ok(())
 }

@@ -20,7 +20,7 @@ fn unread<'a>() -> World<'a> {
 /// The lines of some numbers, which are the same at each run, whatever can be read and built.
 #[test]
 fn writes_lines(rt: HostRuntime) -> Result<(), Fail> {
-    let cases: [(&[&str], &str); 5] = [
+    let cases: [(&[&str], &str); 6] = [
         (&FIRST, FIRST_LINE),
         (
             &["generate", "--seed", "0", "--events", "0"],
@@ -37,6 +37,10 @@ fn writes_lines(rt: HostRuntime) -> Result<(), Fail> {
         (
             &["generate", "--seed=7", "--events=3000"],
             "seed 7 events 3000 rule 1721 sqlite 1721 lucene 1721 same\n",
+        ),
+        (
+            &["generate", "--seed=7", "--events=100000"],
+            "seed 7 events 100000 rule 56160 sqlite 56160 lucene 56160 same\n",
         ),
     ];
     for (words, line) in cases {

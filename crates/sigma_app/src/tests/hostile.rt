@@ -83,6 +83,41 @@ fn converts_the_longest_list(rt: HostRuntime) -> Result<(), Fail> {
     Ok(())
 }
 
+/// 2,000 texts have a query of SQL of depth 70, and more clauses than one of Lucene may have; where a rule may have a test fewer, it's too large
+/// for both.
+#[test]
+fn counts_two_thousand_texts(rt: HostRuntime) -> Result<(), Fail> {
+    let alloc = rt.alloc();
+    let item = format!(in alloc; "Image:{}", repeated(alloc, "\n      - x", 2000)?)?;
+    let rule = rule_of(alloc, item.as_str(), "s")?;
+    let files: [(&str, &[u8]); 1] = [("r.yml", rule.as_bytes())];
+    let sqlite: [&str; 3] = ["convert", "--backend=sqlite", "r.yml"];
+    let lucene: [&str; 3] = ["convert", "--backend=lucene", "r.yml"];
+    let mut limits = Limits::standard();
+    let ran = run_over(alloc, &lucene, &limits, still(&files))?;
+    check(
+        &rt,
+        &ran,
+        1,
+        "",
+        "r.yml:1:1: 113 TooManyClauses 2000 1024\n",
+    );
+    limits.sql_depth = 70;
+    let mut world = still(&files);
+    world.room = 1 << 18;
+    let ran = run_over(alloc, &sqlite, &limits, world)?;
+    assert_eq!(rt; ran.status.code(), 0);
+    limits.sql_depth = 69;
+    let ran = run_over(alloc, &sqlite, &limits, still(&files))?;
+    check(&rt, &ran, 1, "", "r.yml:1:1: 112 QueryTooDeep 70 69\n");
+    limits.leaves = 1999;
+    for words in [&sqlite, &lucene] {
+        let ran = run_over(alloc, words, &limits, still(&files))?;
+        check(&rt, &ran, 1, "", "r.yml:1:1: 110 TooManyLeaves 2000 1999\n");
+    }
+    Ok(())
+}
+
 /// 998 words NOT before a test of depth 2 are read. With one more the expression is too deep, and 1,001 are refused as such.
 #[test]
 fn reads_so_many_words_not(rt: HostRuntime) -> Result<(), Fail> {
@@ -94,6 +129,7 @@ fn reads_so_many_words_not(rt: HostRuntime) -> Result<(), Fail> {
         (998, "\"A\" = 'x'", 0, "{\"A\":\"x\"}\n", ""),
         (999, "\"A\" = 'x'", 1, "", "q:1:1: 124 SqlDepth\n"),
         (1000, "\"A\" = 'x'", 1, "", "q:1:1: 124 SqlDepth\n"),
+        (1000, "\"A\" IS NULL", 1, "", "q:1:1: 124 SqlDepth\n"),
         (1000, "", 1, "", "q:1:4030: 120 SqlSyntax\n"),
         (1001, "", 1, "", "q:1:1: 124 SqlDepth\n"),
     ] {

@@ -185,7 +185,7 @@ fn rules_are_made_under_a_schema(rt: HostRuntime) -> Result<(), Fail> {
     Ok(())
 }
 
-const ENCODED: &[u8] =
+pub(super) const ENCODED: &[u8] =
     b"title: Encoded PowerShell\nid: 5f1f5c3a-9c0e-4f0e-8b1a-2f3c4d5e6f70\nstatus: test\ndescription: |\n    Detects an encoded command line\n    of PowerShell.\nreferences:\n    - https://example.org/a?b=c#d\nauthor: Jane Doe\ndate: 2024-03-01\nlogsource:\n    category: process_creation\n    product: windows\ndetection:\n    selection_img:\n        - Image|endswith:\n              - '\\powershell.exe'\n              - '\\pwsh.exe'\n        - OriginalFileName: 'PowerShell.EXE'\n    selection_cli:\n        CommandLine|contains: ' -enc '\n    filter_main_parent:\n        ParentImage: 'C:\\Tools\\run.exe'\n    condition: all of selection_* and not 1 of filter_main_*\nfalsepositives:\n    - Unknown\nlevel: medium\n";
 
 const ECS: &[u8] =
