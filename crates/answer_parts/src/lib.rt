@@ -3,13 +3,9 @@
 
 mod events;
 mod following;
-#[cfg(test)]
-mod following_tests;
 mod outside;
 mod reading;
 mod stop;
-#[cfg(test)]
-mod tests;
 mod writing;
 
 pub use events::{LineCommand, answer_lines, tell_line_refusal};

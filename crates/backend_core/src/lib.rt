@@ -4,8 +4,6 @@
 mod backend;
 mod copying;
 mod lack;
-#[cfg(test)]
-mod tests;
 mod tree;
 
 pub use backend::Backend;

@@ -11,5 +11,3 @@ mod command_name;
 mod law;
 mod parts;
 mod reading;
-#[cfg(test)]
-mod tests;

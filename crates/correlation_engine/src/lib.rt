@@ -16,7 +16,5 @@ mod matching;
 mod places;
 mod reporting;
 mod steps;
-#[cfg(test)]
-mod tests;
 mod watch;
 mod windows;

@@ -6,5 +6,3 @@ pub use line::write_report;
 
 mod law;
 mod line;
-#[cfg(test)]
-mod tests;

@@ -12,7 +12,5 @@ mod correlation;
 mod index;
 mod law;
 mod reading;
-#[cfg(test)]
-mod tests;
 mod timespan;
 mod words;

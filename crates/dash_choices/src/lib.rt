@@ -3,8 +3,6 @@
 
 mod choosing;
 mod law;
-#[cfg(test)]
-mod tests;
 
 pub use choosing::{choice, dash_count};
 pub use law::{choices_are_counted, choices_are_written, choices_fit};

@@ -17,5 +17,3 @@ mod making;
 mod numbered;
 mod ready;
 mod satisfying;
-#[cfg(test)]
-mod tests;

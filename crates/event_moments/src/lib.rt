@@ -6,5 +6,3 @@ pub use numerals::{are_digits, digits, is_digit, is_whole};
 
 mod moments;
 mod numerals;
-#[cfg(test)]
-mod tests;

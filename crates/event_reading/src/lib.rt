@@ -9,8 +9,6 @@ mod decimals;
 mod event;
 mod json_values;
 mod law;
-#[cfg(test)]
-mod line_tests;
 mod moments;
 mod parts;
 mod path;
@@ -20,5 +18,3 @@ mod rows;
 mod schemas;
 mod shapes;
 mod taking;
-#[cfg(test)]
-mod tests;

@@ -4,5 +4,3 @@
 pub use numbers::FieldNumbers;
 
 mod numbers;
-#[cfg(test)]
-mod tests;

@@ -3,8 +3,6 @@
 
 mod selecting;
 mod terms;
-#[cfg(test)]
-mod tests;
 mod values;
 
 pub use selecting::selects;

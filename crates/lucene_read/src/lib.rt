@@ -7,7 +7,5 @@ mod numbers;
 mod partial;
 mod query;
 mod stepping;
-#[cfg(test)]
-mod tests;
 
 pub use query::read_query;

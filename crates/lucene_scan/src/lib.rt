@@ -7,8 +7,6 @@ mod places;
 mod runs;
 mod scanning;
 mod sorting;
-#[cfg(test)]
-mod tests;
 mod token;
 mod tokens;
 

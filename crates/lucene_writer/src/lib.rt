@@ -7,8 +7,6 @@ mod lacking;
 mod law;
 mod place;
 mod putting;
-#[cfg(test)]
-mod tests;
 mod tests_of;
 mod walk;
 mod writer;

@@ -12,5 +12,3 @@ mod form;
 mod law;
 mod modifier;
 mod reading;
-#[cfg(test)]
-mod tests;

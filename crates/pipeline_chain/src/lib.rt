@@ -8,5 +8,3 @@ pub use running::run_pipelines;
 mod law;
 mod ordering;
 mod running;
-#[cfg(test)]
-mod tests;

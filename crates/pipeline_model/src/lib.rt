@@ -16,6 +16,4 @@ mod pipeline;
 mod reading;
 mod shapes;
 mod step;
-#[cfg(test)]
-mod tests;
 mod words;

@@ -18,5 +18,3 @@ mod names;
 mod references;
 mod renaming;
 mod room;
-#[cfg(test)]
-mod tests;

@@ -11,5 +11,3 @@ mod failing;
 mod growing;
 mod law;
 mod source;
-#[cfg(test)]
-mod tests;

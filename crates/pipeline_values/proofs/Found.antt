@@ -9,7 +9,8 @@ use Rattle.std.proofs.lemmas.List.{length-map}
 use Rattle.pipeline_model.specs.Concerned.{is_among}
 use Rattle.pipeline_model.specs.declared.step.Pair.{Pair}
 use Rattle.pipeline_values.specs.declared.entry.Entry.{Entry}
-use Rattle.pipeline_values.specs.Entries.{texts_for, longest_of}
+use Rattle.pipeline_values.specs.Counts.{capped}
+use Rattle.pipeline_values.specs.Entries.{texts_for, longest_of, extent_of}
 use Rattle.pipeline_values.specs.Made.{froms_of, found_of, entry_view, entries_view}
 
 -- ---- the first place at which a test passes
@@ -87,7 +88,7 @@ same_there (x ∷ entries) (p ∷ pairs) (suc n) e d same inside =
 
 same_length : (entries : List Entry) (pairs : List Pair) → entries_view entries ≡ map found_of pairs → length entries ≡ length pairs
 same_length entries pairs same =
-    sym (length-map entries entry_view) ∙ (ap (λ (xs : List (List (List ℕ) × ℕ)). length xs) same ∙ length-map pairs found_of)
+    sym (length-map entries entry_view) ∙ (ap (λ (xs : List (List (List ℕ) × ℕ × ℕ)). length xs) same ∙ length-map pairs found_of)
 
 some_pair : (pairs : List Pair) (n : ℕ) → n < length pairs → Pair
 some_pair [] n inside = absurd (let h : n < 0 = inside in omega (arith, h))
@@ -95,14 +96,15 @@ some_pair (p ∷ pairs) n inside = p
 
 pub some_found : (text : List ℕ) (pairs : List Pair) (keys : List (List ℕ)) (entries : List Entry) (n : ℕ) (e : Entry) → keys ≡ froms_of pairs
     → entries_view entries ≡ map found_of pairs → Some n ≡ position (λ t. bytes_eq t text) keys → e ≡ get_or entries n e → n < length entries
-    → (texts_for pairs text ≡ Some e.texts.now) × (e.longest ≡ longest_of e.texts.now)
+    → (texts_for pairs text ≡ Some e.texts.now) × (e.longest ≡ longest_of e.texts.now) × (e.extent ≡ capped (extent_of e.texts.now))
 some_found text pairs keys entries n e same listed is at inside =
     let found = within text pairs keys n same is in
     let d : Pair = some_pair pairs n found.0 in
     let there : entry_view e ≡ found_of (get_or pairs n d) = ap entry_view at ∙ same_there entries pairs n e d listed inside in
-    let texts : e.texts.now ≡ (get_or pairs n d).to = ap (λ (v : List (List ℕ) × ℕ). v.0) there in (
+    let texts : e.texts.now ≡ (get_or pairs n d).to = ap (λ (v : List (List ℕ) × ℕ × ℕ). v.0) there in (
       found_texts text pairs keys n d same is ∙ ap Some (sym texts),
-      ap (λ (v : List (List ℕ) × ℕ). v.1) there ∙ ap longest_of (sym texts),
+      ap (λ (v : List (List ℕ) × ℕ × ℕ). v.1) there ∙ ap longest_of (sym texts),
+      ap (λ (v : List (List ℕ) × ℕ × ℕ). v.2) there ∙ ap (λ (ts : List (List ℕ)). capped (extent_of ts)) (sym texts),
     )
 
 -- an entry that is found has a number that there is no entry for

@@ -1,5 +1,5 @@
 -- What becomes of a test, counted and made.
-use Rattle.std.proofs.Common.{ℕ, max, ◌≡◌, Bool, true, false, ◌&&◌, ◌||◌, length, List, [], ◌∷◌, map, refl, sym, subst, ap, ◌∙◌}
+use Rattle.std.proofs.Common.{ℕ, ◌+◌, max, ◌≡◌, Bool, true, false, ◌&&◌, ◌||◌, length, List, [], ◌∷◌, map, refl, sym, subst, ap, ◌∙◌}
 use native.Mathlib.Omega.{arith}
 use Rattle.std.specs.Prelude.{Option, Some, None, if◌then◌else◌, Result, IfOk}
 use Rattle.std.specs.List.{list_any}
@@ -15,14 +15,16 @@ use Rattle.pipeline_model.specs.declared.pipeline.Var.{Var}
 use Rattle.pipeline_model.specs.declared.step.Action.{Action}
 use Rattle.pipeline_model.specs.declared.step.Pair.{Pair}
 use Rattle.pipeline_values.specs.declared.growth.Growth.{Growth}
+use Rattle.pipeline_names.specs.Sizes.{total}
 use Rattle.pipeline_values.specs.Entries.{texts_for, largest}
 use Rattle.pipeline_values.specs.Filled.{is_chosen, filled, patterns_found, put_for, is_missing, lacks_values}
 use Rattle.pipeline_values.specs.Changed.{filled_if_chosen, made_of, mapped, is_cased, as_tests}
 use Rattle.pipeline_values.specs.Counts.{capped}
+use Rattle.pipeline_values.specs.Extent.{value_extent}
 use Rattle.pipeline_values.specs.Grown.{leaves_open}
 use Rattle.pipeline_values.specs.Longest.{longest_value}
-use Rattle.pipeline_values.specs.Made.{counted, made_count, longest_made, IsGrowth}
-use Rattle.pipeline_values.proofs.Products.{counted_is}
+use Rattle.pipeline_values.specs.Made.{counted, extended, made_count, longest_made, extent_made, IsGrowth}
+use Rattle.pipeline_values.proofs.Products.{counted_is, extended_is}
 
 -- ---- placeholders that lack values are chosen
 
@@ -87,41 +89,56 @@ pattern_long : (parts : List Part) (cased : Bool) (o : Option (List (List Part))
 pattern_long parts cased None = omega arith
 pattern_long parts cased (Some patterns) = as_long cased patterns
 
+as_wide : (cased : Bool) (patterns : List (List Part)) → total length patterns ≡ value_extent (map (λ parts. tests.Fits parts cased) patterns)
+as_wide cased [] = refl
+as_wide cased (p ∷ patterns) = ap (λ (n : ℕ). length p + n) (as_wide cased patterns)
+
+pattern_wide : (parts : List Part) (cased : Bool) (o : Option (List (List Part))) → extent_made parts o ≡ value_extent (as_tests (tests.Fits parts cased) o)
+pattern_wide parts cased None = omega arith
+pattern_wide parts cased (Some patterns) = as_wide cased patterns
+
 pub grown_test : (r : Result Growth Fault) (parts : List Part) (cased : Bool) (o : Option (List (List Part))) (lacking : Bool)
-    → IfOk r (λ g. IsGrowth (made_count o) (longest_made parts o) lacking g)
-    → IfOk r (λ g. IsGrowth (length (as_tests (tests.Fits parts cased) o)) (longest_value (as_tests (tests.Fits parts cased) o)) lacking g)
+    → IfOk r (λ g. IsGrowth (made_count o) (longest_made parts o) (extent_made parts o) lacking g)
+    → IfOk r (λ g. IsGrowth (length (as_tests (tests.Fits parts cased) o)) (longest_value (as_tests (tests.Fits parts cased) o)) (value_extent (as_tests (tests.Fits parts cased) o)) lacking g)
 grown_test r parts cased o lacking grown =
-    subst (λ (n : ℕ). IfOk r (λ g. IsGrowth (length (as_tests (tests.Fits parts cased) o)) n lacking g)) (pattern_long parts cased o)
-    (subst (λ (n : ℕ). IfOk r (λ g. IsGrowth n (longest_made parts o) lacking g)) (as_many (tests.Fits parts cased) o) grown)
+    subst (λ (n : ℕ). IfOk r (λ g. IsGrowth (length (as_tests (tests.Fits parts cased) o)) (longest_value (as_tests (tests.Fits parts cased) o)) n lacking g)) (pattern_wide parts cased o)
+    (subst (λ (n : ℕ). IfOk r (λ g. IsGrowth (length (as_tests (tests.Fits parts cased) o)) n (extent_made parts o) lacking g)) (pattern_long parts cased o)
+    (subst (λ (n : ℕ). IfOk r (λ g. IsGrowth n (longest_made parts o) (extent_made parts o) lacking g)) (as_many (tests.Fits parts cased) o) grown))
 
 -- ---- placeholders, counted
 
-pub kept_growth : (vars : List Var) (action : Action) (parts : List Part) (g : Growth) → list_any (is_chosen action) parts ≡ false → IsGrowth 1 (length parts) false g
-    → IsGrowth (made_count (filled_if_chosen vars action parts)) (longest_made parts (filled_if_chosen vars action parts)) (list_any (lacks_values vars action) parts) g
+pub kept_growth : (vars : List Var) (action : Action) (parts : List Part) (g : Growth) → list_any (is_chosen action) parts ≡ false
+    → IsGrowth 1 (length parts) (length parts) false g
+    → IsGrowth (made_count (filled_if_chosen vars action parts)) (longest_made parts (filled_if_chosen vars action parts)) (extent_made parts (filled_if_chosen vars action parts)) (list_any (lacks_values vars action) parts) g
 kept_growth vars action parts g none h =
     let e = stays_unfilled vars action parts none in (
       h.0 ∙ ap (λ (o : Option (List (List Part))). capped (made_count o)) (sym e),
       h.1 ∙ ap (λ (o : Option (List (List Part))). capped (longest_made parts o)) (sym e),
-      h.2 ∙ stays_closed vars action parts none,
+      h.2 ∙ ap (λ (o : Option (List (List Part))). capped (extent_made parts o)) (sym e),
+      h.3 ∙ stays_closed vars action parts none,
     )
 
-pub filled_growth : (vars : List Var) (action : Action) (parts : List Part) (tests longest : ℕ) → list_any (is_chosen action) parts ≡ true
-    → tests ≡ capped (counted vars action parts) → longest ≡ capped (largest length (filled vars action parts))
+pub filled_growth : (vars : List Var) (action : Action) (parts : List Part) (tests longest extent : ℕ) → list_any (is_chosen action) parts ≡ true
+    → tests ≡ capped (counted vars action parts) → longest ≡ capped (largest length (filled vars action parts)) → extent ≡ capped (extended vars action parts)
     → (tests ≡ capped (made_count (filled_if_chosen vars action parts))) × (longest ≡ capped (longest_made parts (filled_if_chosen vars action parts)))
-filled_growth vars action parts tests longest some counts measures =
+    × (extent ≡ capped (extent_made parts (filled_if_chosen vars action parts)))
+filled_growth vars action parts tests longest extent some counts measures adds =
     let e = is_filled vars action parts some in (
       counts ∙ (ap capped (sym (counted_is vars action parts)) ∙ ap (λ (o : Option (List (List Part))). capped (made_count o)) (sym e)),
       measures ∙ ap (λ (o : Option (List (List Part))). capped (longest_made parts o)) (sym e),
+      adds ∙ (ap capped (sym (extended_is vars action parts)) ∙ ap (λ (o : Option (List (List Part))). capped (extent_made parts o)) (sym e)),
     )
+
+abbrev Grows : Result Growth Fault → List Part → Option (List (List Part)) → Bool → Type 0
+Grows r parts o lacking = IfOk r (λ g. IsGrowth (made_count o) (longest_made parts o) (extent_made parts o) lacking g)
 
 pub holes_grow : (vars : List Var) (action other : Action) (parts got : List Part) (r : Result Growth Fault) → other ≡ action → got ≡ parts
     → made_of vars action parts ≡ filled_if_chosen vars action parts → leaves_open vars action parts ≡ list_any (lacks_values vars action) parts
-    → IfOk r (λ g. IsGrowth (made_count (filled_if_chosen vars other got)) (longest_made got (filled_if_chosen vars other got)) (list_any (lacks_values vars other) got) g)
-    → IfOk r (λ g. IsGrowth (made_count (made_of vars other parts)) (longest_made parts (made_of vars other parts)) (leaves_open vars other parts) g)
+    → Grows r got (filled_if_chosen vars other got) (list_any (lacks_values vars other) got) → Grows r parts (made_of vars other parts) (leaves_open vars other parts)
 holes_grow vars action other parts got r is same made lacks grown =
-    let at : IfOk r (λ g. IsGrowth (made_count (filled_if_chosen vars action parts)) (longest_made parts (filled_if_chosen vars action parts)) (list_any (lacks_values vars action) parts) g) =
-    subst (λ (a : Action). IfOk r (λ g. IsGrowth (made_count (filled_if_chosen vars a parts)) (longest_made parts (filled_if_chosen vars a parts)) (list_any (lacks_values vars a) parts) g)) is
-    (subst (λ (ps : List Part). IfOk r (λ g. IsGrowth (made_count (filled_if_chosen vars other ps)) (longest_made ps (filled_if_chosen vars other ps)) (list_any (lacks_values vars other) ps) g)) same grown) in
-    subst (λ (a : Action). IfOk r (λ g. IsGrowth (made_count (made_of vars a parts)) (longest_made parts (made_of vars a parts)) (leaves_open vars a parts) g)) (sym is)
-    (subst (λ (b : Bool). IfOk r (λ g. IsGrowth (made_count (made_of vars action parts)) (longest_made parts (made_of vars action parts)) b g)) (sym lacks)
-    (subst (λ (o : Option (List (List Part))). IfOk r (λ g. IsGrowth (made_count o) (longest_made parts o) (list_any (lacks_values vars action) parts) g)) (sym made) at))
+    let at : Grows r parts (filled_if_chosen vars action parts) (list_any (lacks_values vars action) parts) =
+    subst (λ (a : Action). Grows r parts (filled_if_chosen vars a parts) (list_any (lacks_values vars a) parts)) is
+    (subst (λ (ps : List Part). Grows r ps (filled_if_chosen vars other ps) (list_any (lacks_values vars other) ps)) same grown) in
+    subst (λ (a : Action). Grows r parts (made_of vars a parts) (leaves_open vars a parts)) (sym is)
+    (subst (λ (b : Bool). Grows r parts (made_of vars action parts) b) (sym lacks)
+    (subst (λ (o : Option (List (List Part))). Grows r parts o (list_any (lacks_values vars action) parts)) (sym made) at))

@@ -3,7 +3,7 @@ use Rattle.std.proofs.Common.{ℕ, zero, suc, ◌+◌, ◌*◌, ◌-◌, ◌^◌
 use native.Mathlib.Omega.{arith}
 use Rattle.std.specs.Prelude.{if◌then◌else◌, ◌==◌}
 use Rattle.std.proofs.lemmas.Bool.Decides.{nat_tests}
-use Rattle.std.proofs.Math.Nat.{mul-zero, mul_assoc}
+use Rattle.std.proofs.Math.Nat.{mul-zero, mul_assoc, mul_comm, mul-add, add-mul}
 use Rattle.std.proofs.lemmas.Nat.{mul-le}
 use Rattle.std.proofs.lemmas.Bool.{leb-true, leb-false}
 use Rattle.std.proofs.lemmas.List.{drop_more, length-map, length-append}
@@ -11,11 +11,12 @@ use Rattle.sig_strings.specs.declared.part.Part.{Part}
 use Rattle.pipeline_model.specs.declared.pipeline.Var.{Var}
 use Rattle.pipeline_model.specs.declared.step.Action.{Action}
 use Rattle.pipeline_values.specs.declared.filling.Filling.{Filling}
+use Rattle.pipeline_names.specs.Sizes.{total}
 use Rattle.pipeline_values.specs.Counts.{capped}
 use Rattle.pipeline_values.specs.Entries.{largest}
 use Rattle.pipeline_values.specs.Filled.{choices, crossed, filled}
-use Rattle.pipeline_values.specs.Made.{counted, summed, fills, IsFilling, IsMeasured}
-use Rattle.pipeline_values.proofs.Sums.{largest_append}
+use Rattle.pipeline_values.specs.Made.{counted, summed, extended, fills, IsFilling, IsMeasured}
+use Rattle.pipeline_values.proofs.Sums.{largest_append, total_append}
 
 -- ---- the product
 
@@ -49,6 +50,9 @@ counted_turn vars action parts i x f count n new same inside is filling counts m
     ∙ (ap capped (mul_assoc count (length (choices vars action x)) (counted vars action (drop (i + 1) parts)))
     ∙ (sym (ap (λ (ps : List Part). capped (count * counted vars action ps)) front) ∙ same))))
 
+suc_mul : (n m : ℕ) → suc n * m ≡ m + n * m
+suc_mul n m = omega arith
+
 length_crossed : (fronts more : List (List Part)) → length (crossed fronts more) ≡ length fronts * length more
 length_crossed [] more = omega arith
 length_crossed (f ∷ fs) more =
@@ -57,9 +61,6 @@ length_crossed (f ∷ fs) more =
     let here = length-map more (λ (rest : List Part). f ++ rest) in
     let step = suc_mul (length fs) (length more) in
     omega (arith, first, rest, here, step)
-  where
-    suc_mul : (n m : ℕ) → suc n * m ≡ m + n * m
-    suc_mul n m = omega arith
 
 -- the product is how many there are
 pub counted_is : (vars : List Var) (action : Action) (parts : List Part) → length (filled vars action parts) ≡ counted vars action parts
@@ -132,3 +133,91 @@ longest_told vars action parts tests longest counts measures = by (tests == 0) r
     by false e =
         let some_tests : 1 ≤ tests = grind (arith, nat_tests) in
         measures ∙ ap capped (sym (longest_filled vars action parts (omega (arith, counts, some_tests))))
+
+-- ---- all together
+
+mul_same : (a b c : ℕ) → capped a ≡ capped b → capped (c * a) ≡ capped (c * b)
+mul_same a b c same =
+    ap capped (mul_comm c a)
+    ∙ (sym (cap_mul a c (2 ^ 127 - 1)) ∙ (ap (λ (n : ℕ). min (n * c) (2 ^ 127 - 1)) same ∙ (cap_mul b c (2 ^ 127 - 1) ∙ ap capped (mul_comm b c))))
+
+cap_sum : (a b x y z w : ℕ) → capped a ≡ capped x → capped b ≡ capped y → x + y ≡ z → capped z ≡ capped w → capped (a + b) ≡ capped w
+cap_sum a b x y z w one two sums same = omega (arith, one, two, sums, same)
+
+pub behind_each : (tests extent count sum n t more new made : ℕ) → made ≡ capped (more + new) → more ≡ capped (extent * n) → new ≡ capped (tests * t)
+    → n ≡ count → t ≡ capped sum → made ≡ capped (extent * count + tests * sum)
+behind_each tests extent count sum n t more new made all old others counts sums =
+    let first : capped more ≡ capped (extent * count) = more_is (ap (λ (m : ℕ). capped (extent * m)) counts) in
+    let second : capped new ≡ capped (tests * sum) = new_is (mul_same t sum tests (capped_is t sum sums)) in
+    all ∙ cap_sum more new (extent * count) (tests * sum) (extent * count + tests * sum) (extent * count + tests * sum) first second refl refl
+  where
+    capped_is : (a b : ℕ) → a ≡ capped b → capped a ≡ capped b
+    capped_is a b e = omega (arith, e)
+
+    more_is : capped (extent * n) ≡ capped (extent * count) → capped more ≡ capped (extent * count)
+    more_is e = capped_is more (extent * n) old ∙ e
+
+    new_is : capped (tests * t) ≡ capped (tests * sum) → capped new ≡ capped (tests * sum)
+    new_is e = capped_is new (tests * t) others ∙ e
+
+both_behind : (extent tests count sum others more : ℕ)
+    → (extent * count + tests * sum) * others + tests * count * more ≡ extent * (count * others) + tests * (sum * others + count * more)
+both_behind extent tests count sum others more =
+    ap (λ (n : ℕ). n + tests * count * more) (add-mul (extent * count) (tests * sum) others)
+    ∙ add_up (extent * count * others) (tests * sum * others) (tests * count * more) (extent * (count * others)) (tests * (sum * others)) (tests * (count * more)) (tests * (sum * others + count * more))
+    (mul_assoc extent count others) (mul_assoc tests sum others) (mul_assoc tests count more) (mul-add tests (sum * others) (count * more))
+  where
+    add_up : (a b c d e f g : ℕ) → a ≡ d → b ≡ e → c ≡ f → g ≡ e + f → a + b + c ≡ d + g
+    add_up a b c d e f g p q r s = omega (arith, p, q, r, s)
+
+pub extended_turn : (vars : List Var) (action : Action) (parts : List Part) (i : ℕ) (x : Part) (f : Filling) (tests extent n counts new : ℕ)
+    → capped (extent * counted vars action (drop i parts) + tests * extended vars action (drop i parts)) ≡ capped (extended vars action parts) → i < length parts
+    → x ≡ get_or parts i x → IsFilling vars action x f → ((part : Part) → n ≡ length (fills part f)) → counts ≡ capped (tests * n)
+    → ((part : Part) → IsMeasured f → new ≡ capped (extent * length (fills part f) + tests * total length (fills part f)))
+    → capped (new * counted vars action (drop (i + 1) parts) + counts * extended vars action (drop (i + 1) parts)) ≡ capped (extended vars action parts)
+extended_turn vars action parts i x f tests extent n counts new same inside is filling many counted_so measures =
+    let others : ℕ = counted vars action (drop (i + 1) parts) in
+    let more : ℕ = extended vars action (drop (i + 1) parts) in
+    let count : ℕ = length (choices vars action x) in
+    let sum : ℕ = total length (choices vars action x) in
+    let front : drop i parts ≡ x ∷ drop (i + 1) parts = drop_more parts i x inside ∙ ap (λ (y : Part). y ∷ drop (i + 1) parts) (sym is) in
+    let here : n ≡ count = many x ∙ ap (λ (cs : List (List Part)). length cs) (sym filling.stands) in
+    let made : new ≡ capped (extent * count + tests * sum) =
+    measures x filling.measured ∙ ap (λ (cs : List (List Part)). capped (extent * length cs + tests * total length cs)) (sym filling.stands) in
+    let one : capped (new * others) ≡ capped ((extent * count + tests * sum) * others) =
+    ap (λ (m : ℕ). capped (m * others)) made ∙ cap_mul (extent * count + tests * sum) others (2 ^ 127 - 1) in
+    let two : capped (counts * more) ≡ capped (tests * count * more) =
+    ap (λ (m : ℕ). capped (m * more)) (counted_so ∙ ap (λ (m : ℕ). capped (tests * m)) here) ∙ cap_mul (tests * count) more (2 ^ 127 - 1) in
+    let left : capped (extent * (count * others) + tests * (sum * others + count * more)) ≡ capped (extended vars action parts) =
+    sym (ap (λ (ps : List Part). capped (extent * counted vars action ps + tests * extended vars action ps)) front) ∙ same in
+    cap_sum (new * others) (counts * more) ((extent * count + tests * sum) * others) (tests * count * more) (extent * (count * others) + tests * (sum * others + count * more))
+    (extended vars action parts) one two (both_behind extent tests count sum others more) left
+
+total_map : (x : List Part) (more : List (List Part)) → total length (map (λ rest. x ++ rest) more) ≡ length x * length more + total length more
+total_map x [] = let e = mul-zero (length x) in omega (arith, e)
+total_map x (m ∷ ms) =
+    let here = length-append x m in
+    let rest = total_map x ms in
+    let step = mul_suc (length x) (length ms) in
+    omega (arith, here, rest, step)
+  where
+    mul_suc : (n k : ℕ) → n * suc k ≡ n + n * k
+    mul_suc n k = omega arith
+
+total_crossed : (fronts more : List (List Part)) → total length (crossed fronts more) ≡ total length fronts * length more + length fronts * total length more
+total_crossed [] more = omega arith
+total_crossed (f ∷ fs) more =
+    let both = total_append (λ (p : List Part). length p) (map (λ rest. f ++ rest) more) (crossed fs more) in
+    let here = total_map f more in
+    let rest = total_crossed fs more in
+    let front = add-mul (length f) (total length fs) (length more) in
+    let step = suc_mul (length fs) (total length more) in
+    omega (arith, both, here, rest, front, step)
+
+-- what is reckoned is how many parts all fillings have together
+pub extended_is : (vars : List Var) (action : Action) (parts : List Part) → total length (filled vars action parts) ≡ extended vars action parts
+extended_is vars action [] = refl
+extended_is vars action (part ∷ parts) =
+    total_crossed (choices vars action part) (filled vars action parts)
+    ∙ (ap (λ (n : ℕ). total length (choices vars action part) * n + length (choices vars action part) * total length (filled vars action parts)) (counted_is vars action parts)
+    ∙ ap (λ (n : ℕ). total length (choices vars action part) * counted vars action parts + length (choices vars action part) * n) (extended_is vars action parts))

@@ -40,7 +40,7 @@ put_fills vars action name fillings.Run chosen put = record {
 put_fills vars action name (fillings.Values e) chosen put = record {
   stands = chosen_choices vars action name _ chosen put.0;
   lacks = chosen_lacks vars action name _ chosen put.0;
-  measured = put.1;
+  measured = (put.1, put.2);
 }
 put_fills vars action name fillings.Missing chosen put = record {
   stands = chosen_choices vars action name _ chosen put;

@@ -22,6 +22,10 @@ module _ {A B : Type 0} (f : A → B) (size : B → ℕ) where
       ap (λ (ys : List A). total size (map f ys)) (left_at xs i x inside is) in
       omega (arith, same, here, made, all)
 
+pub total_append : {A : Type 0} (size : A → ℕ) (xs ys : List A) → total size (xs ++ ys) ≡ total size xs + total size ys
+total_append size [] ys = omega arith
+total_append size (x ∷ xs) ys = let rest = total_append size xs ys in omega (arith, rest)
+
 -- Each becomes several.
 module _ {A B : Type 0} (f : A → List B) where
   pub flat_turn : (xs : List A) (i : ℕ) (x : A) (count n new : ℕ) → capped (count + length (flat_map f (drop i xs))) ≡ capped (length (flat_map f xs))
@@ -30,6 +34,16 @@ module _ {A B : Type 0} (f : A → List B) where
   flat_turn xs i x count n new same inside is here made =
       let all : length (flat_map f (drop i xs)) ≡ length (f x) + length (flat_map f (drop (i + 1) xs)) =
       ap (λ (ys : List A). length (flat_map f ys)) (left_at xs i x inside is) ∙ length-append (f x) (flat_map f (drop (i + 1) xs)) in
+      omega (arith, same, here, made, all)
+
+-- The sum of all that they become.
+module _ {A B : Type 0} (f : A → List B) (size : B → ℕ) where
+  pub flat_sum_turn : (xs : List A) (i : ℕ) (x : A) (count n new : ℕ) → capped (count + total size (flat_map f (drop i xs))) ≡ capped (total size (flat_map f xs))
+      → i < length xs → x ≡ get_or xs i x → n ≡ capped (total size (f x)) → new ≡ capped (count + n)
+      → capped (new + total size (flat_map f (drop (i + 1) xs))) ≡ capped (total size (flat_map f xs))
+  flat_sum_turn xs i x count n new same inside is here made =
+      let all : total size (flat_map f (drop i xs)) ≡ total size (f x) + total size (flat_map f (drop (i + 1) xs)) =
+      ap (λ (ys : List A). total size (flat_map f ys)) (left_at xs i x inside is) ∙ total_append size (f x) (flat_map f (drop (i + 1) xs)) in
       omega (arith, same, here, made, all)
 
 module _ {A : Type 0} (size : A → ℕ) where

@@ -23,6 +23,7 @@ use Rattle.pipeline_model.specs.declared.step.Action.TheVariants.{MapNames, Pref
 use Rattle.pipeline_model.specs.declared.step.Step.{Step}
 use Rattle.pipeline_names.specs.Sizes.{grown_refusal}
 use Rattle.pipeline_values.specs.Changed.{made_of, put_in, as_tests, changed_test, changed_value, acts_on_fields, changed_values, changed_item, changed_items, changed_detection, changed_detections}
+use Rattle.pipeline_values.specs.Extent.{extent_refusal}
 use Rattle.pipeline_values.specs.Filled.{is_chosen, filled, lacks_values}
 use Rattle.pipeline_values.specs.Grown.{leaves_open, is_open, open_item, open_items, open_detection, open_refusal, change_refusal}
 use Rattle.pipeline_values.specs.Unfilled.{is_filled_item, is_filled_detection, are_filled}
@@ -180,9 +181,9 @@ module _ (vars others : List Var) where
   pub refusal_same : (limits : Limits) (step : Step) (place : Place) (ds : List Detection) → are_filled ds ≡ true
       → change_refusal limits others step place ds ≡ change_refusal limits vars step place ds
   refusal_same limits step place ds all =
-      ap (λ (r : Option Refusal). first (r ∷ grown_refusal limits place (changed_detections others step ds) ∷ []))
+      ap (λ (r : Option Refusal). first (r ∷ grown_refusal limits place (changed_detections others step ds) ∷ extent_refusal limits place (changed_detections others step ds) ∷ []))
       (ap first (map_same is_filled_detection (open_detection others step) (open_detection vars step) (of_detection step) ds all))
-      ∙ ap (λ (made : List Detection). first (open_refusal vars step ds ∷ grown_refusal limits place made ∷ [])) (detections_same step ds all)
+      ∙ ap (λ (made : List Detection). first (open_refusal vars step ds ∷ grown_refusal limits place made ∷ extent_refusal limits place made ∷ [])) (detections_same step ds all)
 
 -- what is answered by one of two lists, and of two refusals, that are the same
 pub judged_same : (made other : List Detection) (refusal cause : Option Refusal) (result : Result (List Detection) Fault) → made ≡ other → refusal ≡ cause

@@ -24,6 +24,7 @@ use Rattle.pipeline_model.specs.declared.step.Action.{Action}
 use Rattle.pipeline_model.specs.declared.step.Step.{Step}
 use Rattle.pipeline_names.specs.Sizes.{grown_refusal}
 use Rattle.pipeline_values.specs.Changed.{made_of, is_cased, as_tests, changed_test, changed_value, acts_on_fields, changed_item, changed_items, changed_detection, changed_detections, changed}
+use Rattle.pipeline_values.specs.Extent.{extent_refusal}
 use Rattle.pipeline_values.specs.Grown.{is_open, are_open, open_item, open_items, open_detection, open_refusal, change_refusal}
 use Rattle.pipeline_values.specs.Kept.{MakesTests}
 use Rattle.pipeline_values.proofs.Plainness.{each_append, ArePlainParts, ArePut, has_plain_text, made_plain}
@@ -163,7 +164,7 @@ module _ (vars : List Var) (step : Step) (own : MakesTests vars step.action) whe
       → IsWhole (changed vars step rule)
   stays_whole limits rule whole none =
       let closed : open_refusal vars step rule.detections ≡ None =
-      (first_holds (open_refusal vars step rule.detections) (grown_refusal limits rule.head.place (changed_detections vars step rule.detections) ∷ []) none).0 in
+      (first_holds (open_refusal vars step rule.detections) (grown_refusal limits rule.head.place (changed_detections vars step rule.detections) ∷ extent_refusal limits rule.head.place (changed_detections vars step rule.detections) ∷ []) none).0 in
       record {
         detections =
             each_step IsWholeDetection (λ d. open_detection vars step d ≡ None) (changed_detection vars step) whole_detection rule.detections whole.detections

@@ -7,6 +7,7 @@ use Rattle.pipeline_model.specs.declared.pipeline.Var.{Var}
 use Rattle.pipeline_model.specs.declared.step.Action.{Action}
 use Rattle.pipeline_model.specs.declared.step.Action.TheVariants.{MapNames, Prefix, Suffix, MapPrefixes, Drop, Add, Source, MapTexts, FillHoles, WildHoles, FailRule, FailItem}
 use Rattle.pipeline_model.specs.declared.step.Pair.{Pair}
+use Rattle.pipeline_names.specs.Sizes.{total}
 
 -- the texts that take the place of a text: those of its first entry
 abbrev pub texts_for : List Pair → List ℕ → Option (List (List ℕ))
@@ -47,3 +48,7 @@ largest size (x ∷ xs) = max (size x) (largest size xs)
 -- how long the longest of the patterns is that texts are read as
 abbrev pub longest_of : List (List ℕ) → ℕ
 longest_of texts = largest length (patterns_of texts)
+
+-- how many parts the patterns have together that texts are read as
+abbrev pub extent_of : List (List ℕ) → ℕ
+extent_of texts = total length (patterns_of texts)

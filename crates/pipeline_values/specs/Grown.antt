@@ -18,6 +18,7 @@ use Rattle.pipeline_model.specs.declared.step.Step.{Step}
 use Rattle.pipeline_names.specs.Sizes.{grown_refusal}
 use Rattle.pipeline_values.specs.Filled.{lacks_values}
 use Rattle.pipeline_values.specs.Changed.{acts_on_fields, changed_detections}
+use Rattle.pipeline_values.specs.Extent.{extent_refusal}
 
 -- ---- a placeholder without values
 
@@ -68,6 +69,9 @@ open_refusal vars step ds = first_of (open_detection vars step) ds
 
 -- ---- growth
 
--- code 98 at an item, and then code 99 at the rule's place, of the whole rule that the step makes
+-- code 98 at an item, and then code 99 at the rule's place, of the whole rule that the step makes: of its names, its tests and each
+-- pattern, and then of all its patterns together
 abbrev pub change_refusal : Limits → List Var → Step → Place → List Detection → Option Refusal
-change_refusal limits vars step place ds = first (open_refusal vars step ds ∷ grown_refusal limits place (changed_detections vars step ds) ∷ [])
+change_refusal limits vars step place ds = first (
+    open_refusal vars step ds ∷ grown_refusal limits place (changed_detections vars step ds) ∷ extent_refusal limits place (changed_detections vars step ds) ∷ []
+    )

@@ -2,6 +2,7 @@ pub mod Counts
 pub mod Entries
 pub mod Filled
 pub mod Changed
+pub mod Extent
 pub mod Grown
 pub mod Longest
 pub mod Made

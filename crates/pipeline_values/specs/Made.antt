@@ -13,8 +13,9 @@ use Rattle.pipeline_values.specs.declared.filling.Filling.{Filling}
 use Rattle.pipeline_values.specs.declared.filling.Filling.TheVariants as fillings
 use Rattle.pipeline_values.specs.declared.growth.Growth.{Growth}
 use Rattle.pipeline_values.specs.declared.growth.Size.{Size}
+use Rattle.pipeline_names.specs.Sizes.{total}
 use Rattle.pipeline_values.specs.Counts.{capped}
-use Rattle.pipeline_values.specs.Entries.{patterns_of, longest_of, largest}
+use Rattle.pipeline_values.specs.Entries.{patterns_of, longest_of, extent_of, largest}
 use Rattle.pipeline_values.specs.Filled.{choices, lacks_values}
 
 -- ---- entries
@@ -22,20 +23,23 @@ use Rattle.pipeline_values.specs.Filled.{choices, lacks_values}
 abbrev pub froms_of : List Pair → List (List ℕ)
 froms_of pairs = map (λ pair. pair.from) pairs
 
--- an entry's texts, and how long the longest pattern is that they're read as
-abbrev pub found_of : Pair → List (List ℕ) × ℕ
-found_of pair = (pair.to, longest_of pair.to)
+-- texts, and how long the longest of the patterns is that they're read as, and all together
+abbrev pub texts_view : List (List ℕ) → List (List ℕ) × ℕ × ℕ
+texts_view texts = (texts, longest_of texts, capped (extent_of texts))
 
-abbrev pub entry_view : Entry → List (List ℕ) × ℕ
-entry_view e = (e.texts.now, e.longest)
+abbrev pub found_of : Pair → List (List ℕ) × ℕ × ℕ
+found_of pair = texts_view pair.to
 
-abbrev pub entries_view : List Entry → List (List (List ℕ) × ℕ)
+abbrev pub entry_view : Entry → List (List ℕ) × ℕ × ℕ
+entry_view e = (e.texts.now, e.longest, e.extent)
+
+abbrev pub entries_view : List Entry → List (List (List ℕ) × ℕ × ℕ)
 entries_view entries = map entry_view entries
 
 -- the entry that was found
 abbrev pub IsFound : Option (List (List ℕ)) → Option Entry → Type 0
 IsFound wanted None = wanted ≡ None
-IsFound wanted (Some e) = (wanted ≡ Some e.texts.now) × (e.longest ≡ longest_of e.texts.now)
+IsFound wanted (Some e) = (wanted ≡ Some e.texts.now) × (e.longest ≡ longest_of e.texts.now) × (e.extent ≡ capped (extent_of e.texts.now))
 
 -- the names that a choice gives
 abbrev pub names_given : Choice → List (List ℕ)
@@ -74,7 +78,7 @@ is_missing_filling fillings.Missing = true
 abbrev pub IsMeasured : Filling → Type 0
 IsMeasured fillings.Itself = ⊤
 IsMeasured fillings.Run = ⊤
-IsMeasured (fillings.Values e) = e.longest ≡ longest_of e.texts.now
+IsMeasured (fillings.Values e) = (e.longest ≡ longest_of e.texts.now) × (e.extent ≡ capped (extent_of e.texts.now))
 IsMeasured fillings.Missing = ⊤
 
 pub record IsFilling (vars : List Var) (action : Action) (part : Part) (f : Filling) : Type 0 where
@@ -86,7 +90,7 @@ pub record IsFilling (vars : List Var) (action : Action) (part : Part) (f : Fill
 abbrev pub IsPut : Option (List (List Part)) → Filling → Type 0
 IsPut wanted fillings.Itself = ⊥
 IsPut wanted fillings.Run = wanted ≡ Some ((pieces.Run ∷ []) ∷ [])
-IsPut wanted (fillings.Values e) = (wanted ≡ Some (patterns_of e.texts.now)) × (e.longest ≡ longest_of e.texts.now)
+IsPut wanted (fillings.Values e) = (wanted ≡ Some (patterns_of e.texts.now)) × (e.longest ≡ longest_of e.texts.now) × (e.extent ≡ capped (extent_of e.texts.now))
 IsPut wanted fillings.Missing = wanted ≡ None
 
 -- ---- counting
@@ -101,6 +105,12 @@ abbrev pub summed : List Var → Action → List Part → ℕ
 summed vars action [] = 0
 summed vars action (part ∷ parts) = largest length (choices vars action part) + summed vars action parts
 
+-- how long they are together: each choice with each pattern behind it, and each pattern behind each choice
+abbrev pub extended : List Var → Action → List Part → ℕ
+extended vars action [] = 0
+extended vars action (part ∷ parts) =
+    total length (choices vars action part) * counted vars action parts + length (choices vars action part) * extended vars action parts
+
 abbrev pub made_count : Option (List (List Part)) → ℕ
 made_count None = 1
 made_count (Some patterns) = length patterns
@@ -110,8 +120,13 @@ abbrev pub longest_made : List Part → Option (List (List Part)) → ℕ
 longest_made parts None = length parts
 longest_made parts (Some patterns) = largest length patterns
 
-abbrev pub IsGrowth : (tests longest : ℕ) → Bool → Growth → Type 0
-IsGrowth tests longest lacking g = (g.tests ≡ capped tests) × (g.longest ≡ capped longest) × (g.lacking ≡ lacking)
+-- how long they are together
+abbrev pub extent_made : List Part → Option (List (List Part)) → ℕ
+extent_made parts None = length parts
+extent_made parts (Some patterns) = total length patterns
 
-abbrev pub IsSize : (names tests longest : ℕ) → Size → Type 0
-IsSize names tests longest s = (s.names ≡ capped names) × (s.tests ≡ capped tests) × (s.longest ≡ capped longest)
+abbrev pub IsGrowth : (tests longest extent : ℕ) → Bool → Growth → Type 0
+IsGrowth tests longest extent lacking g = (g.tests ≡ capped tests) × (g.longest ≡ capped longest) × (g.extent ≡ capped extent) × (g.lacking ≡ lacking)
+
+abbrev pub IsSize : (names tests longest extent : ℕ) → Size → Type 0
+IsSize names tests longest extent s = (s.names ≡ capped names) × (s.tests ≡ capped tests) × (s.longest ≡ capped longest) × (s.extent ≡ capped extent)

@@ -7,7 +7,7 @@ ghost use Rattle.pipeline_values.specs.Entries as spec;
 ghost use Rattle.pipeline_values.specs.Made.{froms_of, found_of, entries_view, names_chosen, names_given, IsFound};
 
 use crate::entry::Entry;
-use crate::reading::longest_of;
+use crate::reading::measured;
 use pipeline_model::{Action, Choice, Pair, Var};
 use sig_base::{Fault, Text, Texts, TryCopy};
 use std::alloc::Global;
@@ -62,9 +62,7 @@ fn list_targets<'s>(alloc: Global, pairs: &'s [Pair]) -> Result<Vec<Entry<'s>>, 
 {
     let mut all = Vec::with_capacity(alloc, pairs.len())?;
     for pair in pairs {
-        let texts = pair.to.as_slice();
-        let longest = longest_of(alloc, texts)?;
-        all.push(Entry { texts, longest })?;
+        all.push(measured(alloc, pair.to.as_slice())?)?;
     }
     Ok(all)
 }
@@ -75,9 +73,7 @@ fn list_values<'s>(alloc: Global, vars: &'s [Var]) -> Result<Vec<Entry<'s>>, Fau
 {
     let mut all = Vec::with_capacity(alloc, vars.len())?;
     for var in vars {
-        let texts = var.values.as_slice();
-        let longest = longest_of(alloc, texts)?;
-        all.push(Entry { texts, longest })?;
+        all.push(measured(alloc, var.values.as_slice())?)?;
     }
     Ok(all)
 }

@@ -2,6 +2,8 @@
 
 ghost use Rattle.std.specs.Prelude.{◌≡◌, length};
 ghost use Rattle.sig_strings.specs.declared.part.Part.{Part};
+ghost use Rattle.pipeline_names.specs.Sizes.{total};
+ghost use Rattle.pipeline_values.specs.Counts.{capped};
 ghost use Rattle.pipeline_values.specs.Entries.{largest};
 ghost use Rattle.pipeline_values.specs.Made.{fills, is_missing_filling, IsMeasured};
 
@@ -36,6 +38,17 @@ impl<'s> Filling<'s> {
         match self {
             Filling::Itself | Filling::Run => 1,
             Filling::Values(entry) => entry.longest,
+            Filling::Missing => 0,
+        }
+    }
+
+    /// How many parts they have together.
+    pub fn extent(&self) -> u128
+        ensures { (part : Part) → IsMeasured self.now → result ≡ capped (total length (fills part self.now)) }
+    {
+        match self {
+            Filling::Itself | Filling::Run => 1,
+            Filling::Values(entry) => entry.extent,
             Filling::Missing => 0,
         }
     }

@@ -6,21 +6,23 @@ ghost use Rattle.pipeline_values.specs.Counts.{capped};
 /// The greatest number that is counted.
 const MOST: u128 = i128::MAX as u128;
 
-/// How many tests take the place of some, how many parts their longest pattern has, and whether a placeholder that is chosen has
-/// no variable.
+/// How many tests take the place of some, how many parts their longest pattern has and all patterns together, and whether a
+/// placeholder that is chosen has no variable.
 #[derive(Clone, Copy)]
 pub struct Growth {
     pub tests: u128,
     pub longest: u128,
+    pub extent: u128,
     pub lacking: bool,
 }
 
-/// How many names and tests some items have, and how many parts their longest pattern has.
+/// How many names and tests some items have, and how many parts their longest pattern has and all patterns together.
 #[derive(Clone, Copy)]
 pub struct Size {
     pub names: u128,
     pub tests: u128,
     pub longest: u128,
+    pub extent: u128,
 }
 
 pub fn add(count: u128, more: u128) -> u128

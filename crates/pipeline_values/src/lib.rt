@@ -18,5 +18,3 @@ mod made;
 mod measuring;
 mod reading;
 mod sizes;
-#[cfg(test)]
-mod tests;

@@ -5,8 +5,11 @@ ghost use Rattle.std.specs.Str.{chars};
 ghost use Rattle.sig_strings.specs.Spells.{is_special};
 ghost use Rattle.value_patterns.specs.Parts.{parts_of};
 ghost use Rattle.pipeline_values.specs.Entries as spec;
+ghost use Rattle.pipeline_values.specs.Made.{entry_view, texts_view};
 ghost use Rattle.pipeline_values.specs.Read.{plain_part};
 
+use crate::entry::Entry;
+use crate::growth::add;
 use sig_base::{Fault, Sequence, Text, first_char};
 use sig_strings::Part;
 use std::alloc::Global;
@@ -90,15 +93,22 @@ pub fn read_values(alloc: Global, texts: &[Text]) -> Result<Vec<Front>, Fault>
     Ok(all)
 }
 
-/// How many parts the longest of the patterns has that texts spell.
-pub fn longest_of(alloc: Global, texts: &[Text]) -> Result<usize, Fault>
-    ensures ok { IfOk result (λ longest. longest ≡ spec.longest_of texts.now) }
+/// The entry of texts, each of which is read here once.
+pub fn measured<'s>(alloc: Global, texts: &'s [Text]) -> Result<Entry<'s>, Fault>
+    ensures ok { IfOk result (λ e. entry_view e ≡ texts_view texts.now) }
     ensures err { IfErr result (λ e. e ≡ Fault.Memory) }
 {
     let mut longest = 0;
+    let mut extent = 0;
     for text in texts {
         let read = read_value(alloc, text)?;
-        longest = longest.max(read.as_slice().len());
+        let count = read.as_slice().len();
+        longest = longest.max(count);
+        extent = add(extent, count as u128);
     }
-    Ok(longest)
+    Ok(Entry {
+        texts,
+        longest,
+        extent,
+    })
 }

@@ -8,5 +8,3 @@ pub use law::refused_where_unbuilt;
 mod building;
 mod finding;
 mod law;
-#[cfg(test)]
-mod tests;

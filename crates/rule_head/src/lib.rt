@@ -9,5 +9,3 @@ mod copies;
 mod dates;
 mod head;
 mod source;
-#[cfg(test)]
-mod tests;

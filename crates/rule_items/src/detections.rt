@@ -20,9 +20,6 @@ use yaml_tree::{
     Entry, Node, all_entries, entries_of, is_empty, is_map, is_null, is_scalar, parts_of, place_of,
 };
 
-#[cfg(test)]
-mod tests;
-
 /// The items of entries.
 fn read_items(
     alloc: Global,

@@ -12,6 +12,4 @@ mod law;
 mod leaf_tests;
 mod lowering;
 mod rule;
-#[cfg(test)]
-mod tests;
 mod whole;

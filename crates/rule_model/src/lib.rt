@@ -12,5 +12,3 @@ mod copies;
 mod expressions;
 mod law;
 mod rule;
-#[cfg(test)]
-mod rule_tests;

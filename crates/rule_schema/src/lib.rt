@@ -12,5 +12,3 @@ mod law;
 mod names;
 mod schema;
 mod seen;
-#[cfg(test)]
-mod tests;

@@ -32,7 +32,5 @@ mod refusal;
 mod sequence;
 mod shelf;
 mod streams;
-#[cfg(test)]
-mod tests;
 mod text;
 mod texts;

@@ -29,7 +29,5 @@ mod scan;
 mod selector;
 mod stop;
 mod taking;
-#[cfg(test)]
-mod tests;
 mod unresolved;
 mod word;

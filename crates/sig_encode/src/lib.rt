@@ -6,8 +6,6 @@ mod law;
 mod network;
 mod patterns;
 mod reading;
-#[cfg(test)]
-mod tests;
 mod utf16;
 
 pub use encoding::{base64_text, offset_pieces};

@@ -5,14 +5,10 @@ pub use law::{keyword_tests, one_tests, plain_tests, some_test, tests_or_refusal
 pub use resolving::resolve;
 pub use test::{Test, Tests};
 
-#[cfg(test)]
-mod checks;
 mod copying;
 mod expressions;
 mod filling;
 mod holding;
-#[cfg(test)]
-mod holding_checks;
 mod law;
 mod resolving;
 mod test;

@@ -11,8 +11,6 @@ mod pattern;
 mod reading;
 mod shared;
 mod sign;
-#[cfg(test)]
-mod tests;
 mod writing;
 
 pub use law::{joined_fits, one_pattern, plain_fits, runs_fit, stays_written};

@@ -13,7 +13,5 @@ mod gathering;
 mod query;
 mod seen;
 mod testing;
-#[cfg(test)]
-mod tests;
 mod truth;
 mod value;

@@ -4,8 +4,6 @@
 mod glob;
 mod law;
 mod like;
-#[cfg(test)]
-mod tests;
 
 pub use glob::is_glob;
 pub use law::{glob_means, like_means};

@@ -5,8 +5,6 @@ mod leaves;
 mod passing;
 mod placing;
 mod reading;
-#[cfg(test)]
-mod tests;
 mod walking;
 
 pub use reading::read_select;

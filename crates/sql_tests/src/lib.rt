@@ -9,8 +9,6 @@ mod kinds;
 mod like;
 mod making;
 mod naming;
-#[cfg(test)]
-mod tests;
 
 pub use columns::Columns;
 pub use depth::is_too_deep;

@@ -4,22 +4,14 @@
 
 mod backend;
 mod deep;
-#[cfg(test)]
-mod field_tests;
 mod fields;
 mod guarding;
-#[cfg(test)]
-mod lack_tests;
 mod lacking;
 mod law;
-#[cfg(test)]
-mod number_tests;
 mod patterns;
 mod place;
 mod putting;
 mod sizing;
-#[cfg(test)]
-mod tests;
 mod tests_of;
 mod walk;
 mod writer;

@@ -4,5 +4,3 @@
 pub use index::TextIndex;
 
 mod index;
-#[cfg(test)]
-mod tests;

@@ -7,8 +7,6 @@ mod encoding;
 mod expressions;
 mod law;
 mod reading;
-#[cfg(test)]
-mod tests;
 
 pub use expressions::{expression_text, read_expression};
 pub use law::{

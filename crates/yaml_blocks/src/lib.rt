@@ -7,6 +7,4 @@ pub mod laws;
 pub mod lines;
 pub mod plain;
 pub mod scalar;
-#[cfg(test)]
-mod tests;
 mod texts;

@@ -6,5 +6,3 @@ pub use file::read_documents;
 mod document;
 mod file;
 pub mod laws;
-#[cfg(test)]
-mod tests;

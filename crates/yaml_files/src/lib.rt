@@ -10,6 +10,4 @@ pub mod codes;
 mod documents;
 mod lines;
 mod refusal;
-#[cfg(test)]
-mod tests;
 mod text;

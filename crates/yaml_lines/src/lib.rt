@@ -14,6 +14,4 @@ pub mod quote;
 pub mod room;
 pub mod scan;
 mod seen;
-#[cfg(test)]
-mod tests;
 pub mod word;

@@ -7,5 +7,3 @@ pub use node::read_block;
 mod inside;
 mod node;
 mod scalar_or_flow;
-#[cfg(test)]
-mod tests;

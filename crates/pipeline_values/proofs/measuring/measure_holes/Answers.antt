@@ -11,6 +11,6 @@ returns-clause-ok c =
     let told =
     longest_told c.args.change.now.vars.now c.args.change.now.step.now.action c.args.parts.now _ _ c.in_ok-growth.ensures.tests c.in_ok-growth.ensures.longest in
     let both =
-    filled_growth c.args.change.now.vars.now c.args.change.now.step.now.action c.args.parts.now _ _ (sym c.in_ok-has_chosen.ensures.ok ∙ c.if-not-branch.false)
-    c.in_ok-growth.ensures.tests (c.longest_of-longest.ensures ∙ told) in
-    (both.0, both.1, c.in_ok-growth.ensures.lacking)
+    filled_growth c.args.change.now.vars.now c.args.change.now.step.now.action c.args.parts.now _ _ _ (sym c.in_ok-has_chosen.ensures.ok ∙ c.if-not-branch.false)
+    c.in_ok-growth.ensures.tests (c.longest_of-longest.ensures ∙ told) c.in_ok-growth.ensures.extent in
+    (both.0, both.1, both.2, c.in_ok-growth.ensures.lacking)

@@ -3,6 +3,7 @@ use Rattle.pipeline_values.specs.Counts.{capped}
 use Rattle.pipeline_names.specs.Sizes.{total}
 use Rattle.pipeline_values.specs.Entries.{largest}
 use Rattle.pipeline_values.specs.Longest.{longest_value}
+use Rattle.pipeline_values.specs.Extent.{value_extent}
 use Rattle.pipeline_values.proofs.measuring.measure_kept.Given as goal
 
 abbrev pub invariant-loop-value : goal.invariant-loop-value
@@ -11,4 +12,6 @@ invariant-loop-value l = record {
   short : l.longest ≤ 2 ^ 127 - 1;
   sum : capped (l.tests + total length (drop l.value-index l.values)) ≡ capped (total length l.values);
   most : capped (max l.longest (largest longest_value (drop l.value-index l.values))) ≡ capped (largest longest_value l.values);
+  narrow : l.extent ≤ 2 ^ 127 - 1;
+  all : capped (l.extent + total value_extent (drop l.value-index l.values)) ≡ capped (total value_extent l.values);
 }

@@ -6,6 +6,7 @@ use Rattle.pipeline_names.specs.Sizes.{total}
 use Rattle.pipeline_values.specs.Changed.{changed_value}
 use Rattle.pipeline_values.specs.Entries.{largest}
 use Rattle.pipeline_values.specs.Longest.{longest_value}
+use Rattle.pipeline_values.specs.Extent.{value_extent}
 use Rattle.pipeline_values.specs.Grown.{is_open}
 use Rattle.pipeline_values.proofs.measuring.measure_values.Given as goal
 
@@ -15,5 +16,7 @@ invariant-loop-value l = record {
   short : l.longest ≤ 2 ^ 127 - 1;
   sum : capped (l.tests + total length (map (changed_value l.change.vars.now l.change.step.now.action) (drop l.value-index l.values))) ≡ capped (total length (map (changed_value l.change.vars.now l.change.step.now.action) l.values));
   most : capped (max l.longest (largest longest_value (map (changed_value l.change.vars.now l.change.step.now.action) (drop l.value-index l.values)))) ≡ capped (largest longest_value (map (changed_value l.change.vars.now l.change.step.now.action) l.values));
+  narrow : l.extent ≤ 2 ^ 127 - 1;
+  all : capped (l.extent + total value_extent (map (changed_value l.change.vars.now l.change.step.now.action) (drop l.value-index l.values))) ≡ capped (total value_extent (map (changed_value l.change.vars.now l.change.step.now.action) l.values));
   lacking : (l.lacking || list_any (list_any (is_open l.change.vars.now l.change.step.now.action)) (drop l.value-index l.values)) ≡ list_any (list_any (is_open l.change.vars.now l.change.step.now.action)) l.values;
 }

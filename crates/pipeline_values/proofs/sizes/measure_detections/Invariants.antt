@@ -4,6 +4,7 @@ use Rattle.pipeline_names.specs.Sizes.{total, in_detection, name_count, test_cou
 use Rattle.pipeline_values.specs.Changed.{changed_detection}
 use Rattle.pipeline_values.specs.Entries.{largest}
 use Rattle.pipeline_values.specs.Longest.{longest_detection}
+use Rattle.pipeline_values.specs.Extent.{item_extent}
 use Rattle.pipeline_values.specs.Grown.{open_detection, first_of}
 use Rattle.pipeline_values.proofs.sizes.measure_detections.Given as goal
 
@@ -15,5 +16,7 @@ invariant-loop-detection l = record {
   names : capped (l.size.names + total (in_detection name_count) (map (changed_detection l.change.vars.now l.change.step.now) (drop l.detection-index l.detections))) ≡ capped (total (in_detection name_count) (map (changed_detection l.change.vars.now l.change.step.now) l.detections));
   tests : capped (l.size.tests + total (in_detection test_count) (map (changed_detection l.change.vars.now l.change.step.now) (drop l.detection-index l.detections))) ≡ capped (total (in_detection test_count) (map (changed_detection l.change.vars.now l.change.step.now) l.detections));
   most : capped (max l.size.longest (largest longest_detection (map (changed_detection l.change.vars.now l.change.step.now) (drop l.detection-index l.detections)))) ≡ capped (largest longest_detection (map (changed_detection l.change.vars.now l.change.step.now) l.detections));
+  narrow : l.size.extent ≤ 2 ^ 127 - 1;
+  all : capped (l.size.extent + total (in_detection item_extent) (map (changed_detection l.change.vars.now l.change.step.now) (drop l.detection-index l.detections))) ≡ capped (total (in_detection item_extent) (map (changed_detection l.change.vars.now l.change.step.now) l.detections));
   first : first_of (open_detection l.change.vars.now l.change.step.now) (drop l.detection-index l.detections) ≡ first_of (open_detection l.change.vars.now l.change.step.now) l.detections;
 }

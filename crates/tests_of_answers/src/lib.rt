@@ -1,0 +1,7 @@
+//! Tests of answering and following lines.
+#![tactic(auto)]
+
+#[cfg(test)]
+mod answering;
+#[cfg(test)]
+mod following;

@@ -1,0 +1,23 @@
+//! Tests of texts, patterns, encodings, conditions, words of the command line and what else the lowest crates offer.
+#![tactic(auto)]
+
+#[cfg(test)]
+mod base;
+#[cfg(test)]
+mod conditions;
+#[cfg(test)]
+mod dashes;
+#[cfg(test)]
+mod encodings;
+#[cfg(test)]
+mod indexes;
+#[cfg(test)]
+mod lines;
+#[cfg(test)]
+mod numbers;
+#[cfg(test)]
+mod strings;
+#[cfg(test)]
+mod trees;
+#[cfg(test)]
+mod words;

@@ -1,0 +1,149 @@
+//! Lines of a source, read as events.
+
+use event_lines::LineReader;
+use event_reading::{read_event, read_schema};
+use event_schema::{Event, Schema, Value};
+use sig_base::{Bytes, Fault, Limits, LineStep, MemorySource};
+use std::alloc::Global;
+use std::test::Fail;
+
+/// Adds the number of a line, and the value of its one field or the code for which it's refused.
+fn push_event(
+    alloc: Global,
+    all: &mut String,
+    number: u32,
+    read: Result<Event, Fault>,
+) -> Result<(), Fail> {
+    all.push_str(format!(in alloc; "{number}")?.as_str())?;
+    match read {
+        Ok(event) => match event.get(0) {
+            Some(value) => all.push_str(format!(in alloc;
+                "={} ",
+                value.text(alloc)?.as_str()
+            )?.as_str())?,
+            None => all.push_str("= ")?,
+        },
+        Err(fault) => {
+            let Fault::Refused(refusal) = &fault else {
+                return Err(Fail::from(fault));
+            };
+            let place = refusal.place;
+            let code = refusal.code;
+            all.push_str(format!(in alloc;
+                ":{}:{}: {} {} ",
+                place.line,
+                place.column,
+                code.number(),
+                code.name()
+            )?
+            .as_str())?;
+        }
+    }
+    Ok(())
+}
+
+/// What the lines of an input are read as, which a source gives in pieces of so many bytes at most.
+fn told(
+    alloc: Global,
+    schema: &Schema,
+    input: &str,
+    most: usize,
+    limits: &Limits,
+) -> Result<String, Fail> {
+    let bytes = Bytes::copy(alloc, input.as_bytes())?;
+    let mut source = MemorySource::new(bytes, most.max(1), Vec::new(alloc));
+    let mut reader = LineReader::new(alloc, limits)?;
+    let mut all = String::new(alloc);
+    for _turn in 0..12 {
+        match reader.next_line(&mut source) {
+            Ok(LineStep::Line { number, bytes }) => push_event(
+                alloc,
+                &mut all,
+                number,
+                read_event(alloc, schema, number, bytes.as_slice()),
+            )?,
+            Ok(LineStep::TooLong { number }) => {
+                all.push_str(format!(in alloc; "{number} too long ")?.as_str())?;
+            }
+            Ok(LineStep::TooMuch { number }) => {
+                all.push_str(format!(in alloc; "{number} too much ")?.as_str())?;
+            }
+            Ok(LineStep::End) => {
+                all.push_str("end")?;
+                return Ok(all);
+            }
+            Err(_) => all.push_str("fault ")?,
+        }
+    }
+    Ok(all)
+}
+
+fn schema_of(alloc: Global, text: &str) -> Result<Schema, Fail> {
+    match read_schema(alloc, &Limits::standard(), text.as_bytes()) {
+        Ok(schema) => Ok(schema),
+        Err(fault) => Err(Fail::from(fault)),
+    }
+}
+
+const IMAGE: &str = r#"{"fields":[{"name":"Image","kind":"text"}]}"#;
+
+const IMAGES: &str = r#"{"Image":"CMD.EXE"}
+{"Image":
+{"Image":9223372036854775808}
+{"Image":"a\u0000"}
+{"Image":"x"}"#;
+
+#[test]
+fn lines_are_events_or_refused(rt: HostRuntime) -> Result<(), Fail> {
+    let alloc = rt.alloc();
+    let schema = schema_of(alloc, IMAGE)?;
+    for most in [1, 2, 3, 65_536] {
+        let got = told(alloc, &schema, IMAGES, most, &Limits::standard())?;
+        assert_eq!(rt;
+            got.as_str(),
+            "1=CMD.EXE 2:2:1: 25 EventJson 3:3:1: 27 EventRange 4:4:1: 28 EventNul 5=x end"
+        );
+        let got = told(alloc, &schema, "", most, &Limits::standard())?;
+        assert_eq!(rt; got.as_str(), "end");
+    }
+    Ok(())
+}
+
+#[test]
+fn long_lines(rt: HostRuntime) -> Result<(), Fail> {
+    let alloc = rt.alloc();
+    let schema = schema_of(alloc, IMAGE)?;
+    let mut limits = Limits::standard();
+    limits.line_bytes = 8;
+    let got = told(alloc, &schema, IMAGES, 65_536, &limits)?;
+    assert_eq!(rt;
+        got.as_str(),
+        "1 too long 2 too long 3 too long 4 too long 5 too long end"
+    );
+    limits.line_bytes = 13;
+    let got = told(alloc, &schema, IMAGES, 65_536, &limits)?;
+    assert_eq!(rt;
+        got.as_str(),
+        "1 too long 2:2:1: 25 EventJson 3 too long 4 too long 5=x end"
+    );
+    Ok(())
+}
+
+/// Of keys that are equal the last counts, at each step and whatever the first one has.
+#[test]
+fn equal_keys(rt: HostRuntime) -> Result<(), Fail> {
+    let alloc = rt.alloc();
+    let schema = schema_of(
+        alloc,
+        r#"{"fields":[{"name":"N","kind":"text","kind":"whole","at":["a","b"]}]}"#,
+    )?;
+    let input = r#"{"a":{"b":1,"b":2}}
+{"a":{"b":1},"a":{"b":2}}
+{"a":{"b":1},"a":{"c":2}}
+{"a":{"b":1},"\u0061":{"b":3}}
+{"a":{"b":"x"},"a":{"b":2}}
+{"a":{"b":1},"a":{"b":"x"}}"#;
+    let got = told(alloc, &schema, input, 65_536, &Limits::standard())?;
+    assert_eq!(rt; got.as_str(), "1=2 2=2 3= 4=3 5=2 6:6:1: 26 EventKind end");
+    Ok(())
+}

@@ -1,0 +1,311 @@
+//! The reader, by hand.
+
+ghost use Rattle.std.specs.Prelude.{◌≤◌};
+
+use event_schema::{Field, FieldKind, FieldList, Schema};
+use lucene_lang::{Atom, Clause, Glyph, Group, Sought, Word};
+use lucene_read::read_query;
+use sig_base::{Fault, Limits, Text, Texts};
+use std::alloc::Global;
+use std::test::Fail;
+
+fn field(alloc: Global, name: &str, kind: FieldKind, cased: bool) -> Result<Field, Fail> {
+    Ok(Field {
+        name: Text::copy(alloc, name)?,
+        kind,
+        at: Texts::new(alloc),
+        search: false,
+        cased,
+        many: false,
+    })
+}
+
+/// `a` of texts, `n` of whole numbers, and `c`, which keeps its case.
+fn schema(alloc: Global) -> Result<Schema, Fail> {
+    let mut fields = FieldList::new(alloc);
+    fields.push(field(alloc, "a", FieldKind::Text, false)?)?;
+    fields.push(field(alloc, "n", FieldKind::Whole, false)?)?;
+    fields.push(field(alloc, "c", FieldKind::Text, true)?)?;
+    Ok(Schema {
+        table: Text::copy(alloc, "events")?,
+        fields,
+        time: None,
+    })
+}
+
+fn show_number(alloc: Global, shown: &mut Text, number: i64) -> Result<(), Fail> {
+    let decimal = format!(in alloc; "{number}")?;
+    shown.push_str(decimal.as_str())?;
+    Ok(())
+}
+
+fn show_end(alloc: Global, shown: &mut Text, end: Option<i64>) -> Result<(), Fail> {
+    match end {
+        Some(number) => show_number(alloc, shown, number),
+        None => {
+            shown.push('*')?;
+            Ok(())
+        }
+    }
+}
+
+/// A wildcard between angles, and each other character as it is.
+fn show_glyphs(shown: &mut Text, glyphs: &[Glyph]) -> Result<(), Fail> {
+    for glyph in glyphs {
+        match glyph {
+            Glyph::Char(c) => shown.push(*c)?,
+            Glyph::One => shown.push_str("<?>")?,
+            Glyph::Run => shown.push_str("<*>")?,
+        }
+    }
+    Ok(())
+}
+
+/// `=term`, `="phrase"`, or a range in its brackets.
+fn show_sought(alloc: Global, shown: &mut Text, sought: &Sought) -> Result<(), Fail> {
+    match sought {
+        Sought::Term(glyphs) => {
+            shown.push('=')?;
+            show_glyphs(shown, glyphs.as_slice())
+        }
+        Sought::Phrase(text) => {
+            shown.push_str("=\"")?;
+            shown.push_str(text.as_str())?;
+            shown.push('"')?;
+            Ok(())
+        }
+        Sought::Range {
+            low,
+            low_in,
+            high,
+            high_in,
+        } => {
+            shown.push(if *low_in { '[' } else { '{' })?;
+            show_end(alloc, shown, *low)?;
+            shown.push_str("..")?;
+            show_end(alloc, shown, *high)?;
+            shown.push(if *high_in { ']' } else { '}' })?;
+            Ok(())
+        }
+    }
+}
+
+/// `*:*`, a group, or a field's number, `c` for its twin, and what is sought.
+#[cycle(showing)]
+fn show_atom(alloc: Global, shown: &mut Text, atom: &Atom) -> Result<(), Fail> {
+    match atom {
+        Atom::Everything => {
+            shown.push_str("*:*")?;
+            Ok(())
+        }
+        Atom::Group(group) => show_group(alloc, shown, group),
+        Atom::Field {
+            field,
+            cased,
+            value,
+        } => {
+            show_number(alloc, shown, i64::from(*field))?;
+            shown.push_str(if *cased { "c" } else { "" })?;
+            show_sought(alloc, shown, value)
+        }
+    }
+}
+
+/// Each clause behind a blank, and behind a minus where it has NOT.
+#[cycle(showing)]
+fn show_clauses(alloc: Global, shown: &mut Text, clauses: &[Clause]) -> Result<(), Fail> {
+    for clause in clauses {
+        shown.push_str(if clause.negated { " -" } else { " " })?;
+        show_atom(alloc, shown, &clause.atom)?;
+    }
+    Ok(())
+}
+
+/// The word and the clauses of a group, in parentheses.
+#[cycle(showing)]
+fn show_group(alloc: Global, shown: &mut Text, group: &Group) -> Result<(), Fail> {
+    shown.push_str(match group.word {
+        Word::And => "(and",
+        Word::Or => "(or",
+    })?;
+    show_clauses(alloc, shown, group.clauses.as_slice())?;
+    shown.push(')')?;
+    Ok(())
+}
+
+fn show_fault(alloc: Global, shown: &mut Text, fault: &Fault) -> Result<(), Fail> {
+    let Fault::Refused(refusal) = fault else {
+        shown.push_str("no memory")?;
+        return Ok(());
+    };
+    let code = refusal.code.number();
+    let line = refusal.place.line;
+    let column = refusal.place.column;
+    let told = format!(in alloc; "{code} at {line}:{column}")?;
+    shown.push_str(told.as_str())?;
+    Ok(())
+}
+
+/// What is read within so many parentheses, or the refusal with its place.
+fn told(alloc: Global, depth: usize, bytes: &[u8]) -> Result<Text, Fail>
+    requires depth { (1 ≤ depth) × (depth ≤ 1000) }
+{
+    let mut shown = Text::new(alloc);
+    let schema = schema(alloc)?;
+    let mut limits = Limits::standard();
+    limits.lucene_depth = depth;
+    if bytes.len() > limits.query_bytes {
+        return Ok(shown);
+    }
+    match read_query(alloc, &limits, &schema, bytes) {
+        Ok(group) => show_group(alloc, &mut shown, &group)?,
+        Err(fault) => show_fault(alloc, &mut shown, &fault)?,
+    }
+    Ok(shown)
+}
+
+#[test]
+fn groups_are_read(rt: HostRuntime) -> Result<(), Fail> {
+    let alloc = rt.alloc();
+    for (text, want) in [
+        ("a:x", "(and 0=x)"),
+        ("NOT a:x", "(and -0=x)"),
+        ("(NOT a:x)", "(and (and -0=x))"),
+        ("(*:* AND NOT a:x)", "(and (and *:* -0=x))"),
+        ("\ta:x\nOR\r\nNOT\u{3000}a : y ", "(or 0=x -0=y)"),
+        ("NOT (a:1 OR NOT a:2) AND a:3", "(and -(or 0=1 -0=2) 0=3)"),
+        (
+            "n:{-12 TO *] OR a:x OR (a:y AND a:z)",
+            "(or 1{-12..*] 0=x (and 0=y 0=z))",
+        ),
+        ("(a:1)AND(*:*)", "(and (and 0=1) (and *:*))"),
+    ] {
+        let shown = told(alloc, 2, text.as_bytes())?;
+        assert_eq!(rt; shown.as_str(), want);
+    }
+    Ok(())
+}
+
+#[test]
+fn leaves_are_read(rt: HostRuntime) -> Result<(), Fail> {
+    let alloc = rt.alloc();
+    for (text, want) in [
+        ("c.cased:X* OR c:y?", "(or 2c=X<*> 2=y<?>)"),
+        ("c.cased:\"X\\\"* y\"", "(and 2c=\"X\"* y\")"),
+        ("n:\\-3 AND n:* AND n:0", "(and 1=-3 1=<*> 1=0)"),
+        (
+            "n:[-9223372036854775807 TO *} OR n:9223372036854775807",
+            "(or 1[-9223372036854775807..*} 1=9223372036854775807)",
+        ),
+        ("n:{0 TO 5] AND n:[* TO *]", "(and 1{0..5] 1[*..*])"),
+        (
+            "a:TO OR a:12 OR a:\"AND\" OR \\a:\\OR",
+            "(or 0=TO 0=12 0=\"AND\" 0=OR)",
+        ),
+        ("a:\\*\\? AND a:\\(\\:\\ \\\\*", "(and 0=*? 0=(: \\<*>)"),
+        ("a:\"\" AND a:b-c+d", "(and 0=\"\" 0=b-c+d)"),
+    ] {
+        let shown = told(alloc, 1000, text.as_bytes())?;
+        assert_eq!(rt; shown.as_str(), want);
+    }
+    Ok(())
+}
+
+#[test]
+fn first_refusals(rt: HostRuntime) -> Result<(), Fail> {
+    let alloc = rt.alloc();
+    for (text, want) in [
+        ("a:1 AND a:2 OR a:3", "134 at 1:13"),
+        ("a:1 AND b:2 OR c:3", "134 at 1:13"),
+        ("b:1 AND a:2 OR a:3~", "131 at 1:18"),
+        ("a:1 OR", "130 at 1:7"),
+        ("NOT NOT a:b", "130 at 1:5"),
+        ("a:x\nAND (a:1", "130 at 2:9"),
+        ("a:\"x", "130 at 1:3"),
+        ("*:x", "130 at 1:3"),
+        ("(a:1 AND b:1)", "132 at 1:10"),
+        ("a:x AND a:[1 TO 2]", "133 at 1:9"),
+    ] {
+        let shown = told(alloc, 1000, text.as_bytes())?;
+        assert_eq!(rt; shown.as_str(), want);
+    }
+    Ok(())
+}
+
+#[test]
+fn names_and_kinds_that_are_refused(rt: HostRuntime) -> Result<(), Fail> {
+    let alloc = rt.alloc();
+    for (text, want) in [
+        ("TO:x", "132 at 1:1"),
+        ("a.cased:x", "132 at 1:1"),
+        ("A:x", "132 at 1:1"),
+        ("n:05", "133 at 1:1"),
+        ("n:x*", "133 at 1:1"),
+        ("a:x AND NOT n:\"1\"", "133 at 1:13"),
+        ("n:9223372036854775808", "133 at 1:1"),
+        ("n:[* TO -9223372036854775808]", "133 at 1:1"),
+        ("n:x AND b:x", "133 at 1:1"),
+        ("b:x AND n:x", "132 at 1:1"),
+    ] {
+        let shown = told(alloc, 1000, text.as_bytes())?;
+        assert_eq!(rt; shown.as_str(), want);
+    }
+    Ok(())
+}
+
+#[test]
+fn parentheses_within_a_limit(rt: HostRuntime) -> Result<(), Fail> {
+    let alloc = rt.alloc();
+    for (text, want) in [
+        ("(a:1) AND (a:2)", "(and (and 0=1) (and 0=2))"),
+        ("a:1 AND ((a:2))", "135 at 1:1"),
+        ("((a:1 OR", "135 at 1:1"),
+        ("((a:1~", "131 at 1:5"),
+        ("))((", "130 at 1:1"),
+    ] {
+        let shown = told(alloc, 1, text.as_bytes())?;
+        assert_eq!(rt; shown.as_str(), want);
+    }
+    Ok(())
+}
+
+#[test]
+fn bytes_that_are_no_text(rt: HostRuntime) -> Result<(), Fail> {
+    let alloc = rt.alloc();
+    let late = told(alloc, 1, b"a:\n\xc3\xa4\xff")?;
+    assert_eq!(rt; late.as_str(), "1 at 2:2");
+    let early = told(alloc, 1, b"\xc3((~ OR")?;
+    assert_eq!(rt; early.as_str(), "1 at 1:1");
+    Ok(())
+}
+
+/// A text again and again.
+fn repeated(alloc: Global, unit: &str, count: usize) -> Result<Vec<u8>, Fail> {
+    let mut bytes = Vec::new(alloc);
+    for _i in 0..count {
+        bytes.extend_from_slice(unit.as_bytes())?;
+    }
+    Ok(bytes)
+}
+
+#[test]
+fn hostile_texts(rt: HostRuntime) -> Result<(), Fail> {
+    let alloc = rt.alloc();
+    for (unit, want) in [
+        ("(", "135 at 1:1"),
+        (")", "130 at 1:1"),
+        ("\"", "130 at 1:1"),
+        ("\\", "130 at 1:50001"),
+        ("a", "130 at 1:50001"),
+        ("9", "130 at 1:50001"),
+        ("NOT ", "130 at 1:5"),
+        ("a:x OR ", "130 at 1:350001"),
+        ("[", "130 at 1:1"),
+        ("\u{3000}", "130 at 1:50001"),
+    ] {
+        let bytes = repeated(alloc, unit, 50_000)?;
+        let shown = told(alloc, 1000, bytes.as_slice())?;
+        assert_eq!(rt; shown.as_str(), want);
+    }
+    Ok(())
+}

@@ -1,0 +1,7 @@
+//! Tests of rules over events, and of the trees that they become.
+#![tactic(auto)]
+
+#[cfg(test)]
+mod judging;
+#[cfg(test)]
+mod lowering;

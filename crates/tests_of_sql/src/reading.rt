@@ -1,0 +1,380 @@
+//! Queries and refusals by hand.
+
+use event_schema::{Field, FieldKind, FieldList, Schema};
+use languages::CrateBuilder;
+use sig_base::{Fault, Limits, Text, Texts};
+use sql_query::{Expr, Select, SqlTest};
+use sql_reader::read_select;
+use std::alloc::Global;
+use std::test::Fail;
+
+fn field(alloc: Global, name: &str, kind: FieldKind) -> Result<Field, Fail> {
+    Ok(Field {
+        name: Text::copy(alloc, name)?,
+        kind,
+        at: Texts::new(alloc),
+        search: false,
+        cased: false,
+        many: false,
+    })
+}
+
+/// A schema with `Image` of texts, `Pid` of whole numbers and `Ip` of addresses.
+fn schema(alloc: Global) -> Result<Schema, Fail> {
+    let mut fields = FieldList::new(alloc);
+    fields.push(field(alloc, "Image", FieldKind::Text)?)?;
+    fields.push(field(alloc, "Pid", FieldKind::Whole)?)?;
+    fields.push(field(alloc, "Ip", FieldKind::Address)?)?;
+    Ok(Schema {
+        table: Text::copy(alloc, "events")?,
+        fields,
+        time: None,
+    })
+}
+
+/// A word and the parts of a chain, in parentheses.
+#[cycle(showing)]
+fn show_chain(shown: &mut String, word: &str, parts: &[Expr]) -> Result<(), Fail> {
+    shown.push_str(word)?;
+    for part in parts {
+        shown.push(' ')?;
+        show_expr(shown, part)?;
+    }
+    shown.push(')')?;
+    Ok(())
+}
+
+/// `(or ..)`, `(and ..)`, `-` for NOT, a constant's sign, and `t` for any other test.
+#[cycle(showing)]
+fn show_expr(shown: &mut String, expr: &Expr) -> Result<(), Fail> {
+    match expr {
+        Expr::Or(parts) => show_chain(shown, "(or", parts.as_slice()),
+        Expr::And(parts) => show_chain(shown, "(and", parts.as_slice()),
+        Expr::Not(part) => {
+            shown.push('-')?;
+            show_expr(shown, part)
+        }
+        Expr::Test(test) => {
+            shown.push_str(match test {
+                SqlTest::Constant(false) => "0",
+                SqlTest::Constant(true) => "1",
+                _ => "t",
+            })?;
+            Ok(())
+        }
+    }
+}
+
+/// The query that is read, or its first refusal.
+fn told(alloc: Global, answer: &Result<Select, Fault>) -> Result<String, Fail> {
+    match answer {
+        Ok(select) => {
+            let mut shown = String::new(alloc);
+            show_expr(&mut shown, &select.condition)?;
+            Ok(shown)
+        }
+        Err(Fault::Memory) => Ok(String::from_str(alloc, "memory")?),
+        Err(Fault::Refused(refusal)) => {
+            let code = refusal.code.number();
+            let line = refusal.place.line;
+            let column = refusal.place.column;
+            Ok(format!(in alloc; "{code} at {line}:{column}")?)
+        }
+    }
+}
+
+/// What is answered to bytes with a builder that fails at this call, counted from 1, or at none with 0.
+fn answer(alloc: Global, limits: &Limits, bytes: &[u8], failing: u64) -> Result<String, Fail> {
+    if bytes.len() > limits.query_bytes {
+        return Ok(String::from_str(alloc, "too long")?);
+    }
+    let mut calls = Vec::new(alloc);
+    if failing > 0 {
+        calls.push(failing)?;
+    }
+    let mut builder = CrateBuilder::new(alloc, calls);
+    let schema = schema(alloc)?;
+    told(
+        alloc,
+        &read_select(alloc, limits, &schema, bytes, &mut builder),
+    )
+}
+
+/// What is answered to a query with this condition.
+fn of_condition(
+    alloc: Global,
+    limits: &Limits,
+    condition: &str,
+    failing: u64,
+) -> Result<String, Fail> {
+    let text = format!(in alloc; "SELECT * FROM \"events\" WHERE {condition}")?;
+    answer(alloc, limits, text.as_bytes(), failing)
+}
+
+/// Whether each line `condition ~ answer` of a table is answered so; else the first condition that isn't, with its answer.
+fn first_wrong(alloc: Global, table: &str, failing: u64) -> Result<String, Fail> {
+    let limits = Limits::standard();
+    for line in table.lines() {
+        let Some((condition, want)) = line.split_once(" ~ ") else {
+            return Ok(String::from_str(alloc, line)?);
+        };
+        let shown = of_condition(alloc, &limits, condition, failing)?;
+        if shown.as_str() != want {
+            let shown = shown.as_str();
+            return Ok(format!(in alloc; "{condition}: {shown}")?);
+        }
+    }
+    Ok(String::new(alloc))
+}
+
+#[test]
+fn queries_are_read(rt: HostRuntime) -> Result<(), Fail> {
+    let alloc = rt.alloc();
+    let table = r#"0 ~ 0
+1; ~ 1
+"Image" IS NULL ~ t
+"iMAGE" is not null ~ t
+"Image" != 'a' ~ t
+"Image" <> 'a' collate nocase ~ t
+"Image" == "Ip" COLLATE BINARY ~ t
+"Pid" <= -9223372036854775807 ~ t
+"Image" NOT LIKE 'a\_%\\' ESCAPE '\' ~ t
+"Pid" GLOB '[*][?][[]*?' ~ t
+"Ip" NOT REGEXP '^10[.]' ~ t
+"Image" COLLATE NOCASE NOT IN ('a', 'b''c') ~ t
+"Pid" BETWEEN 1 AND 2 AND "Image" IS NULL ~ (and t t)
+NOT NOT ("Pid" NOT BETWEEN 1 AND 2 OR NOT 0 AND 1) OR ((1)) ~ (or --(or t (and -0 1)) 1)
+1 OR 0 OR 1 ~ (or 1 0 1)
+(1 OR 0) OR 1 ~ (or (or 1 0) 1)
+1 OR (0 OR 1) ~ (or 1 (or 0 1))
+1 AND 0 OR 1 ~ (or (and 1 0) 1)
+1 AND (0 OR 1) ~ (and 1 (or 0 1))
+1 AND (0 AND 1) ~ (and 1 (and 0 1))
+NOT NOT (1) ~ --1
+((1)) ~ 1
+"#;
+    assert_eq!(rt; first_wrong(alloc, table, 0)?.as_str(), "");
+    Ok(())
+}
+
+#[test]
+fn texts_are_refused(rt: HostRuntime) -> Result<(), Fail> {
+    let alloc = rt.alloc();
+    let table = r#"Image = 'a' ~ 121 at 1:30
+"Image" ! = 'a' ~ 121 at 1:38
+"Other" = 'a' AND x ~ 121 at 1:48
+"Pid" = 9223372036854775808 ~ 121 at 1:38
+2 ~ 120 at 1:30
+ ~ 120 at 1:30
+"Image" = 'a' "Pid" ~ 120 at 1:44
+"Image" = 'a ~ 120 at 1:40
+("Other" = 'a' ~ 120 at 1:44
+"Pid" BETWEEN 1 OR 2 ~ 120 at 1:46
+'a' = "Image" ~ 120 at 1:30
+"Image ~ 120 at 1:30
+"Image" = 'a # x ~ 120 at 1:40
+x = 'a ~ 121 at 1:30
+"Image" = 'é' AND x ~ 121 at 1:48
+"Pid" = -9223372036854775808 ~ 121 at 1:38
+"Pid" = - 1 ~ 121 at 1:38
+"#;
+    assert_eq!(rt; first_wrong(alloc, table, 0)?.as_str(), "");
+    Ok(())
+}
+
+#[test]
+fn names_kinds_and_patterns_are_refused(rt: HostRuntime) -> Result<(), Fail> {
+    let alloc = rt.alloc();
+    let table = r#""Other" = 'a' ~ 122 at 1:30
+"Image" = "Other" ~ 122 at 1:40
+"Other" REGEXP '(' ~ 122 at 1:30
+"Other" = "Another" ~ 122 at 1:30
+"" = 'a' ~ 122 at 1:30
+"Pid" = 'a' ~ 123 at 1:30
+1 AND "Image" = 1 ~ 123 at 1:36
+"Image" < 'a' ~ 123 at 1:30
+"Image" = "Pid" ~ 123 at 1:30
+"Pid" COLLATE NOCASE = 1 ~ 123 at 1:30
+"Image" IN ('a', 1) ~ 123 at 1:30
+"Ip" BETWEEN 1 AND 2 ~ 123 at 1:30
+"Image" LIKE 'a\b' ESCAPE '\' ~ 125 at 1:43
+"Image" LIKE 'a\' ESCAPE '\' ~ 125 at 1:43
+"Image" LIKE 'a' ESCAPE '' ~ 125 at 1:54
+"Image" LIKE 'a' ESCAPE 'ab' ~ 125 at 1:54
+"Image" GLOB '[a]' ~ 125 at 1:43
+NOT ("Image" GLOB '[*') OR "Other" = 'a' ~ 125 at 1:48
+"Pid" = 'a' OR "Other" = 'a' ~ 123 at 1:30
+"#;
+    assert_eq!(rt; first_wrong(alloc, table, 0)?.as_str(), "");
+    Ok(())
+}
+
+#[test]
+fn regular_expressions_are_refused(rt: HostRuntime) -> Result<(), Fail> {
+    let alloc = rt.alloc();
+    let syntax = r#""Image" REGEXP '(' ~ 47 at 1:45
+"Image" REGEXP '(' OR "Other" = 'a' ~ 47 at 1:45
+"Other" = 'a' OR "Image" REGEXP '(' ~ 122 at 1:30
+"Image" REGEXP 'a' AND NOT "Image" REGEXP '(' ~ 47 at 1:72
+"#;
+    assert_eq!(rt; first_wrong(alloc, syntax, 0)?.as_str(), "");
+    let first = r#""Image" REGEXP 'a' ~ 48 at 1:45
+"Image" REGEXP 'a' OR "Image" REGEXP '(' ~ 48 at 1:45
+"Image" IS NULL ~ t
+"#;
+    assert_eq!(rt; first_wrong(alloc, first, 1)?.as_str(), "");
+    let second = r#""Image" REGEXP 'a' ~ t
+"Image" REGEXP 'a' AND "Image" REGEXP 'b' ~ 48 at 1:68
+"Image" REGEXP '(' AND "Image" REGEXP 'b' ~ 47 at 1:45
+"#;
+    assert_eq!(rt; first_wrong(alloc, second, 2)?.as_str(), "");
+    Ok(())
+}
+
+/// What is answered to so many times a word, and then a text.
+fn nested(
+    alloc: Global,
+    limits: &Limits,
+    count: usize,
+    word: &str,
+    text: &str,
+) -> Result<String, Fail> {
+    let mut all = String::new(alloc);
+    for _turn in 0..count {
+        all.push_str(word)?;
+    }
+    all.push_str(text)?;
+    of_condition(alloc, limits, all.as_str(), 0)
+}
+
+#[test]
+fn nesting_is_bounded(rt: HostRuntime) -> Result<(), Fail> {
+    let alloc = rt.alloc();
+    let mut limits = Limits::standard();
+    assert_eq!(rt;
+        nested(alloc, &limits, 1000, "NOT ", "\"Image\" IS NULL")?.as_str(),
+        "124 at 1:1"
+    );
+    limits.sql_depth = 20;
+    for (count, word, text, want) in [
+        (18, "NOT ", "0", "------------------0"),
+        (19, "NOT ", "\"Image\" IS NULL", "124 at 1:1"),
+        (21, "NOT ", "x", "121 at 1:114"),
+        (21, "NOT ", "'a'", "124 at 1:1"),
+        (20, "NOT ", "'a'", "120 at 1:110"),
+        (21, "(", "", "124 at 1:1"),
+        (20, "(", "", "120 at 1:50"),
+        (
+            19,
+            "1 AND ",
+            "1",
+            "(and 1 1 1 1 1 1 1 1 1 1 1 1 1 1 1 1 1 1 1 1)",
+        ),
+        (20, "1 AND ", "1", "124 at 1:1"),
+        (20, "1 AND ", "\"Other\" = 'a'", "124 at 1:1"),
+    ] {
+        assert_eq!(rt; nested(alloc, &limits, count, word, text)?.as_str(), want);
+    }
+    Ok(())
+}
+
+/// Whether so many open parentheses around `1`, each closed, are read as 1.
+fn is_read_in_parentheses(alloc: Global, count: usize) -> Result<bool, Fail> {
+    let limits = Limits::standard();
+    let mut closed = String::from_str(alloc, "1")?;
+    for _turn in 0..count {
+        closed.push(')')?;
+    }
+    let shown = nested(alloc, &limits, count, "(", closed.as_str())?;
+    Ok(shown.as_str() == "1")
+}
+
+#[test]
+fn what_the_limits_allow_is_read(rt: HostRuntime) -> Result<(), Fail> {
+    let alloc = rt.alloc();
+    let limits = Limits::standard();
+    assert!(rt; is_read_in_parentheses(alloc, 1000)?);
+    assert!(rt; !is_read_in_parentheses(alloc, 1001)?);
+    let nots = nested(alloc, &limits, 998, "NOT ", "\"Image\" IS NULL")?;
+    assert_eq!(rt; nots.len(), 999);
+    let refused = nested(alloc, &limits, 999, "NOT ", "\"Image\" IS NULL")?;
+    assert_eq!(rt; refused.as_str(), "124 at 1:1");
+    Ok(())
+}
+
+/// Whether so many parentheses side by side are read under a limit.
+fn is_read_side_by_side(alloc: Global, limits: &Limits, count: usize) -> Result<bool, Fail> {
+    let shown = nested(alloc, limits, count, "(1) OR ", "(1)")?;
+    Ok(shown.as_str().starts_with("(or 1 1 "))
+}
+
+/// What is answered to a regular expression of so many groups around one letter.
+fn of_groups(alloc: Global, count: usize) -> Result<String, Fail> {
+    let mut all = String::from_str(alloc, "\"Image\" REGEXP '")?;
+    for _turn in 0..count {
+        all.push('(')?;
+    }
+    all.push('a')?;
+    for _turn in 0..count {
+        all.push(')')?;
+    }
+    all.push('\'')?;
+    of_condition(alloc, &Limits::standard(), all.as_str(), 0)
+}
+
+#[test]
+fn what_stands_side_by_side_is_not_nested(rt: HostRuntime) -> Result<(), Fail> {
+    let alloc = rt.alloc();
+    let mut limits = Limits::standard();
+    limits.sql_depth = 25;
+    assert!(rt; is_read_side_by_side(alloc, &limits, 20)?);
+    assert_eq!(rt; of_groups(alloc, 10)?.as_str(), "t");
+    assert_eq!(rt; of_groups(alloc, 251)?.as_str(), "47 at 1:45");
+    let mut long = String::from_str(alloc, "\"Image\" = '")?;
+    for _turn in 0..50_000 {
+        long.push('a')?;
+    }
+    long.push('\'')?;
+    assert_eq!(rt;
+        of_condition(alloc, &limits, long.as_str(), 0)?.as_str(),
+        "t"
+    );
+    Ok(())
+}
+
+#[test]
+fn whole_texts_are_refused(rt: HostRuntime) -> Result<(), Fail> {
+    let alloc = rt.alloc();
+    let all: [(&[u8], &str); 13] = [
+        (b"", "120 at 1:1"),
+        (b"SELECT \xff", "1 at 1:8"),
+        (b"SELECT *\nFROM \"events\"\nWHERE", "120 at 3:6"),
+        (
+            b"SELECT * FROM \"other\" WHERE \"Image\" = 'a'",
+            "122 at 1:15",
+        ),
+        (b"select * from \"EVENTS\" where 1 ;\n", "1"),
+        (b"SELECT\t*\rFROM\x0c\"events\"\nWHERE 1", "1"),
+        (b"SELECT * FROM \"events\"\nWHERE x", "121 at 2:7"),
+        (b"SELECT * FROM \"events\"\nWHERE \"x\" = 'a'", "122 at 2:7"),
+        (
+            b"SELECT * FROM \"events\" WHERE \"Image\" = 'a\0b'",
+            "121 at 1:40",
+        ),
+        (
+            b"SELECT * FROM \"events\" WHERE \"Image\" = 'a\0b",
+            "120 at 1:40",
+        ),
+        (
+            b"SELECT * FROM \"events\" WHERE \"Im\0age\" = 'a'",
+            "122 at 1:30",
+        ),
+        (b"SELECT * FROM \"events\" WHERE 1;;", "120 at 1:32"),
+        (b"SELECT Image FROM \"events\" WHERE 1", "121 at 1:8"),
+    ];
+    let limits = Limits::standard();
+    for (bytes, want) in all {
+        assert_eq!(rt; answer(alloc, &limits, bytes, 0)?.as_str(), want);
+    }
+    Ok(())
+}

@@ -1,0 +1,13 @@
+//! Tests of reading lines, blocks and files of YAML.
+#![tactic(auto)]
+
+#[cfg(test)]
+mod documents;
+#[cfg(test)]
+mod in_blocks;
+#[cfg(test)]
+mod in_files;
+#[cfg(test)]
+mod in_lines;
+#[cfg(test)]
+mod nodes;
