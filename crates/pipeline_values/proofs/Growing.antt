@@ -23,7 +23,7 @@ use Rattle.pipeline_values.specs.Counts.{capped}
 use Rattle.pipeline_values.specs.Extent.{value_extent}
 use Rattle.pipeline_values.specs.Grown.{leaves_open}
 use Rattle.pipeline_values.specs.Longest.{longest_value}
-use Rattle.pipeline_values.specs.Made.{counted, extended, made_count, longest_made, extent_made, IsGrowth}
+use Rattle.pipeline_values.specs.Made.{counted, filled_extent, made_count, longest_made, extent_made, IsGrowth}
 use Rattle.pipeline_values.proofs.Products.{counted_is, extended_is}
 
 -- ---- placeholders that lack values are chosen
@@ -119,7 +119,7 @@ kept_growth vars action parts g none h =
     )
 
 pub filled_growth : (vars : List Var) (action : Action) (parts : List Part) (tests longest extent : ℕ) → list_any (is_chosen action) parts ≡ true
-    → tests ≡ capped (counted vars action parts) → longest ≡ capped (largest length (filled vars action parts)) → extent ≡ capped (extended vars action parts)
+    → tests ≡ capped (counted vars action parts) → longest ≡ capped (largest length (filled vars action parts)) → extent ≡ capped (filled_extent vars action parts)
     → (tests ≡ capped (made_count (filled_if_chosen vars action parts))) × (longest ≡ capped (longest_made parts (filled_if_chosen vars action parts)))
     × (extent ≡ capped (extent_made parts (filled_if_chosen vars action parts)))
 filled_growth vars action parts tests longest extent some counts measures adds =

@@ -3,7 +3,7 @@ use Rattle.std.proofs.Common.{ℕ, zero, suc, ◌+◌, ◌*◌, ◌-◌, ◌^◌
 use native.Mathlib.Omega.{arith}
 use Rattle.std.specs.Prelude.{if◌then◌else◌, ◌==◌}
 use Rattle.std.proofs.lemmas.Bool.Decides.{nat_tests}
-use Rattle.std.proofs.Math.Nat.{mul-zero, mul_assoc, mul_comm, mul-add, add-mul}
+use Rattle.std.proofs.Math.Nat.{mul-zero, mul-suc, suc-mul, mul_assoc, mul_comm, mul-add, add-mul}
 use Rattle.std.proofs.lemmas.Nat.{mul-le}
 use Rattle.std.proofs.lemmas.Bool.{leb-true, leb-false}
 use Rattle.std.proofs.lemmas.List.{drop_more, length-map, length-append}
@@ -15,7 +15,7 @@ use Rattle.pipeline_names.specs.Sizes.{total}
 use Rattle.pipeline_values.specs.Counts.{capped}
 use Rattle.pipeline_values.specs.Entries.{largest}
 use Rattle.pipeline_values.specs.Filled.{choices, crossed, filled}
-use Rattle.pipeline_values.specs.Made.{counted, summed, extended, fills, IsFilling, IsMeasured}
+use Rattle.pipeline_values.specs.Made.{counted, summed, filled_extent, fills, IsFilling, IsMeasured}
 use Rattle.pipeline_values.proofs.Sums.{largest_append, total_append}
 
 -- ---- the product
@@ -50,16 +50,13 @@ counted_turn vars action parts i x f count n new same inside is filling counts m
     ∙ (ap capped (mul_assoc count (length (choices vars action x)) (counted vars action (drop (i + 1) parts)))
     ∙ (sym (ap (λ (ps : List Part). capped (count * counted vars action ps)) front) ∙ same))))
 
-suc_mul : (n m : ℕ) → suc n * m ≡ m + n * m
-suc_mul n m = omega arith
-
 length_crossed : (fronts more : List (List Part)) → length (crossed fronts more) ≡ length fronts * length more
 length_crossed [] more = omega arith
 length_crossed (f ∷ fs) more =
     let first = length-append (map (λ rest. f ++ rest) more) (crossed fs more) in
     let rest = length_crossed fs more in
     let here = length-map more (λ (rest : List Part). f ++ rest) in
-    let step = suc_mul (length fs) (length more) in
+    let step = suc-mul (length fs) (length more) in
     omega (arith, first, rest, here, step)
 
 -- the product is how many there are
@@ -171,13 +168,13 @@ both_behind extent tests count sum others more =
     add_up a b c d e f g p q r s = omega (arith, p, q, r, s)
 
 pub extended_turn : (vars : List Var) (action : Action) (parts : List Part) (i : ℕ) (x : Part) (f : Filling) (tests extent n counts new : ℕ)
-    → capped (extent * counted vars action (drop i parts) + tests * extended vars action (drop i parts)) ≡ capped (extended vars action parts) → i < length parts
+    → capped (extent * counted vars action (drop i parts) + tests * filled_extent vars action (drop i parts)) ≡ capped (filled_extent vars action parts) → i < length parts
     → x ≡ get_or parts i x → IsFilling vars action x f → ((part : Part) → n ≡ length (fills part f)) → counts ≡ capped (tests * n)
     → ((part : Part) → IsMeasured f → new ≡ capped (extent * length (fills part f) + tests * total length (fills part f)))
-    → capped (new * counted vars action (drop (i + 1) parts) + counts * extended vars action (drop (i + 1) parts)) ≡ capped (extended vars action parts)
+    → capped (new * counted vars action (drop (i + 1) parts) + counts * filled_extent vars action (drop (i + 1) parts)) ≡ capped (filled_extent vars action parts)
 extended_turn vars action parts i x f tests extent n counts new same inside is filling many counted_so measures =
     let others : ℕ = counted vars action (drop (i + 1) parts) in
-    let more : ℕ = extended vars action (drop (i + 1) parts) in
+    let more : ℕ = filled_extent vars action (drop (i + 1) parts) in
     let count : ℕ = length (choices vars action x) in
     let sum : ℕ = total length (choices vars action x) in
     let front : drop i parts ≡ x ∷ drop (i + 1) parts = drop_more parts i x inside ∙ ap (λ (y : Part). y ∷ drop (i + 1) parts) (sym is) in
@@ -188,21 +185,18 @@ extended_turn vars action parts i x f tests extent n counts new same inside is f
     ap (λ (m : ℕ). capped (m * others)) made ∙ cap_mul (extent * count + tests * sum) others (2 ^ 127 - 1) in
     let two : capped (counts * more) ≡ capped (tests * count * more) =
     ap (λ (m : ℕ). capped (m * more)) (counted_so ∙ ap (λ (m : ℕ). capped (tests * m)) here) ∙ cap_mul (tests * count) more (2 ^ 127 - 1) in
-    let left : capped (extent * (count * others) + tests * (sum * others + count * more)) ≡ capped (extended vars action parts) =
-    sym (ap (λ (ps : List Part). capped (extent * counted vars action ps + tests * extended vars action ps)) front) ∙ same in
+    let left : capped (extent * (count * others) + tests * (sum * others + count * more)) ≡ capped (filled_extent vars action parts) =
+    sym (ap (λ (ps : List Part). capped (extent * counted vars action ps + tests * filled_extent vars action ps)) front) ∙ same in
     cap_sum (new * others) (counts * more) ((extent * count + tests * sum) * others) (tests * count * more) (extent * (count * others) + tests * (sum * others + count * more))
-    (extended vars action parts) one two (both_behind extent tests count sum others more) left
+    (filled_extent vars action parts) one two (both_behind extent tests count sum others more) left
 
 total_map : (x : List Part) (more : List (List Part)) → total length (map (λ rest. x ++ rest) more) ≡ length x * length more + total length more
 total_map x [] = let e = mul-zero (length x) in omega (arith, e)
 total_map x (m ∷ ms) =
     let here = length-append x m in
     let rest = total_map x ms in
-    let step = mul_suc (length x) (length ms) in
+    let step = mul-suc (length x) (length ms) in
     omega (arith, here, rest, step)
-  where
-    mul_suc : (n k : ℕ) → n * suc k ≡ n + n * k
-    mul_suc n k = omega arith
 
 total_crossed : (fronts more : List (List Part)) → total length (crossed fronts more) ≡ total length fronts * length more + length fronts * total length more
 total_crossed [] more = omega arith
@@ -211,11 +205,11 @@ total_crossed (f ∷ fs) more =
     let here = total_map f more in
     let rest = total_crossed fs more in
     let front = add-mul (length f) (total length fs) (length more) in
-    let step = suc_mul (length fs) (total length more) in
+    let step = suc-mul (length fs) (total length more) in
     omega (arith, both, here, rest, front, step)
 
 -- what is reckoned is how many parts all fillings have together
-pub extended_is : (vars : List Var) (action : Action) (parts : List Part) → total length (filled vars action parts) ≡ extended vars action parts
+pub extended_is : (vars : List Var) (action : Action) (parts : List Part) → total length (filled vars action parts) ≡ filled_extent vars action parts
 extended_is vars action [] = refl
 extended_is vars action (part ∷ parts) =
     total_crossed (choices vars action part) (filled vars action parts)

@@ -1,9 +1,8 @@
 -- Sums and greatest numbers over lists, counted up to a greatest number.
-use Rattle.std.proofs.Common.{ℕ, ◌+◌, ◌-◌, ◌^◌, ◌<◌, ◌≤◌, max, nat_le, ◌≡◌, Bool, true, false, length, get_or, drop, map, List, [], ◌∷◌, ◌++◌, refl, sym, ap, ◌∙◌}
+use Rattle.std.proofs.Common.{ℕ, ◌+◌, ◌<◌, max, ◌≡◌, Bool, true, false, length, get_or, drop, map, List, [], ◌∷◌, ◌++◌, refl, sym, ap, ◌∙◌}
 use native.Mathlib.Omega.{arith}
 use Rattle.std.specs.Prelude.{◌||◌}
 use Rattle.std.specs.List.{list_any, flat_map}
-use Rattle.std.proofs.lemmas.Bool.{leb-true, leb-false, le-leb, lt-leb}
 use Rattle.std.proofs.lemmas.List.{drop_more, length-append}
 use Rattle.pipeline_names.specs.Sizes.{total}
 use Rattle.pipeline_values.specs.Counts.{capped}
@@ -88,11 +87,3 @@ module _ {A : Type 0} (p : A → Bool) where
   any_turn xs i x l m same inside is here =
       or_flat l m (list_any p (drop (i + 1) xs))
       ∙ (ap (λ (b : Bool). l || (b || list_any p (drop (i + 1) xs))) here ∙ (sym (ap (λ (ys : List A). l || list_any p ys) (left_at xs i x inside is)) ∙ same))
-
--- a number that is counted up to a greatest one is as large as a smaller one where it is
-pub capped_le : (n most : ℕ) → most ≤ 2 ^ 64 - 1 → nat_le (capped n) most ≡ nat_le n most
-capped_le n most small = by (nat_le n most) refl
-  where
-    by : (b : Bool) → nat_le n most ≡ b → nat_le (capped n) most ≡ b
-    by true e = let h : n ≤ most = leb-true n most e in le-leb (capped n) most (omega (arith, h))
-    by false e = let h : most < n = leb-false n most e in lt-leb (capped n) most (omega (arith, h, small))

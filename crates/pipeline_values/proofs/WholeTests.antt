@@ -1,4 +1,4 @@
--- A rule with other tests is whole.
+-- A rule with other tests that isn't refused: it's whole, and its patterns have few parts together.
 use Rattle.std.proofs.Common.{suc, ◌≡◌, Bool, true, false, ◌&&◌, not, length, List, [], ◌∷◌, ◌++◌, map, refl, sym, subst, ap}
 use Rattle.std.specs.Prelude.{Option, Some, None, if◌then◌else◌}
 use Rattle.std.specs.List.{list_any}
@@ -6,6 +6,7 @@ use Rattle.std.proofs.lemmas.Bool.{or_parts}
 use Rattle.event_schema.specs.Lists.{EachOf, HasElement}
 use Rattle.sig_base.specs.Judged.{first}
 use Rattle.sig_base.specs.declared.limits.Limits.{Limits}
+use Rattle.sig_base.specs.declared.refusal.Place.{Place}
 use Rattle.sig_base.specs.declared.refusal.Refusal.{Refusal}
 use Rattle.sig_base.proofs.Checks.{first_holds, must_holds, not_holds}
 use Rattle.sig_modifiers.specs.PlainTests.{IsPlainTest, ArePlainTests, IsPatternTest}
@@ -24,7 +25,7 @@ use Rattle.pipeline_model.specs.declared.step.Action.{Action}
 use Rattle.pipeline_model.specs.declared.step.Step.{Step}
 use Rattle.pipeline_names.specs.Sizes.{grown_refusal}
 use Rattle.pipeline_values.specs.Changed.{made_of, is_cased, as_tests, changed_test, changed_value, acts_on_fields, changed_item, changed_items, changed_detection, changed_detections, changed}
-use Rattle.pipeline_values.specs.Extent.{extent_refusal}
+use Rattle.pipeline_values.specs.Extent.{has_few_parts_together, extent_refusal}
 use Rattle.pipeline_values.specs.Grown.{is_open, are_open, open_item, open_items, open_detection, open_refusal, change_refusal}
 use Rattle.pipeline_values.specs.Kept.{MakesTests}
 use Rattle.pipeline_values.proofs.Plainness.{each_append, ArePlainParts, ArePut, has_plain_text, made_plain}
@@ -172,3 +173,12 @@ module _ (vars : List Var) (step : Step) (own : MakesTests vars step.action) whe
         some = whole.some;
         conditions = subst (λ n. EachOf (IsWholeForm n) rule.conditions) (sym (same_length rule.detections)) whole.conditions;
       }
+
+pub few_together : (vars : List Var) (step : Step) (limits : Limits) (place : Place) (ds : List Detection) → change_refusal limits vars step place ds ≡ None
+    → has_few_parts_together limits (changed_detections vars step ds) ≡ true
+few_together vars step limits place ds none =
+    let grown : Option Refusal = grown_refusal limits place (changed_detections vars step ds) in
+    let extent : Option Refusal = extent_refusal limits place (changed_detections vars step ds) in
+    let left = (first_holds (open_refusal vars step ds) (grown ∷ extent ∷ []) none).1 in
+    let last = (first_holds grown (extent ∷ []) left).1 in
+    must_holds 99 place (has_few_parts_together limits (changed_detections vars step ds)) (first_holds extent [] last).0

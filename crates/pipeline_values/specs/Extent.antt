@@ -17,7 +17,8 @@ value_extent value = total part_count value
 abbrev pub item_extent : Item → ℕ
 item_extent i = total value_extent i.tests
 
--- the patterns of all items have together no more parts than a query may have bytes, since each part takes a byte of it at least
+-- the patterns of all items, of detections that no condition names too, have together at most as many parts as a query may have bytes:
+-- where a query asks a text for a pattern, each part of it takes a byte at least
 abbrev pub has_few_parts_together : Limits → List Detection → Bool
 has_few_parts_together limits ds = nat_le (of_items item_extent ds) limits.query_bytes
 

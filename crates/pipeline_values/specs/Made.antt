@@ -106,10 +106,10 @@ summed vars action [] = 0
 summed vars action (part ∷ parts) = largest length (choices vars action part) + summed vars action parts
 
 -- how long they are together: each choice with each pattern behind it, and each pattern behind each choice
-abbrev pub extended : List Var → Action → List Part → ℕ
-extended vars action [] = 0
-extended vars action (part ∷ parts) =
-    total length (choices vars action part) * counted vars action parts + length (choices vars action part) * extended vars action parts
+abbrev pub filled_extent : List Var → Action → List Part → ℕ
+filled_extent vars action [] = 0
+filled_extent vars action (part ∷ parts) =
+    total length (choices vars action part) * counted vars action parts + length (choices vars action part) * filled_extent vars action parts
 
 abbrev pub made_count : Option (List (List Part)) → ℕ
 made_count None = 1

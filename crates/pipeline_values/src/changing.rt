@@ -80,10 +80,9 @@ fn change_within(
 }
 
 /// The rule with the tests that a step makes of those of its items: placeholders filled with the values of these variables or
-/// with any run, and texts mapped to others. Refused are, with code 98 at its item, the first placeholder that is to be filled
-/// and has no variable, and then, with code 99 at the rule's place, a rule that would have more than `grown` names or tests, a
-/// name that isn't legal, or a pattern of more than `value_chars` parts, be it put in or not, or whose patterns would have more than
-/// `query_bytes` parts together.
+/// with any run, texts mapped to others. Refused are, 98 at its item, the first placeholder that is to be filled and has no
+/// variable, and then, 99 at the rule's place, a rule that would have more than `grown` names or tests, a name that isn't legal,
+/// a pattern of more than `value_chars` parts, put in or not, or patterns of more than `query_bytes` parts together.
 pub fn change_tests(
     alloc: Global,
     limits: &Limits,

@@ -1,10 +1,12 @@
 //! What follows from the definitions.
 
-ghost use Rattle.std.specs.Prelude.{◌≡◌, ◌∷◌, [], map, List, None, false};
+ghost use Rattle.std.specs.Prelude.{◌≡◌, ◌∷◌, [], map, List, None, true, false};
 ghost use Rattle.std.specs.List.{list_any};
 ghost use Rattle.event_schema.specs.Lists.{EachOf};
 ghost use Rattle.sig_base.specs.declared.limits.Limits.{Limits};
+ghost use Rattle.sig_base.specs.declared.refusal.Place.{Place};
 ghost use Rattle.sig_strings.specs.declared.part.Part.{Part};
+ghost use Rattle.rule_items.specs.declared.detection.Detection.{Detection};
 ghost use Rattle.rule_model.specs.Plain.{PlainRule};
 ghost use Rattle.rule_model.specs.Whole.{IsWhole};
 ghost use Rattle.pipeline_model.specs.declared.pipeline.Var.{Var};
@@ -12,7 +14,8 @@ ghost use Rattle.pipeline_model.specs.declared.step.Action.{Action};
 ghost use Rattle.pipeline_model.specs.declared.step.Action.TheVariants as actions;
 ghost use Rattle.pipeline_model.specs.declared.step.Choice.{Choice};
 ghost use Rattle.pipeline_model.specs.declared.step.Step.{Step};
-ghost use Rattle.pipeline_values.specs.Changed.{changed};
+ghost use Rattle.pipeline_values.specs.Changed.{changed, changed_detections};
+ghost use Rattle.pipeline_values.specs.Extent.{has_few_parts_together};
 ghost use Rattle.pipeline_values.specs.Filled.{filled, is_chosen, opened};
 ghost use Rattle.pipeline_values.specs.Grown.{change_refusal};
 ghost use Rattle.pipeline_values.specs.Kept.{MakesTests};
@@ -27,6 +30,12 @@ pub fn fillings_are_filled()
 pub fn runs_make_one_pattern()
     ensures { (vars : List Var) (choice : Choice) (parts : List Part)
         → filled vars (actions.WildHoles choice) parts ≡ map (opened (actions.WildHoles choice)) parts ∷ [] }
+{}
+
+/// The patterns of what a step makes, where it isn't refused, have together at most as many parts as a query may have bytes.
+pub fn patterns_are_few_together()
+    ensures { (limits : Limits) (vars : List Var) (step : Step) (place : Place) (ds : List Detection)
+        → change_refusal limits vars step place ds ≡ None → has_few_parts_together limits (changed_detections vars step ds) ≡ true }
 {}
 
 /// A whole rule stays whole with the tests that a step makes of its tests, where it isn't refused.

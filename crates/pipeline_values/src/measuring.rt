@@ -12,7 +12,7 @@ ghost use Rattle.pipeline_values.specs.Extent.{value_extent};
 ghost use Rattle.pipeline_values.specs.Filled.{lacks_values};
 ghost use Rattle.pipeline_values.specs.Grown as grown;
 ghost use Rattle.pipeline_values.specs.Longest.{longest_value};
-ghost use Rattle.pipeline_values.specs.Made.{fills, counted, summed, extended, made_count, longest_made, extent_made, IsMeasured, IsGrowth};
+ghost use Rattle.pipeline_values.specs.Made.{fills, counted, summed, filled_extent, made_count, longest_made, extent_made, IsMeasured, IsGrowth};
 
 use crate::change::Change;
 use crate::filling::Filling;
@@ -50,7 +50,7 @@ fn extended_by(tests: u128, extent: u128, filling: &Filling) -> u128
 fn measure_fillings(alloc: Global, change: &Change, parts: &[Part]) -> Result<Growth, Fault>
     ensures tests { IfOk result (λ g. g.tests ≡ capped (counted change.now.vars.now change.now.step.now.action parts.now)) }
     ensures longest { IfOk result (λ g. g.longest ≡ capped (summed change.now.vars.now change.now.step.now.action parts.now)) }
-    ensures extent { IfOk result (λ g. g.extent ≡ capped (extended change.now.vars.now change.now.step.now.action parts.now)) }
+    ensures extent { IfOk result (λ g. g.extent ≡ capped (filled_extent change.now.vars.now change.now.step.now.action parts.now)) }
     ensures lacking { IfOk result (λ g. g.lacking ≡ list_any (lacks_values change.now.vars.now change.now.step.now.action) parts.now) }
     ensures err { IfErr result (λ e. e ≡ Fault.Memory) }
 {
@@ -74,7 +74,7 @@ fn measure_fillings(alloc: Global, change: &Change, parts: &[Part]) -> Result<Gr
 }
 
 /// The longest pattern of none has no parts.
-fn longest_of(growth: Growth) -> u128
+fn longest_if_any(growth: Growth) -> u128
     ensures { result ≡ (if growth.tests == 0 then 0 else growth.longest) }
 {
     if growth.tests == 0 { 0 } else { growth.longest }
@@ -92,7 +92,7 @@ fn measure_holes(alloc: Global, change: &Change, parts: &[Part]) -> Result<Growt
         return Ok(one_test(parts.len()));
     }
     let growth = measure_fillings(alloc, change, parts)?;
-    let longest = longest_of(growth);
+    let longest = longest_if_any(growth);
     Ok(Growth {
         tests: growth.tests,
         longest,

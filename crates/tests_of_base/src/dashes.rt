@@ -1,4 +1,4 @@
-//! Choices that were written down by hand.
+//! Choices of dashes that were written down by hand.
 
 use dash_choices::{choice, dash_count};
 use sig_base::{Fault, Limits, Place, Text};

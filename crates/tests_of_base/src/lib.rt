@@ -1,4 +1,4 @@
-//! Tests of texts, patterns, encodings, conditions, words of the command line and what else the lowest crates offer.
+//! Tests of texts, patterns, encodings, conditions, trees of tests, lines, numbers of fields and words of the command line.
 #![tactic(auto)]
 
 #[cfg(test)]

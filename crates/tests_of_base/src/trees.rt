@@ -1,4 +1,4 @@
-//! Copies, once each.
+//! Copies of trees, once each.
 
 use backend_core::{Leaf, LeafTest, Op, Tree};
 use sig_base::{Limits, Place, Text};

@@ -3,7 +3,7 @@
 //! an `and` and an `or` of parts, `all0,1` and `one0,1` for those of numbers. In a rule that is made `(1 0)` is an `and`.
 
 use crate::shown::{show_detections, show_fault};
-use crate::tables::{columns, detections, difference, few_limits, rule_of, step};
+use crate::tables::{columns, detections, difference, few_limits, is_step, rule_of, step};
 use pipeline_steps::change;
 use rule_head::LogSource;
 use rule_model::Rule;
@@ -230,8 +230,11 @@ fn made(alloc: Global, limits: &Limits, step_text: &str, before: &str) -> Result
 /// What is made of a row where it isn't what the row says.
 fn wrong(alloc: Global, limits: &Limits, row: &str) -> Result<Text, Fail> {
     let Some((step, before, after)) = columns(row) else {
-        return Ok(Text::copy(alloc, row)?);
+        return difference(alloc, &Text::new(alloc), "a row", row);
     };
+    if !is_step(step) {
+        return difference(alloc, &Text::new(alloc), "a step", row);
+    }
     let made = made(alloc, limits, step, before)?;
     difference(alloc, &made, after, row)
 }

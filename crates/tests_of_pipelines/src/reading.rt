@@ -223,10 +223,12 @@ priority=-@type=set_state~90 1 20
 #[test]
 fn the_first_cause_is_told(rt: HostRuntime) -> Result<(), Fail> {
     for line in PIPELINES.lines() {
-        if let Some((row, want)) = line.split_once('~') {
-            assert_eq!(rt; refusal(rt.alloc(), row)?.as_str(), want, "{row}");
-        }
+        let Some((row, want)) = line.split_once('~') else {
+            panic!(rt; "{line}");
+        };
+        assert_eq!(rt; refusal(rt.alloc(), row)?.as_str(), want, "{row}");
     }
+    assert_eq!(rt; PIPELINES.lines().count(), 82);
     Ok(())
 }
 
@@ -387,9 +389,11 @@ name=a@id=n|type=field_name_mapping|mapping={A:b;B:[c,d|rule_conditions=<type:lo
 #[test]
 fn pipelines_are_read(rt: HostRuntime) -> Result<(), Fail> {
     for line in READ.lines() {
-        if let Some((row, want)) = line.split_once('~') {
-            assert_eq!(rt; shown(rt.alloc(), row)?.as_str(), want, "{row}");
-        }
+        let Some((row, want)) = line.split_once('~') else {
+            panic!(rt; "{line}");
+        };
+        assert_eq!(rt; shown(rt.alloc(), row)?.as_str(), want, "{row}");
     }
+    assert_eq!(rt; READ.lines().count(), 10);
     Ok(())
 }

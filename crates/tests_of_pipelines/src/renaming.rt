@@ -1,7 +1,7 @@
 //! Steps on names, in the notation of `tables`: a row has a step, a rule before it and the rule after it.
 
 use crate::shown::show_answer;
-use crate::tables::{bare_rule, columns, detections, difference, few_limits, step};
+use crate::tables::{bare_rule, columns, detections, difference, few_limits, is_step, step};
 use pipeline_names::rename;
 use sig_base::{Limits, Text};
 use std::alloc::Global;
@@ -111,8 +111,11 @@ fn made(alloc: Global, limits: &Limits, step_text: &str, before: &str) -> Result
 /// What is made of a row where it isn't what the row says.
 fn wrong(alloc: Global, limits: &Limits, row: &str) -> Result<Text, Fail> {
     let Some((step, before, after)) = columns(row) else {
-        return Ok(Text::copy(alloc, row)?);
+        return difference(alloc, &Text::new(alloc), "a row", row);
     };
+    if !is_step(step) {
+        return difference(alloc, &Text::new(alloc), "a step", row);
+    }
     let made = made(alloc, limits, step, before)?;
     difference(alloc, &made, after, row)
 }

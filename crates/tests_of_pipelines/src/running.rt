@@ -138,7 +138,7 @@ fn made(alloc: Global, chain: &str, before: &str) -> Result<Text, Fail> {
 /// What is made of a row where it isn't what the row says.
 fn wrong(alloc: Global, row: &str) -> Result<Text, Fail> {
     let Some((chain, before, after)) = columns(row) else {
-        return Ok(Text::copy(alloc, row)?);
+        return difference(alloc, &Text::new(alloc), "a row", row);
     };
     let made = made(alloc, chain, before)?;
     difference(alloc, &made, after, row)

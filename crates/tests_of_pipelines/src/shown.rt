@@ -1,4 +1,4 @@
-//! What the tables of `tables` say that is made. It is written as there, but for three signs: `<a>` is a placeholder, `\` stands
+//! What is made of the rows of tables, as text. They are written as there, but for three signs: `<a>` is a placeholder, `\` stands
 //! before a sign of a pattern that means itself, and `^` before a detection or an item that stands at the rule's place. In place of a
 //! rule stand the number, the place and the message of a refusal.
 

@@ -3,7 +3,8 @@
 //!
 //! A step is its kind with what it takes. `map`, `fronts` and `text` take a mapping `a=b,c;d=e` of names, of what names begin with
 //! and of values, `prefix` and `suffix` a text, `add` and `not` items, `source` a product, `fail` and `item` a message, and `drop`
-//! nothing; `fill` and `wild` take the names of the placeholders that they fill behind `+`, or those of the others behind `-`.
+//! nothing; `fill` and `wild` take the names of the placeholders that they fill behind `+`, or those of the others behind `-`. What
+//! a step takes has neither `@` nor `?`.
 //! Behind `@` stand conditions: the names that the step acts on, or behind `-` those that it doesn't, with `&` between conditions
 //! that all have to hold, and `+` where one is enough. Behind `?` stands the product of the rules that it acts on. Variables are
 //! `a=x,y;b=z`.
@@ -25,6 +26,8 @@ use sig_modifiers::{Test, Tests};
 use sig_strings::{Pattern, SharedPattern};
 use std::alloc::Global;
 use std::test::Fail;
+
+const KINDS: &str = "map fronts text prefix suffix add not source fail item drop fill wild";
 
 /// The three columns of a row.
 pub fn columns(row: &str) -> Option<(&str, &str, &str)> {
@@ -266,7 +269,10 @@ fn action_on_names(alloc: Global, text: &str) -> Result<Action, Fail> {
     if let Some(held) = text.strip_prefix("suffix ") {
         return Ok(Action::Suffix(Text::copy(alloc, held)?));
     }
-    Ok(Action::Drop)
+    if text.trim() == "drop" {
+        return Ok(Action::Drop);
+    }
+    Ok(Action::FailRule(Text::copy(alloc, "no step")?))
 }
 
 fn action_on_values(alloc: Global, text: &str) -> Result<Action, Fail> {
@@ -362,6 +368,12 @@ fn before(text: &str, character: char) -> &str {
         Some((front, _)) => front,
         None => text,
     }
+}
+
+/// Whether a step is of one of the kinds above.
+pub fn is_step(text: &str) -> bool {
+    let kind = before(before(before(text, '?'), '@'), ' ');
+    KINDS.split(' ').any(|it| it == kind)
 }
 
 /// A step with its conditions.

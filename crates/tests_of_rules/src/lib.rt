@@ -1,4 +1,4 @@
-//! Tests of reading rules, and of the schemas that they fit.
+//! Tests of reading rules, of building their regular expressions, and of the schemas that they fit.
 #![tactic(auto)]
 
 #[cfg(test)]

@@ -1,4 +1,4 @@
-//! FieldList of several values, which no query can test.
+//! Fields of several values, which no query can test.
 
 use backend_core::{Leaf, LeafTest, Tree};
 use event_schema::{Field, FieldKind, FieldList, Schema};

@@ -1,4 +1,4 @@
-//! Values that the definitions have, by hand.
+//! Which texts LIKE and GLOB patterns take, by hand.
 
 use sql_patterns::{is_glob, is_like};
 use std::test::Fail;

@@ -10,7 +10,7 @@ pub returns-clause-ok : goal.returns-clause-ok
 returns-clause-ok c =
     let told =
     longest_told c.args.change.now.vars.now c.args.change.now.step.now.action c.args.parts.now _ _ c.in_ok-growth.ensures.tests c.in_ok-growth.ensures.longest in
-    let both =
+    let sizes =
     filled_growth c.args.change.now.vars.now c.args.change.now.step.now.action c.args.parts.now _ _ _ (sym c.in_ok-has_chosen.ensures.ok ∙ c.if-not-branch.false)
-    c.in_ok-growth.ensures.tests (c.longest_of-longest.ensures ∙ told) c.in_ok-growth.ensures.extent in
-    (both.0, both.1, both.2, c.in_ok-growth.ensures.lacking)
+    c.in_ok-growth.ensures.tests (c.longest_if_any-longest.ensures ∙ told) c.in_ok-growth.ensures.extent in
+    (sizes.0, sizes.1, sizes.2, c.in_ok-growth.ensures.lacking)
