@@ -1,7 +1,0 @@
-use Rattle.std.proofs.Common.{take, Ok}
-use Rattle.answer_parts.specs.Stands.{Writes}
-use Rattle.sigma_app.specs.Sourced.{AreTold}
-use Rattle.sigma_app.proofs.commands.correlate.put_unbound.Given as goal
-
-abbrev pub invariant-loop-cause : goal.invariant-loop-cause
-invariant-loop-cause g l = Writes (AreTold (take l.cause-index l.causes)) (Ok l.found) (g.W.Outside.state l.fn.outside) (g.W.Outside.state l.outside)

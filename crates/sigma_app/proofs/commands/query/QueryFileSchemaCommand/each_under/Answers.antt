@@ -1,5 +1,0 @@
-use Rattle.std.proofs.Common.{[], sym, append-nil}
-use Rattle.sigma_app.proofs.commands.query.QueryFileSchemaCommand.each_under.Goals as goal
-
-pub returns : goal.returns
-returns c = λ refused. c.each_answer.ensures.queried c.args.self.now.backend c.args.self.now.limits.now c.args.self.now.query.now refused refused [] (sym (append-nil refused))

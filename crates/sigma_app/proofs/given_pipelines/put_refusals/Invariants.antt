@@ -1,7 +1,0 @@
-use Rattle.std.proofs.Common.{take, Ok}
-use Rattle.answer_parts.specs.Stands.{Writes}
-use Rattle.sigma_app.specs.UnderPipelines.{AreReported}
-use Rattle.sigma_app.proofs.given_pipelines.put_refusals.Given as goal
-
-abbrev pub invariant-loop-cause : goal.invariant-loop-cause
-invariant-loop-cause g l = Writes (AreReported l.name (take l.cause-index l.causes)) (Ok l.found) (g.W.Outside.state l.fn.outside) (g.W.Outside.state l.outside)

@@ -1,6 +1,0 @@
-use Rattle.std.proofs.Common.{◌≡◌, map}
-use Rattle.sigma_app.specs.Reports.{shown}
-use Rattle.sigma_app.proofs.report.shown_text.Given as goal
-
-abbrev pub invariant-loop-c : goal.invariant-loop-c
-invariant-loop-c l = l.all ≡ map shown l.yielded
