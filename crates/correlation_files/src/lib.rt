@@ -15,5 +15,3 @@ mod law;
 mod reading;
 mod readying;
 mod single;
-#[cfg(test)]
-mod tests;

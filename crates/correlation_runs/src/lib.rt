@@ -9,5 +9,3 @@ mod following;
 mod judging;
 mod law;
 mod reporting;
-#[cfg(test)]
-mod tests;

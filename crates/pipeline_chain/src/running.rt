@@ -69,7 +69,7 @@ fn run_steps(
 /// The rule that pipelines make of a rule, one after another as they stand here (`by_priority` puts them in their order). The first
 /// refusal of a step is answered: 95 or 96 of a step that fails, 97 where an alternative is left without items, 98 at the first
 /// item with a placeholder that is to be filled and has no variable, and 99 where the rule has grown past the limits, or has a name
-/// that isn't legal or a pattern that is too long, or where a step on values makes patterns that are too long together.
+/// that isn't legal or a pattern that is too long, or where behind a step on values all patterns together are too long.
 pub fn run_pipelines(
     alloc: Global,
     limits: &Limits,

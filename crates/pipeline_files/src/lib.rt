@@ -8,5 +8,3 @@ mod finding;
 mod law;
 mod reading;
 mod single;
-#[cfg(test)]
-mod tests;

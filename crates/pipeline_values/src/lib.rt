@@ -2,7 +2,9 @@
 #![tactic(auto)]
 
 pub use changing::change_tests;
-pub use law::{fillings_are_filled, runs_make_one_pattern, tests_stay_whole};
+pub use law::{
+    fillings_are_filled, patterns_are_few_together, runs_make_one_pattern, tests_stay_whole,
+};
 
 mod change;
 mod changing;

@@ -2,7 +2,9 @@
 #![tactic(auto)]
 
 pub use following::follow;
+pub use law::{asks_for_events, each_answer, one_answer, queries_mean_rules, words_are_read};
 pub use request::Request;
+pub use same_lines::run_as_queried;
 pub use serving::serve;
 pub use status::Status;
 pub use words::read_words;

@@ -5,28 +5,22 @@ ghost use Rattle.correlation_engine.specs.Limits.{IsWithinLimits};
 ghost use Rattle.detection_eval.specs.Ready as made;
 ghost use Rattle.rule_model.specs.Plain.{rule_view};
 
-use crate::follow_events;
+use crate::signs::written;
 use answer_parts::{Lent, Stop};
 use correlation_engine::Engine;
+use correlation_runs::follow_events;
 use correlation_windows::{Bound, CorrelationKind, Op};
 use detection_eval::Ready;
 use event_reading::read_schema;
 use event_schema::Schema;
 use languages::CrateBuilder;
-use modifier_chains::Joined;
-use rule_head::{Head, LogSource};
-use rule_items::{Alternative, Alternatives, Detection, Detections, Fields, Item, Values};
 use rule_model::Rule;
-use sig_base::{
-    Bytes, Limits, MemoryShelf, MemorySink, MemorySource, Place, Sequence, Text, Texts,
-};
-use sig_conditions::Formula;
-use sig_modifiers::{Test, Tests};
+use sig_base::{Bytes, Limits, MemoryShelf, MemorySink, MemorySource, Sequence, Text};
 use std::alloc::Global;
 use std::fmt::Write;
 use std::test::Fail;
-
-const PLACE: Place = Place { line: 1, column: 1 };
+use yaml_documents::read_documents;
+use yaml_tree::Document;
 
 /// The number `Code`, the text `User`, and the seconds `t`.
 fn schema(alloc: Global) -> Result<Schema, Fail> {
@@ -36,51 +30,21 @@ fn schema(alloc: Global) -> Result<Schema, Fail> {
 }
 
 /// The code is 1.
-fn detection(alloc: Global) -> Result<Detection, Fail> {
-    let mut names = Texts::new(alloc);
-    names.push(Text::copy(alloc, "Code")?)?;
-    let mut tests = Tests::new(alloc);
-    tests.push(Test::Equals(1))?;
-    let mut values = Values::new(alloc);
-    values.push(tests)?;
-    let mut items = Alternative::new(alloc);
-    items.push(Item {
-        fields: Fields::Names(names),
-        tests: values,
-        joined: Joined::Any,
-        place: PLACE,
-    })?;
-    let mut alternatives = Alternatives::new(alloc);
-    alternatives.push(items)?;
-    Ok(Detection {
-        name: Text::copy(alloc, "sel")?,
-        alternatives,
-        place: PLACE,
-    })
-}
+const RULE: &str = "title: T
+logsource:
+  product: windows
+detection:
+  sel:
+    Code: 1
+  condition: sel
+";
 
-/// The rule whose one detection is this.
 fn rule(alloc: Global) -> Result<Rule, Fail> {
-    let mut detections = Detections::new(alloc);
-    detections.push(detection(alloc)?)?;
-    let mut conditions = Vec::new(alloc);
-    conditions.push(Formula::Detection(0))?;
-    Ok(Rule {
-        head: Head {
-            title: Text::copy(alloc, "T")?,
-            id: None,
-            name: None,
-            place: PLACE,
-            rest: Vec::new(alloc),
-        },
-        source: LogSource {
-            category: None,
-            product: Some(Text::copy(alloc, "windows")?),
-            service: None,
-        },
-        detections,
-        conditions,
-    })
+    let documents = read_documents(alloc, &Limits::standard(), RULE.as_bytes())?;
+    let Some(Document::Tree(node)) = documents.first() else {
+        return Err(Fail::new("no rule"));
+    };
+    Ok(Rule::read(alloc, &Limits::standard(), [].as_slice(), node)?)
 }
 
 fn number(alloc: Global, number: u32) -> Result<Sequence<u32>, Fail> {
@@ -140,8 +104,44 @@ fn push_bytes(text: &mut String, bytes: &[u8]) -> Result<(), Fail> {
     Ok(())
 }
 
-/// How following events by a rule ended, what stands on the output and what on the error output, with `|` between.
+/// How following events by a rule ends.
 fn follow(
+    alloc: Global,
+    limits: &Limits,
+    schema: &Schema,
+    rule: Rule,
+    ready: Ready,
+    engine: &mut Engine,
+    outside: &mut Lent<'_, '_, '_, '_, MemoryShelf, MemorySource, MemorySink, MemorySink>,
+) -> Result<&'static str, Fail>
+    requires { made.StandsFor schema.now.fields (rule_view rule) ready }
+{
+    let names = names(alloc)?;
+    let followed = follow_events(
+        alloc,
+        limits,
+        schema,
+        &[rule],
+        &[ready],
+        &names,
+        engine,
+        outside,
+    );
+    Ok(ending(followed))
+}
+
+/// How following ended, what stands on the output and what on the error output, with `|` between.
+fn shown(alloc: Global, end: &str, out: &[u8], err: &[u8]) -> Result<String, Fail> {
+    let mut all = String::from_str(alloc, end)?;
+    all.push('|')?;
+    push_bytes(&mut all, out)?;
+    all.push('|')?;
+    push_bytes(&mut all, err)?;
+    Ok(all)
+}
+
+/// The same of events that are followed.
+fn followed(
     alloc: Global,
     limits: &Limits,
     schema: &Schema,
@@ -152,47 +152,29 @@ fn follow(
 ) -> Result<String, Fail>
     requires { made.StandsFor schema.now.fields (rule_view rule) ready }
 {
-    let mut shelf = MemoryShelf::new(alloc, Vec::new(alloc), Vec::new(alloc));
-    let mut events = MemorySource::new(
-        Bytes::copy(alloc, events.as_bytes())?,
-        4096,
-        Vec::new(alloc),
-    );
+    let events = Bytes::copy(alloc, events.as_bytes())?;
     let mut out = MemorySink::new(alloc, 4096, 4096, Vec::new(alloc))?;
     let mut err = MemorySink::new(alloc, 4096, 4096, Vec::new(alloc))?;
-    let names = names(alloc)?;
+    let mut shelf = MemoryShelf::new(alloc, Vec::new(alloc), Vec::new(alloc));
+    let mut events = MemorySource::new(events, 4096, Vec::new(alloc));
     let mut outside = Lent {
         shelf: &mut shelf,
         events: &mut events,
         out: &mut out,
         err: &mut err,
     };
-    let result = follow_events(
-        alloc,
-        limits,
-        schema,
-        &[rule],
-        &[ready],
-        &names,
-        engine,
-        &mut outside,
-    );
-    let mut all = String::from_str(alloc, ending(result))?;
-    all.push('|')?;
-    push_bytes(&mut all, out.taken())?;
-    all.push('|')?;
-    push_bytes(&mut all, err.taken())?;
-    Ok(all)
+    let end = follow(alloc, limits, schema, rule, ready, engine, &mut outside)?;
+    shown(alloc, end, out.taken(), err.taken())
 }
 
 /// The same, and how many matches are held behind the events.
 fn told(alloc: Global, limits: &Limits, events: &str) -> Result<String, Fail> {
     let schema = schema(alloc)?;
     let rule = rule(alloc)?;
+    let mut engine = engine(alloc, burst(alloc)?)?;
     let mut builder = CrateBuilder::new(alloc, Vec::new(alloc));
     let ready = Ready::make(alloc, &schema, &rule, &mut builder)?;
-    let mut engine = engine(alloc, burst(alloc)?)?;
-    let mut all = follow(alloc, limits, &schema, rule, ready, &mut engine, events)?;
+    let mut all = followed(alloc, limits, &schema, rule, ready, &mut engine, events)?;
     write!(all, "|{}", engine.held())?;
     Ok(all)
 }
@@ -224,40 +206,54 @@ fn sixth(alloc: Global, line: &str) -> Result<String, Fail> {
     Ok(shown)
 }
 
+/// The first row of a table, `what is told~sixth line`, that isn't told so.
+fn wrong_row(alloc: Global, table: &'static str) -> Result<String, Fail> {
+    for row in table.lines() {
+        let Some((want, line)) = row.split_once('~') else {
+            return Ok(format!(in alloc; "no row: {row}")?);
+        };
+        let want = written(alloc, want)?;
+        if sixth(alloc, line)?.as_str() != want.as_str() {
+            return Ok(String::from_str(alloc, row)?);
+        }
+    }
+    Ok(String::new(alloc))
+}
+
+const SIXTH: &str = r#"done||4|~
+found|events:6: 145 OutOfOrder 59000000000 61000000000¶|4|~{"Code":1,"User":"a","t":59}
+done||0|~{"Code":2,"User":"a","t":200}
+found|events:6: 29 NoMoment¶|4|~{"Code":1,"User":"a"}
+found|events:6: 26 EventKind¶|4|~{"Code":"x","User":"a","t":200}"#;
+
 #[test]
 fn a_burst_is_reported(rt: HostRuntime) -> Result<(), Fail> {
-    let alloc = rt.alloc();
-    for (line, want) in [
-        ("", "done||4|"),
-        (
-            r#"{"Code":1,"User":"a","t":59}"#,
-            "found|events:6: 145 OutOfOrder 59000000000 61000000000\n|4|",
-        ),
-        (r#"{"Code":2,"User":"a","t":200}"#, "done||0|"),
-        (
-            r#"{"Code":1,"User":"a"}"#,
-            "found|events:6: 29 NoMoment\n|4|",
-        ),
-        (
-            r#"{"Code":"x","User":"a","t":200}"#,
-            "found|events:6: 26 EventKind\n|4|",
-        ),
-    ] {
-        assert_eq!(rt; sixth(alloc, line)?.as_str(), want);
-    }
+    assert_eq!(rt; wrong_row(rt.alloc(), SIXTH)?.as_str(), "");
     Ok(())
+}
+
+const LONG: &str =
+    r#"{"Code":1,"User":"a","t":0}¶{"Code":1,"User":"a","t":1} ¶¶{"Code":1,"User":"a","t":2}¶{"Code":1,"User":"a","t":300000}¶{"Code":1,"User":"a","t":-2}¶{"Code":1,"User":"a","t":3}"#;
+
+const LONG_TOLD: &str = r#"found|{"correlation":"Burst","line":4,"from":1,"count":3,"group":["a"]}
+{"correlation":"Burst","line":7,"from":1,"count":4,"group":["a"]}
+|events:5: 30 LineTooLong
+events:6: 145 OutOfOrder -2000000000 2000000000
+|4"#;
+
+/// Lines of at most 30 bytes.
+fn short_lines() -> Limits {
+    let mut limits = Limits::standard();
+    limits.line_bytes = 30;
+    limits
 }
 
 #[test]
 fn long_lines_are_passed_over(rt: HostRuntime) -> Result<(), Fail> {
-    let alloc = rt.alloc();
-    let mut limits = Limits::standard();
-    limits.line_bytes = 30;
-    let events =
-        "{\"Code\":1,\"User\":\"a\",\"t\":0}\n{\"Code\":1,\"User\":\"a\",\"t\":1} \n\n{\"Code\":1,\"User\":\"a\",\"t\":2}\n{\"Code\":1,\"User\":\"a\",\"t\":300000}\n{\"Code\":1,\"User\":\"a\",\"t\":-2}\n{\"Code\":1,\"User\":\"a\",\"t\":3}";
+    let events = written(rt.alloc(), LONG)?;
     assert_eq!(rt;
-        told(alloc, &limits, events)?.as_str(),
-        "found|{\"correlation\":\"Burst\",\"line\":4,\"from\":1,\"count\":3,\"group\":[\"a\"]}\n{\"correlation\":\"Burst\",\"line\":7,\"from\":1,\"count\":4,\"group\":[\"a\"]}\n|events:5: 30 LineTooLong\nevents:6: 145 OutOfOrder -2000000000 2000000000\n|4"
+        told(rt.alloc(), &short_lines(), &events)?.as_str(),
+        LONG_TOLD
     );
     Ok(())
 }

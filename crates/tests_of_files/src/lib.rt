@@ -1,0 +1,11 @@
+//! Tests of files of pipelines, of files of rules and correlations, and of events that correlations follow.
+#![tactic(auto)]
+
+#[cfg(test)]
+mod bursts;
+#[cfg(test)]
+mod correlations;
+#[cfg(test)]
+mod pipelines;
+#[cfg(test)]
+mod signs;

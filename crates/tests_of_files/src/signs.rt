@@ -1,0 +1,24 @@
+//! Texts of several lines in one row of a table.
+
+use std::alloc::Global;
+use std::test::Fail;
+
+/// The text, with a line feed for each `¶` and a tab for each `»`.
+pub fn written(alloc: Global, text: &str) -> Result<String, Fail> {
+    let mut all = String::new(alloc);
+    for c in text.chars() {
+        all.push(match c {
+            '¶' => '\n',
+            '»' => '\t',
+            _ => c,
+        })?;
+    }
+    Ok(all)
+}
+
+/// The three columns of a row.
+pub fn columns(row: &str) -> Option<(&str, &str, &str)> {
+    let (first, behind) = row.split_once('~')?;
+    let (second, third) = behind.split_once('~')?;
+    Some((first, second, third))
+}
