@@ -176,7 +176,7 @@ fn wrong_read(alloc: Global, limits: &Limits, table: &str) -> Result<String, Fai
     for row in table.lines() {
         let mut parts = row.split('~');
         let (Some(read), Some(call), Some(want)) = (parts.next(), parts.next(), parts.next()) else {
-            return Ok(String::from_str(alloc, row)?);
+            return Ok(format!(in alloc; "no row: {row}")?);
         };
         let (Ok(read), Ok(call)) = (read.parse::<usize>(), call.parse::<u64>()) else {
             return Ok(String::from_str(alloc, row)?);

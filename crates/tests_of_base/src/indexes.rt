@@ -1,47 +1,63 @@
+//! First numbers of texts, by hand.
+
+use crate::tables::{Asked, answer, wrong_row};
 use sig_base::{Text, Texts};
+use std::alloc::Global;
 use std::test::Fail;
 use text_index::TextIndex;
 
+/// Asks for the first number of a text in an index.
+#[derive(Drop)]
+struct FirstNumbers {
+    index: TextIndex,
+}
+
+impl Asked for FirstNumbers {
+    fn told(&self, alloc: Global, given: &str) -> Result<String, Fail> {
+        let text = Text::copy(alloc, given)?;
+        match self.index.find(&text) {
+            Some(number) => Ok(format!(in alloc; "{number}")?),
+            None => answer(alloc, "none"),
+        }
+    }
+}
+
+/// The first row that is told otherwise of these texts, which have a space between them.
+fn wrong_number(alloc: Global, words: &str, table: &str) -> Result<String, Fail> {
+    let mut texts = Texts::new(alloc);
+    for text in words.split(' ') {
+        texts.push(Text::copy(alloc, text)?)?;
+    }
+    let index = TextIndex::number(alloc, texts)?;
+    wrong_row(alloc, &FirstNumbers { index }, table)
+}
+
+/// Of `b`, `a`, the empty text, `é` and `a`.
+const FEW: &str = "0~b
+1~a
+2~
+3~é
+none~A
+none~ab";
+
 #[test]
 fn first_numbers_are_found(rt: HostRuntime) -> Result<(), Fail> {
-    let mut texts = Texts::new(rt.alloc());
-    for text in ["b", "a", "", "é", "a"] {
-        texts.push(Text::copy(rt.alloc(), text)?)?;
-    }
-    let index = TextIndex::number(rt.alloc(), texts)?;
-    for (text, want) in [
-        ("b", Some(0)),
-        ("a", Some(1)),
-        ("", Some(2)),
-        ("é", Some(3)),
-        ("A", None),
-        ("ab", None),
-    ] {
-        let text = Text::copy(rt.alloc(), text)?;
-        assert_eq!(rt; index.find(&text), want, "{}", text.as_str());
-    }
+    assert_eq!(rt; wrong_number(rt.alloc(), "b a  é a", FEW)?.as_str(), "");
     Ok(())
 }
 
+const MANY: &str = "0~q
+1~w
+10~a
+15~h
+17~é
+none~b
+none~
+none~ü";
+
 #[test]
 fn first_numbers_of_many_are_found(rt: HostRuntime) -> Result<(), Fail> {
-    let mut texts = Texts::new(rt.alloc());
-    for text in "q w e r t y u i o p a s d f g h w é".split(' ') {
-        texts.push(Text::copy(rt.alloc(), text)?)?;
-    }
-    let index = TextIndex::number(rt.alloc(), texts)?;
-    for (text, want) in [
-        ("q", Some(0)),
-        ("w", Some(1)),
-        ("a", Some(10)),
-        ("h", Some(15)),
-        ("é", Some(17)),
-        ("b", None),
-        ("", None),
-        ("ü", None),
-    ] {
-        let text = Text::copy(rt.alloc(), text)?;
-        assert_eq!(rt; index.find(&text), want, "{}", text.as_str());
-    }
+    let words = "q w e r t y u i o p a s d f g h w é";
+    assert_eq!(rt; wrong_number(rt.alloc(), words, MANY)?.as_str(), "");
     Ok(())
 }

@@ -18,6 +18,8 @@ mod numbers;
 #[cfg(test)]
 mod strings;
 #[cfg(test)]
+mod tables;
+#[cfg(test)]
 mod trees;
 #[cfg(test)]
 mod words;

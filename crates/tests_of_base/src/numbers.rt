@@ -1,5 +1,6 @@
 //! Numbers of fields by hand.
 
+use crate::tables::{Asked, wrong_row};
 use event_schema::{Field, FieldKind, FieldList};
 use field_numbers::FieldNumbers;
 use sig_base::{Text, Texts};
@@ -28,50 +29,63 @@ fn fields(alloc: Global, words: &str) -> Result<FieldList, Fail> {
     Ok(all)
 }
 
+/// Asks for the number that a name is looked up by among these fields, if it's one of theirs, and the number that is found.
+#[derive(Clone, Copy)]
+struct Among {
+    words: &'static str,
+}
+
+impl Asked for Among {
+    fn told(&self, alloc: Global, given: &str) -> Result<String, Fail> {
+        let all = fields(alloc, self.words)?;
+        let numbers = FieldNumbers::of(alloc, all.as_slice())?;
+        let name = Text::copy(alloc, given)?;
+        let found = numbers.find(all.as_slice(), &name);
+        match numbers.look_up(all.as_slice(), &name) {
+            Some(number) => Ok(format!(in alloc; "{number} {found}")?),
+            None => Ok(format!(in alloc; "none {found}")?),
+        }
+    }
+}
+
+/// The numbers of the fields that keywords search, a `;` behind each.
+fn searched(alloc: Global, words: &str) -> Result<String, Fail> {
+    let all = fields(alloc, words)?;
+    let numbers = FieldNumbers::of(alloc, all.as_slice())?;
+    let mut shown = String::new(alloc);
+    for number in numbers.searched() {
+        shown.push_str(format!(in alloc; "{number};")?.as_str())?;
+    }
+    Ok(shown)
+}
+
+const FEW: &str = "a s1 b s2 A";
+
+const FEW_NUMBERS: &str = "0 0~a
+3 3~s2
+4 4~A
+none 5~B";
+
 #[test]
 fn names_have_numbers(rt: HostRuntime) -> Result<(), Fail> {
-    let all = fields(rt.alloc(), "a s1 b s2 A")?;
-    let numbers = FieldNumbers::of(rt.alloc(), all.as_slice())?;
-    for (name, want) in [("a", Some(0)), ("s2", Some(3)), ("A", Some(4)), ("B", None)] {
-        let name = Text::copy(rt.alloc(), name)?;
-        assert_eq!(rt;
-            numbers.look_up(all.as_slice(), &name),
-            want,
-            "{}",
-            name.as_str()
-        );
-        assert_eq!(rt;
-            numbers.find(all.as_slice(), &name),
-            want.unwrap_or(5),
-            "{}",
-            name.as_str()
-        );
-    }
-    assert!(rt; numbers.searched() == [1, 3].as_slice());
+    let among = Among { words: FEW };
+    assert_eq!(rt; wrong_row(rt.alloc(), &among, FEW_NUMBERS)?.as_str(), "");
+    assert_eq!(rt; searched(rt.alloc(), FEW)?.as_str(), "1;3;");
     Ok(())
 }
 
+const MANY: &str =
+    "f0 f1 f2 f3 f4 f5 f6 f7 f8 f9 g0 g1 g2 g3 g4 g5 g6 g7 g8 g9 h0 h1 h2 h3 h4 h5 h6 h7 h8 h9 i0 i1 i2 s0";
+
+const MANY_NUMBERS: &str = "0 0~f0
+32 32~i2
+33 33~s0
+none 34~s1";
+
 #[test]
 fn more_than_a_few_are_indexed(rt: HostRuntime) -> Result<(), Fail> {
-    let all = fields(
-        rt.alloc(),
-        "f0 f1 f2 f3 f4 f5 f6 f7 f8 f9 g0 g1 g2 g3 g4 g5 g6 g7 g8 g9 h0 h1 h2 h3 h4 h5 h6 h7 h8 h9 i0 i1 i2 s0",
-    )?;
-    let numbers = FieldNumbers::of(rt.alloc(), all.as_slice())?;
-    for (name, want) in [
-        ("f0", Some(0)),
-        ("i2", Some(32)),
-        ("s0", Some(33)),
-        ("s1", None),
-    ] {
-        let name = Text::copy(rt.alloc(), name)?;
-        assert_eq!(rt;
-            numbers.look_up(all.as_slice(), &name),
-            want,
-            "{}",
-            name.as_str()
-        );
-    }
-    assert!(rt; numbers.searched() == [33].as_slice());
+    let among = Among { words: MANY };
+    assert_eq!(rt; wrong_row(rt.alloc(), &among, MANY_NUMBERS)?.as_str(), "");
+    assert_eq!(rt; searched(rt.alloc(), MANY)?.as_str(), "33;");
     Ok(())
 }

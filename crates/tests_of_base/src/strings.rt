@@ -1,3 +1,6 @@
+//! Patterns that were written down by hand, and texts that they fit.
+
+use crate::tables::{Asked, answer, truth, wrong_row};
 use sig_base::{Detail, Fault, Limits, Place, Text};
 use sig_strings::{HoleName, Part, Pattern, SharedPattern};
 use std::alloc::Global;
@@ -8,24 +11,29 @@ const PLACE: Place = Place {
     column: 12,
 };
 
-/// The pattern, with each character in quotes, `#` for a dash and a placeholder's name in braces.
-fn shown(alloc: Global, pattern: &Pattern) -> Result<String, Fail> {
-    let mut text = String::new(alloc);
-    for part in pattern.parts() {
-        match part {
-            Part::Char(c) => {
-                text.push('\'')?;
-                text.push(*c)?;
-            }
-            Part::One => text.push('?')?,
-            Part::Run => text.push('*')?,
-            Part::Dash => text.push('#')?,
-            Part::Hole(name) => {
-                text.push('{')?;
-                text.push_str(name.as_str())?;
-                text.push('}')?;
-            }
+fn put_part(text: &mut String, part: &Part) -> Result<(), Fail> {
+    match part {
+        Part::Char(c) => {
+            text.push('\'')?;
+            text.push(*c)?;
         }
+        Part::One => text.push('?')?,
+        Part::Run => text.push('*')?,
+        Part::Dash => text.push('#')?,
+        Part::Hole(name) => {
+            text.push('{')?;
+            text.push_str(name.as_str())?;
+            text.push('}')?;
+        }
+    }
+    Ok(())
+}
+
+/// The parts, with each character behind a quote, `#` for a dash and a placeholder's name in braces.
+fn shown(alloc: Global, parts: &[Part]) -> Result<String, Fail> {
+    let mut text = String::new(alloc);
+    for part in parts {
+        put_part(&mut text, part)?;
     }
     Ok(text)
 }
@@ -34,130 +42,272 @@ fn read(alloc: Global, text: &str, expand: bool) -> Result<Pattern, Fail> {
     Ok(Pattern::read(alloc, &Limits::standard(), text, expand, PLACE)?)
 }
 
+/// Asks for the parts of a text's pattern.
+#[derive(Clone, Copy)]
+struct Parts {
+    expand: bool,
+}
+
+impl Asked for Parts {
+    fn told(&self, alloc: Global, given: &str) -> Result<String, Fail> {
+        let pattern = read(alloc, given, self.expand)?;
+        shown(alloc, pattern.parts())
+    }
+}
+
+const PLAIN_PARTS: &str = r"'*~\*
+'\*~\\*
+'\'*~\\\*
+'\'\~\\\\
+'a'\'b~a\b
+'\~\
+'a*?~a*?
+'%'x'%~%x%";
+
+const EXPANDED_PARTS: &str = "'a{x}~a%x%
+'%'%~%%
+'1'0'0'%~100%
+'%'a'-'b{c_1}~%a-b%c_1%
+~";
+
 #[test]
 fn texts_spell_patterns(rt: HostRuntime) -> Result<(), Fail> {
-    for (text, expand, want) in [
-        (r"\*", false, "'*"),
-        (r"\\*", false, r"'\*"),
-        (r"\\\*", false, r"'\'*"),
-        (r"\\\\", false, r"'\'\"),
-        (r"a\b", false, r"'a'\'b"),
-        (r"\", false, r"'\"),
-        ("a*?", false, "'a*?"),
-        ("%x%", false, "'%'x'%"),
-        ("a%x%", true, "'a{x}"),
-        ("%%", true, "'%'%"),
-        ("100%", true, "'1'0'0'%"),
-        ("%a-b%c_1%", true, "'%'a'-'b{c_1}"),
-        ("", true, ""),
-    ] {
-        let pattern = read(rt.alloc(), text, expand)?;
-        let parts = shown(rt.alloc(), &pattern)?;
-        assert_eq!(rt; parts.as_str(), want, "the parts of {text}");
-    }
+    let plain = Parts { expand: false };
+    assert_eq!(rt; wrong_row(rt.alloc(), &plain, PLAIN_PARTS)?.as_str(), "");
+    let expanded = Parts { expand: true };
+    assert_eq!(rt;
+        wrong_row(rt.alloc(), &expanded, EXPANDED_PARTS)?.as_str(),
+        ""
+    );
     Ok(())
 }
+
+/// Asks of `pattern~text` whether the pattern fits the text.
+#[derive(Clone, Copy)]
+struct Fits {
+    expand: bool,
+    cased: bool,
+}
+
+impl Asked for Fits {
+    fn told(&self, alloc: Global, given: &str) -> Result<String, Fail> {
+        let Some((pattern, text)) = given.split_once('~') else {
+            return answer(alloc, "no pattern and text");
+        };
+        let pattern = read(alloc, pattern, self.expand)?;
+        truth(alloc, pattern.fits(text, self.cased))
+    }
+}
+
+const CASED: &str = "yes~a*c~ac
+no~a?c~ac
+yes~a?c~aéc
+yes~*ab*ba~abba
+no~*ab*ba~aba
+yes~*aab~aaab
+no~ABC~abc
+yes~~
+no~~a
+yes~***~";
+
+const UNCASED: &str = "yes~ABC~abc
+no~Ä~ä";
+
+const EXPANDED: &str = "no~%x%~%x%";
 
 #[test]
 fn patterns_fit_texts(rt: HostRuntime) -> Result<(), Fail> {
-    for (pattern, text, cased, want) in [
-        ("a*c", "ac", true, true),
-        ("a?c", "ac", true, false),
-        ("a?c", "a\u{e9}c", true, true),
-        ("*ab*ba", "abba", true, true),
-        ("*ab*ba", "aba", true, false),
-        ("*aab", "aaab", true, true),
-        ("ABC", "abc", false, true),
-        ("ABC", "abc", true, false),
-        ("\u{c4}", "\u{e4}", false, false),
-        ("", "", true, true),
-        ("", "a", true, false),
-        ("***", "", true, true),
-    ] {
-        let got = read(rt.alloc(), pattern, false)?.fits(text, cased);
-        assert_eq!(rt; got, want, "{pattern} against {text}");
-    }
-    assert!(rt; !read(rt.alloc(), "%x%", true)?.fits("%x%", true));
+    let cased = Fits {
+        expand: false,
+        cased: true,
+    };
+    assert_eq!(rt; wrong_row(rt.alloc(), &cased, CASED)?.as_str(), "");
+    let uncased = Fits {
+        expand: false,
+        cased: false,
+    };
+    assert_eq!(rt; wrong_row(rt.alloc(), &uncased, UNCASED)?.as_str(), "");
+    let expanded = Fits {
+        expand: true,
+        cased: true,
+    };
+    assert_eq!(rt; wrong_row(rt.alloc(), &expanded, EXPANDED)?.as_str(), "");
     Ok(())
 }
 
-fn is_too_long(read: &Result<Pattern, Fault>) -> bool {
-    let Err(Fault::Refused(refusal)) = read else {
-        return false;
-    };
-    let without_detail = matches!(&refusal.detail, Detail::None);
-    refusal.code.number() == 49 && refusal.place == PLACE && without_detail
+/// Asks for the number of a text's refusal where a value has at most two characters.
+struct Short;
+
+impl Asked for Short {
+    fn told(&self, alloc: Global, given: &str) -> Result<String, Fail> {
+        let mut limits = Limits::standard();
+        limits.value_chars = 2;
+        let read = Pattern::read(alloc, &limits, given, false, PLACE);
+        let Err(Fault::Refused(refusal)) = &read else {
+            return truth(alloc, read.is_ok());
+        };
+        let without_detail = matches!(&refusal.detail, Detail::None);
+        if refusal.place != PLACE || !without_detail {
+            return answer(alloc, "elsewhere, or with a detail");
+        }
+        Ok(format!(in alloc; "{}", refusal.code.number())?)
+    }
 }
+
+const LENGTHS: &str = "yes~éé
+49~abc";
 
 #[test]
 fn long_texts_are_refused(rt: HostRuntime) -> Result<(), Fail> {
-    let mut limits = Limits::standard();
-    limits.value_chars = 2;
-    assert!(rt; Pattern::read(rt.alloc(), &limits, "\u{e9}\u{e9}", false, PLACE).is_ok());
-    let refused = Pattern::read(rt.alloc(), &limits, "abc", false, PLACE);
-    assert!(rt; is_too_long(&refused));
+    assert_eq!(rt; wrong_row(rt.alloc(), &Short, LENGTHS)?.as_str(), "");
     Ok(())
+}
+
+/// Asks for the parts of a text's pattern with dashes.
+struct Dashes;
+
+impl Asked for Dashes {
+    fn told(&self, alloc: Global, given: &str) -> Result<String, Fail> {
+        let pattern = read(alloc, given, false)?.dashes();
+        shown(alloc, pattern.parts())
+    }
+}
+
+const DASHES: &str = "#'a' #'b~-a /b
+'a'-'b~a-b
+'-#'a' '-' *#'b~--a - *-b";
+
+/// Whether the pattern `-a` with dashes fits `U+2015 a` and `+a`, and whether it can be written.
+fn dash_told(alloc: Global) -> Result<String, Fail> {
+    let pattern = read(alloc, "-a", false)?.dashes();
+    let fits = pattern.fits("\u{2015}a", true);
+    let fits_plus = pattern.fits("+a", true);
+    Ok(format!(in alloc; "{fits} {fits_plus} {}", pattern.is_written())?)
 }
 
 #[test]
 fn dashes_begin_words(rt: HostRuntime) -> Result<(), Fail> {
-    for (text, want) in [
-        ("-a /b", "#'a' #'b"),
-        ("a-b", "'a'-'b"),
-        ("--a - *-b", "'-#'a' '-' *#'b"),
-    ] {
-        let pattern = read(rt.alloc(), text, false)?.dashes();
-        let parts = shown(rt.alloc(), &pattern)?;
-        assert_eq!(rt; parts.as_str(), want, "the dashes of {text}");
-    }
-    let pattern = read(rt.alloc(), "-a", false)?.dashes();
-    assert!(rt; pattern.fits("\u{2015}a", true));
-    assert!(rt; !pattern.fits("+a", true));
-    assert!(rt; !pattern.is_written());
+    assert_eq!(rt; wrong_row(rt.alloc(), &Dashes, DASHES)?.as_str(), "");
+    assert_eq!(rt; dash_told(rt.alloc())?.as_str(), "true false false");
     Ok(())
+}
+
+/// How a pattern is written, if it can be.
+fn written(alloc: Global, pattern: &Pattern) -> Result<String, Fail> {
+    if !pattern.is_written() {
+        return answer(alloc, "not written");
+    }
+    let text = pattern.write_sigma(alloc)?;
+    answer(alloc, text.as_str())
+}
+
+/// A pattern's plain text, if it has one.
+fn plain(alloc: Global, text: Option<&Text>) -> Result<String, Fail> {
+    match text {
+        Some(text) => answer(alloc, text.as_str()),
+        None => answer(alloc, "no plain text"),
+    }
+}
+
+/// Whether the pattern of `a\*` has a wildcard, and its plain text.
+fn read_told(alloc: Global) -> Result<String, Fail> {
+    let pattern = read(alloc, r"a\*", false)?;
+    let text = pattern.plain_text(alloc)?;
+    let text = plain(alloc, text.as_ref())?;
+    Ok(format!(in alloc; "{} {}", pattern.has_wildcard(), text.as_str())?)
+}
+
+/// How a copy of it with a run behind it is written.
+fn copy_written(alloc: Global) -> Result<String, Fail> {
+    let pattern = read(alloc, r"a\*", false)?;
+    let same = pattern.copy()?.with_run_after()?;
+    written(alloc, &same)
+}
+
+/// Whether a copy of it where it's shared is written, has a wildcard, fits `a*` and `ab`, and how many parts it has.
+fn shared_told(alloc: Global) -> Result<String, Fail> {
+    let shared = SharedPattern::share(alloc, read(alloc, r"a\*", false)?)?;
+    let copy = shared.copy()?;
+    let fits = copy.fits("a*", true);
+    let fits_other = copy.fits("ab", true);
+    Ok(format!(in alloc;
+        "{} {} {fits} {fits_other} {}",
+        copy.is_written(),
+        copy.has_wildcard(),
+        copy.parts().len()
+    )?)
+}
+
+/// The plain text of it where it's shared, once a copy of that is gone.
+fn shared_plain(alloc: Global) -> Result<String, Fail> {
+    let shared = SharedPattern::share(alloc, read(alloc, r"a\*", false)?)?;
+    let written = shared.copy()?.is_written();
+    let text = shared.plain_text(alloc)?;
+    let text = plain(alloc, text.as_ref())?;
+    Ok(format!(in alloc; "{written} {}", text.as_str())?)
+}
+
+/// The pattern of `a\*` with runs on both sides, each asked for twice.
+fn around(alloc: Global) -> Result<Pattern, Fail> {
+    let once = read(alloc, r"a\*", false)?
+        .with_run_before()?
+        .with_run_after()?;
+    Ok(once.with_run_before()?.with_run_after()?)
+}
+
+/// Whether it has a wildcard and fits `xa*y`, its plain text, and how it's written.
+fn around_told(alloc: Global) -> Result<String, Fail> {
+    let pattern = around(alloc)?;
+    let fits = pattern.fits("xa*y", true);
+    let text = pattern.plain_text(alloc)?;
+    let text = plain(alloc, text.as_ref())?;
+    let written = written(alloc, &pattern)?;
+    Ok(format!(in alloc;
+        "{} {fits} {} {}",
+        pattern.has_wildcard(),
+        text.as_str(),
+        written.as_str()
+    )?)
 }
 
 #[test]
 fn patterns_are_edited_and_written(rt: HostRuntime) -> Result<(), Fail> {
-    let pattern = read(rt.alloc(), r"a\*", false)?;
-    assert!(rt; !pattern.has_wildcard());
-    let plain = pattern.plain_text(rt.alloc())?;
-    assert!(rt; matches!(&plain, Some(text) if text.is("a*")));
-    let same = pattern.copy()?.with_run_after()?;
-    assert!(rt; same.is_written());
-    assert!(rt; same.write_sigma(rt.alloc())?.is(r"a\**"));
-    let shared = SharedPattern::share(rt.alloc(), pattern)?;
-    let copy = shared.copy()?;
-    assert!(rt; copy.is_written() && !copy.has_wildcard());
-    assert!(rt; copy.fits("a*", true) && !copy.fits("ab", true));
-    assert_eq!(rt; copy.parts().len(), 2);
-    let around = read(rt.alloc(), r"a\*", false)?
-        .with_run_before()?
-        .with_run_after()?
-        .with_run_before()?
-        .with_run_after()?;
-    assert!(rt; around.has_wildcard());
-    assert!(rt; around.plain_text(rt.alloc())?.is_none());
-    assert!(rt; around.is_written());
-    assert!(rt; around.fits("xa*y", true));
-    assert!(rt; around.write_sigma(rt.alloc())?.is(r"*a\**"));
-    let plain = shared.plain_text(rt.alloc())?;
-    assert!(rt; matches!(&plain, Some(text) if text.is("a*")));
+    assert_eq!(rt; read_told(rt.alloc())?.as_str(), "false a*");
+    assert_eq!(rt; copy_written(rt.alloc())?.as_str(), r"a\**");
+    assert_eq!(rt;
+        shared_told(rt.alloc())?.as_str(),
+        "true false true false 2"
+    );
+    assert_eq!(rt; shared_plain(rt.alloc())?.as_str(), "true a*");
+    assert_eq!(rt;
+        around_told(rt.alloc())?.as_str(),
+        r"true true no plain text *a\**"
+    );
     Ok(())
 }
 
-#[test]
-fn parts_make_patterns(rt: HostRuntime) -> Result<(), Fail> {
-    let mut parts = Vec::new(rt.alloc());
+/// How a pattern of three characters and a single one is written.
+fn special_written(alloc: Global) -> Result<String, Fail> {
+    let mut parts = Vec::new(alloc);
     for c in ['\\', '?', '*'] {
         parts.push(Part::Char(c))?;
     }
     parts.push(Part::One)?;
-    let pattern = Pattern::of_parts(parts);
-    assert!(rt; pattern.is_written());
-    assert!(rt; pattern.write_sigma(rt.alloc())?.is(r"\\\?\*?"));
-    let name = HoleName::new(rt.alloc(), Text::copy(rt.alloc(), "name")?)?;
+    written(alloc, &Pattern::of_parts(parts))
+}
+
+/// The clone of a placeholder of the name `name`.
+fn cloned_hole(alloc: Global) -> Result<String, Fail> {
+    let name = HoleName::new(alloc, Text::copy(alloc, "name")?)?;
     let hole = Part::Hole(name).clone()?;
-    assert!(rt; matches!(&hole, Part::Hole(name) if name.as_str() == "name"));
+    let mut text = String::new(alloc);
+    put_part(&mut text, &hole)?;
+    Ok(text)
+}
+
+#[test]
+fn parts_make_patterns(rt: HostRuntime) -> Result<(), Fail> {
+    assert_eq!(rt; special_written(rt.alloc())?.as_str(), r"\\\?\*?");
+    assert_eq!(rt; cloned_hole(rt.alloc())?.as_str(), "{name}");
     Ok(())
 }

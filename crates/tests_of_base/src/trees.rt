@@ -3,57 +3,63 @@
 use backend_core::{Leaf, LeafTest, Op, Tree};
 use sig_base::{Limits, Place, Text};
 use sig_strings::{Pattern, SharedPattern};
+use std::alloc::Global;
 use std::test::Fail;
+
+const PLACE: Place = Place { line: 6, column: 5 };
+
+fn put_leaf(parts: &mut Vec<Tree>, field: u32, test: LeafTest) -> Result<(), Fail> {
+    parts.push(Tree::Leaf(Leaf {
+        field,
+        test,
+        place: PLACE,
+    }))?;
+    Ok(())
+}
+
+fn fits(alloc: Global, text: &str) -> Result<LeafTest, Fail> {
+    let pattern = Pattern::read(alloc, &Limits::standard(), text, false, PLACE)?;
+    Ok(LeafTest::Fits {
+        pattern: SharedPattern::share(alloc, pattern)?,
+        cased: true,
+    })
+}
+
+fn put_texts(alloc: Global, parts: &mut Vec<Tree>) -> Result<(), Fail> {
+    put_leaf(parts, 1, fits(alloc, "cmd*")?)?;
+    put_leaf(parts, 2, fits(alloc, "a?b")?)?;
+    put_leaf(parts, 7, LeafTest::Finds(Text::copy(alloc, "^[a-z]+'$")?))
+}
+
+fn put_others(parts: &mut Vec<Tree>) -> Result<(), Fail> {
+    put_leaf(parts, 3, LeafTest::Has)?;
+    put_leaf(parts, 4, LeafTest::Equals(-7))?;
+    for op in [Op::Lt, Op::Lte, Op::Gt, Op::Gte] {
+        put_leaf(parts, 5, LeafTest::Compare { op, number: 8 })?;
+    }
+    put_leaf(parts, 6, LeafTest::SameAs(2))
+}
+
+/// None of leaves of all kinds but `Absent`, and of what never holds.
+fn tree(alloc: Global) -> Result<Tree, Fail> {
+    let mut parts = Vec::new(alloc);
+    put_texts(alloc, &mut parts)?;
+    put_others(&mut parts)?;
+    parts.push(Tree::Never)?;
+    Ok(Tree::Not(Box::new(alloc, Tree::Any(parts))?))
+}
+
+fn shown(alloc: Global, tree: &Tree) -> Result<String, Fail> {
+    Ok(format!(in alloc; "{tree:?}")?)
+}
 
 #[test]
 fn copies_are_the_same(rt: HostRuntime) -> Result<(), Fail> {
-    let alloc = rt.alloc();
-    let place = Place { line: 6, column: 5 };
-    let mut parts = Vec::new(alloc);
-    for (field, text) in [(1, "cmd*"), (2, "a?b")] {
-        let pattern = Pattern::read(alloc, &Limits::standard(), text, false, place)?;
-        let pattern = SharedPattern::share(alloc, pattern)?;
-        parts.push(Tree::Leaf(Leaf {
-            field,
-            test: LeafTest::Fits {
-                pattern,
-                cased: true,
-            },
-            place,
-        }))?;
-    }
-    parts.push(Tree::Leaf(Leaf {
-        field: 3,
-        test: LeafTest::Has,
-        place,
-    }))?;
-    parts.push(Tree::Leaf(Leaf {
-        field: 4,
-        test: LeafTest::Equals(-7),
-        place,
-    }))?;
-    for op in [Op::Lt, Op::Lte, Op::Gt, Op::Gte] {
-        parts.push(Tree::Leaf(Leaf {
-            field: 5,
-            test: LeafTest::Compare { op, number: 8 },
-            place,
-        }))?;
-    }
-    parts.push(Tree::Leaf(Leaf {
-        field: 6,
-        test: LeafTest::SameAs(2),
-        place,
-    }))?;
-    parts.push(Tree::Leaf(Leaf {
-        field: 7,
-        test: LeafTest::Finds(Text::copy(alloc, "^[a-z]+'$")?),
-        place,
-    }))?;
-    parts.push(Tree::Never)?;
-    let tree = Tree::Not(Box::new(alloc, Tree::Any(parts))?);
-    let copy = tree.copy(alloc)?;
-    let shown = format!(in alloc; "{tree:?}")?;
-    let again = format!(in alloc; "{copy:?}")?;
-    assert_eq!(rt; again.as_str(), shown.as_str());
+    let tree = tree(rt.alloc())?;
+    let copy = tree.copy(rt.alloc())?;
+    assert_eq!(rt;
+        shown(rt.alloc(), &copy)?.as_str(),
+        shown(rt.alloc(), &tree)?.as_str()
+    );
     Ok(())
 }

@@ -1,358 +1,189 @@
 //! Words that are taken, with what they give, and words that aren't.
 
+use crate::tables::{Asked, answer, wrong_row};
 use command_words::{CommandName, read};
 use std::alloc::Global;
 use std::test::Fail;
 
-/// What the words behind a command's name give: the values of the options, and the files with a `;` behind each.
-fn told(alloc: Global, command: CommandName, words: &[&str]) -> Result<String, Fail> {
-    let mut all = String::new(alloc);
-    let Ok(Some(matches)) = read(alloc, command, words) else {
-        all.push_str("not taken")?;
-        return Ok(all);
+/// The command of this name.
+fn command(name: &str) -> Option<CommandName> {
+    match name {
+        "check" => Some(CommandName::Check),
+        "convert" => Some(CommandName::Convert),
+        "run" => Some(CommandName::Run),
+        "query" => Some(CommandName::Query),
+        "correlate" => Some(CommandName::Correlate),
+        "generate" => Some(CommandName::Generate),
+        _ => None,
+    }
+}
+
+/// A line's first word, and what is behind it.
+fn first_word(line: &str) -> (&str, &str) {
+    match line.split_once(' ') {
+        Some(parts) => parts,
+        None => (line, ""),
+    }
+}
+
+/// The words with a space between them, `''` for an empty one.
+fn words(alloc: Global, line: &str) -> Result<Vec<&str>, Fail> {
+    let mut words = Vec::new(alloc);
+    if line.is_empty() {
+        return Ok(words);
+    }
+    for word in line.split(' ') {
+        words.push(if word == "''" { "" } else { word })?;
+    }
+    Ok(words)
+}
+
+/// Adds what an option gives, if it gives something, between two texts.
+fn put(all: &mut String, before: &str, value: Option<&str>, behind: &str) -> Result<(), Fail> {
+    let Some(value) = value else {
+        return Ok(());
     };
-    if let Some(backend) = matches.get_str("backend") {
-        all.push_str(backend)?;
-        all.push_str(": ")?;
-    }
-    if let Some(schema) = matches.get_str("schema") {
-        all.push_str("under ")?;
-        all.push_str(schema)?;
-        all.push_str(": ")?;
-    }
-    if let Some(pipeline) = matches.get_str("pipeline") {
-        all.push_str("by ")?;
-        all.push_str(pipeline)?;
-        all.push_str(": ")?;
-    }
-    if let Some(seed) = matches.get_str("seed") {
-        all.push_str("from ")?;
-        all.push_str(seed)?;
-        all.push_str(": ")?;
-    }
-    if let Some(events) = matches.get_str("events") {
-        all.push_str(events)?;
-        all.push_str(" events: ")?;
-    }
+    all.push_str(before)?;
+    all.push_str(value)?;
+    all.push_str(behind)?;
+    Ok(())
+}
+
+/// What the words behind a command's name give: the values of the options, and the files with a `;` behind each.
+fn options(alloc: Global, command: CommandName, words: &[&str]) -> Result<String, Fail> {
+    let Ok(Some(matches)) = read(alloc, command, words) else {
+        return answer(alloc, "not taken");
+    };
+    let mut all = String::new(alloc);
+    put(&mut all, "", matches.get_str("backend"), ": ")?;
+    put(&mut all, "under ", matches.get_str("schema"), ": ")?;
+    put(&mut all, "by ", matches.get_str("pipeline"), ": ")?;
+    put(&mut all, "from ", matches.get_str("seed"), ": ")?;
+    put(&mut all, "", matches.get_str("events"), " events: ")?;
     if let Some(files) = matches.get_raw("FILE") {
         for file in files {
-            all.push_str(file)?;
-            all.push(';')?;
+            put(&mut all, "", Some(file), ";")?;
         }
     }
     Ok(all)
 }
 
-#[test]
-fn words_of_convert(rt: HostRuntime) -> Result<(), Fail> {
-    let alloc = rt.alloc();
-    for (words, want) in [
-        (
-            ["--backend", "sqlite", "r.yml"].as_slice(),
-            "sqlite: r.yml;",
-        ),
-        (["r.yml", "--backend=sqlite"].as_slice(), "sqlite: r.yml;"),
-        (
-            ["a", "--backend", "sqlite", "b", "a"].as_slice(),
-            "sqlite: a;b;a;",
-        ),
-        (["--backend=a=b", "r"].as_slice(), "a=b: r;"),
-        (
-            ["--backend", "sqlite", "--", "-r.yml", "--backend", "--"].as_slice(),
-            "sqlite: -r.yml;--backend;--;",
-        ),
-        (["a", "--backend=sqlite", "--"].as_slice(), "sqlite: a;"),
-        (["--backend", "sqlite"].as_slice(), "not taken"),
-        (["r.yml"].as_slice(), "not taken"),
-        (
-            ["--backend", "sqlite", "--backend", "sqlite", "r"].as_slice(),
-            "not taken",
-        ),
-        (
-            ["--backend=sqlite", "r", "--backend=sqlite"].as_slice(),
-            "not taken",
-        ),
-        (["--backend", "sqlite", "-"].as_slice(), "not taken"),
-        (["--backend", "sqlite", ""].as_slice(), "not taken"),
-        (["--backend", "", "r"].as_slice(), "not taken"),
-        (["--backend=", "r"].as_slice(), "not taken"),
-        (["--backend", "-x", "r"].as_slice(), "not taken"),
-        (["--backend"].as_slice(), "not taken"),
-        (["--Backend", "sqlite", "r"].as_slice(), "not taken"),
-        (["--back", "sqlite", "r"].as_slice(), "not taken"),
-        (["-b", "sqlite", "r"].as_slice(), "not taken"),
-        (["--help"].as_slice(), "not taken"),
-        (["--backend", "sqlite", "--", ""].as_slice(), "not taken"),
-    ] {
-        assert_eq!(rt; told(alloc, CommandName::Convert, words)?.as_str(), want);
+/// Asks what a command's name gives with the words behind it.
+struct Lines;
+
+impl Asked for Lines {
+    fn told(&self, alloc: Global, given: &str) -> Result<String, Fail> {
+        let (name, rest) = first_word(given);
+        let Some(command) = command(name) else {
+            return answer(alloc, "no command");
+        };
+        let words = words(alloc, rest)?;
+        options(alloc, command, words.as_slice())
     }
-    Ok(())
 }
 
-#[test]
-fn words_with_a_schema(rt: HostRuntime) -> Result<(), Fail> {
-    let alloc = rt.alloc();
-    for (words, want) in [
-        (
-            ["--schema", "s.json", "--backend", "sqlite", "r.yml"].as_slice(),
-            "sqlite: under s.json: r.yml;",
-        ),
-        (
-            ["a", "--backend=sqlite", "--schema=s=1", "b"].as_slice(),
-            "sqlite: under s=1: a;b;",
-        ),
-        (
-            ["a", "b", "--schema", "s", "--backend=sqlite"].as_slice(),
-            "sqlite: under s: a;b;",
-        ),
-        (
-            ["--backend=sqlite", "r", "--", "--schema", "s"].as_slice(),
-            "sqlite: r;--schema;s;",
-        ),
-        (["--schema", "s", "r"].as_slice(), "not taken"),
-        (
-            ["--backend=sqlite", "--schema", "s"].as_slice(),
-            "not taken",
-        ),
-        (
-            ["--backend=sqlite", "r", "--schema"].as_slice(),
-            "not taken",
-        ),
-        (
-            ["--backend=sqlite", "--schema", "s", "--schema", "s", "r"].as_slice(),
-            "not taken",
-        ),
-        (
-            ["--schema=s", "--backend=sqlite", "r", "--schema=t"].as_slice(),
-            "not taken",
-        ),
-        (
-            ["--backend=sqlite", "--schema", "", "r"].as_slice(),
-            "not taken",
-        ),
-        (
-            ["--backend=sqlite", "--schema=", "r"].as_slice(),
-            "not taken",
-        ),
-        (
-            ["--backend=sqlite", "--schema", "-s", "r"].as_slice(),
-            "not taken",
-        ),
-        (
-            ["--backend=sqlite", "--schema=-s", "r"].as_slice(),
-            "not taken",
-        ),
-    ] {
-        assert_eq!(rt; told(alloc, CommandName::Convert, words)?.as_str(), want);
-    }
-    Ok(())
-}
+const COMMAND_LINES: &str = "sqlite: r.yml;~convert --backend sqlite r.yml
+sqlite: r.yml;~convert r.yml --backend=sqlite
+sqlite: a;b;a;~convert a --backend sqlite b a
+a=b: r;~convert --backend=a=b r
+sqlite: -r.yml;--backend;--;~convert --backend sqlite -- -r.yml --backend --
+sqlite: a;~convert a --backend=sqlite --
+not taken~convert --backend sqlite
+not taken~convert r.yml
+not taken~convert --backend sqlite --backend sqlite r
+not taken~convert --backend=sqlite r --backend=sqlite
+not taken~convert --backend sqlite -
+not taken~convert --backend sqlite ''
+not taken~convert --backend '' r
+not taken~convert --backend= r
+not taken~convert --backend -x r
+not taken~convert --backend
+not taken~convert --Backend sqlite r
+not taken~convert --back sqlite r
+not taken~convert -b sqlite r
+not taken~convert --help
+not taken~convert --backend sqlite -- ''
+sqlite: under s.json: r.yml;~convert --schema s.json --backend sqlite r.yml
+sqlite: under s=1: a;b;~convert a --backend=sqlite --schema=s=1 b
+sqlite: under s: a;b;~convert a b --schema s --backend=sqlite
+sqlite: r;--schema;s;~convert --backend=sqlite r -- --schema s
+not taken~convert --schema s r
+not taken~convert --backend=sqlite --schema s
+not taken~convert --backend=sqlite r --schema
+not taken~convert --backend=sqlite --schema s --schema s r
+not taken~convert --schema=s --backend=sqlite r --schema=t
+not taken~convert --backend=sqlite --schema '' r
+not taken~convert --backend=sqlite --schema= r
+not taken~convert --backend=sqlite --schema -s r
+not taken~convert --backend=sqlite --schema=-s r
+sqlite: by p.yml: r.yml;~convert --pipeline p.yml --backend sqlite r.yml
+sqlite: under s: by p: a;b;~convert a --backend=sqlite --pipeline=p --schema s b
+not taken~convert --pipeline p --backend=sqlite --pipeline p r
+not taken~convert --pipeline p --backend=sqlite
+not taken~convert --backend=sqlite r --pipeline
+not taken~convert --pipeline= --backend=sqlite r
+not taken~convert --pipelines p --backend=sqlite r
+a;b;~check a b
+a;-b;~check a -- -b
+a;~check a --
+not taken~check
+not taken~check --
+not taken~check --backend sqlite a
+not taken~check --schema s a
+not taken~check --pipeline p a
+not taken~check -h
+r.yml;~run r.yml
+under s.json: r.yml;~run --schema s.json r.yml
+under s.json: r.yml;~run r.yml --schema=s.json
+under s: -r;~run --schema=s -- -r
+by p: r;~run r --pipeline p
+under s: by p: r;~run --pipeline=p --schema=s r
+not taken~run --schema s
+not taken~run a b
+not taken~run -- a b
+not taken~run --backend=sqlite r
+not taken~run
+sqlite: under s.json: q;~query --backend sqlite --schema s.json q
+lucene: under s: q;~query q --schema=s --backend=lucene
+sqlite: under s: -q;~query --schema=s --backend=sqlite -- -q
+not taken~query --backend=sqlite --schema=s --pipeline=p q
+not taken~query --backend=sqlite q
+not taken~query --schema=s q
+not taken~query --backend=sqlite --schema=s a b
+not taken~query --backend=sqlite --schema=s
+not taken~query
+under s: r.yml;~correlate --schema s r.yml
+under s: by p: a;b;a;~correlate a --pipeline=p b --schema=s a
+under s: -r;--;~correlate --schema=s -- -r --
+not taken~correlate r
+not taken~correlate --pipeline p r
+not taken~correlate --schema s
+not taken~correlate --schema=s --
+not taken~correlate --schema=s r --schema=s
+not taken~correlate --schema=s --backend=sqlite r
+not taken~correlate --schema= r
+not taken~correlate --schema -s r
+not taken~correlate
+from 0: 3 events: ~generate --seed 0 --events 3
+from x: 3 events: ~generate --events=3 --seed=x
+from 7: 3 events: ~generate --seed=7 --events 3 --
+not taken~generate x
+not taken~generate --seed=1 --events=3 x
+not taken~generate x --seed=1 --events=3
+not taken~generate --seed=1 --events=3 -- x
+not taken~generate --seed 1
+not taken~generate --events 3
+not taken~generate --seed=1 --events
+not taken~generate --seed=1 --events=3 --seed=1
+not taken~generate --seed=-1 --events=3
+not taken~generate --seed -1 --events=3
+not taken~generate --seed= --events=3
+not taken~generate --seed=1 --events=3 --schema=s
+not taken~generate";
 
 #[test]
-fn words_with_pipelines(rt: HostRuntime) -> Result<(), Fail> {
-    let alloc = rt.alloc();
-    for (words, want) in [
-        (
-            ["--pipeline", "p.yml", "--backend", "sqlite", "r.yml"].as_slice(),
-            "sqlite: by p.yml: r.yml;",
-        ),
-        (
-            [
-                "a",
-                "--backend=sqlite",
-                "--pipeline=p",
-                "--schema",
-                "s",
-                "b",
-            ]
-            .as_slice(),
-            "sqlite: under s: by p: a;b;",
-        ),
-        (
-            [
-                "--pipeline",
-                "p",
-                "--backend=sqlite",
-                "--pipeline",
-                "p",
-                "r",
-            ]
-            .as_slice(),
-            "not taken",
-        ),
-        (
-            ["--pipeline", "p", "--backend=sqlite"].as_slice(),
-            "not taken",
-        ),
-        (
-            ["--backend=sqlite", "r", "--pipeline"].as_slice(),
-            "not taken",
-        ),
-        (
-            ["--pipeline=", "--backend=sqlite", "r"].as_slice(),
-            "not taken",
-        ),
-        (
-            ["--pipelines", "p", "--backend=sqlite", "r"].as_slice(),
-            "not taken",
-        ),
-    ] {
-        assert_eq!(rt; told(alloc, CommandName::Convert, words)?.as_str(), want);
-    }
-    Ok(())
-}
-
-#[test]
-fn words_of_check(rt: HostRuntime) -> Result<(), Fail> {
-    let alloc = rt.alloc();
-    for (words, want) in [
-        (["a", "b"].as_slice(), "a;b;"),
-        (["a", "--", "-b"].as_slice(), "a;-b;"),
-        (["a", "--"].as_slice(), "a;"),
-        ([].as_slice(), "not taken"),
-        (["--"].as_slice(), "not taken"),
-        (["--backend", "sqlite", "a"].as_slice(), "not taken"),
-        (["--schema", "s", "a"].as_slice(), "not taken"),
-        (["--pipeline", "p", "a"].as_slice(), "not taken"),
-        (["-h"].as_slice(), "not taken"),
-    ] {
-        assert_eq!(rt; told(alloc, CommandName::Check, words)?.as_str(), want);
-    }
-    Ok(())
-}
-
-#[test]
-fn words_of_run(rt: HostRuntime) -> Result<(), Fail> {
-    let alloc = rt.alloc();
-    for (words, want) in [
-        (["r.yml"].as_slice(), "r.yml;"),
-        (
-            ["--schema", "s.json", "r.yml"].as_slice(),
-            "under s.json: r.yml;",
-        ),
-        (
-            ["r.yml", "--schema=s.json"].as_slice(),
-            "under s.json: r.yml;",
-        ),
-        (["--schema=s", "--", "-r"].as_slice(), "under s: -r;"),
-        (["r", "--pipeline", "p"].as_slice(), "by p: r;"),
-        (
-            ["--pipeline=p", "--schema=s", "r"].as_slice(),
-            "under s: by p: r;",
-        ),
-        (["--schema", "s"].as_slice(), "not taken"),
-        (["a", "b"].as_slice(), "not taken"),
-        (["--", "a", "b"].as_slice(), "not taken"),
-        (["--backend=sqlite", "r"].as_slice(), "not taken"),
-        ([].as_slice(), "not taken"),
-    ] {
-        assert_eq!(rt; told(alloc, CommandName::Run, words)?.as_str(), want);
-    }
-    Ok(())
-}
-
-#[test]
-fn words_of_query(rt: HostRuntime) -> Result<(), Fail> {
-    let alloc = rt.alloc();
-    for (words, want) in [
-        (
-            ["--backend", "sqlite", "--schema", "s.json", "q"].as_slice(),
-            "sqlite: under s.json: q;",
-        ),
-        (
-            ["q", "--schema=s", "--backend=lucene"].as_slice(),
-            "lucene: under s: q;",
-        ),
-        (
-            ["--schema=s", "--backend=sqlite", "--", "-q"].as_slice(),
-            "sqlite: under s: -q;",
-        ),
-        (
-            ["--backend=sqlite", "--schema=s", "--pipeline=p", "q"].as_slice(),
-            "not taken",
-        ),
-        (["--backend=sqlite", "q"].as_slice(), "not taken"),
-        (["--schema=s", "q"].as_slice(), "not taken"),
-        (
-            ["--backend=sqlite", "--schema=s", "a", "b"].as_slice(),
-            "not taken",
-        ),
-        (["--backend=sqlite", "--schema=s"].as_slice(), "not taken"),
-        ([].as_slice(), "not taken"),
-    ] {
-        assert_eq!(rt; told(alloc, CommandName::Query, words)?.as_str(), want);
-    }
-    Ok(())
-}
-
-#[test]
-fn words_of_correlate(rt: HostRuntime) -> Result<(), Fail> {
-    let alloc = rt.alloc();
-    for (words, want) in [
-        (["--schema", "s", "r.yml"].as_slice(), "under s: r.yml;"),
-        (
-            ["a", "--pipeline=p", "b", "--schema=s", "a"].as_slice(),
-            "under s: by p: a;b;a;",
-        ),
-        (
-            ["--schema=s", "--", "-r", "--"].as_slice(),
-            "under s: -r;--;",
-        ),
-        (["r"].as_slice(), "not taken"),
-        (["--pipeline", "p", "r"].as_slice(), "not taken"),
-        (["--schema", "s"].as_slice(), "not taken"),
-        (["--schema=s", "--"].as_slice(), "not taken"),
-        (["--schema=s", "r", "--schema=s"].as_slice(), "not taken"),
-        (
-            ["--schema=s", "--backend=sqlite", "r"].as_slice(),
-            "not taken",
-        ),
-        (["--schema=", "r"].as_slice(), "not taken"),
-        (["--schema", "-s", "r"].as_slice(), "not taken"),
-        ([].as_slice(), "not taken"),
-    ] {
-        assert_eq!(rt; told(alloc, CommandName::Correlate, words)?.as_str(), want);
-    }
-    Ok(())
-}
-
-#[test]
-fn words_of_generate(rt: HostRuntime) -> Result<(), Fail> {
-    let alloc = rt.alloc();
-    for (words, want) in [
-        (
-            ["--seed", "0", "--events", "3"].as_slice(),
-            "from 0: 3 events: ",
-        ),
-        (["--events=3", "--seed=x"].as_slice(), "from x: 3 events: "),
-        (
-            ["--seed=7", "--events", "3", "--"].as_slice(),
-            "from 7: 3 events: ",
-        ),
-        (["x"].as_slice(), "not taken"),
-        (["--seed=1", "--events=3", "x"].as_slice(), "not taken"),
-        (["x", "--seed=1", "--events=3"].as_slice(), "not taken"),
-        (
-            ["--seed=1", "--events=3", "--", "x"].as_slice(),
-            "not taken",
-        ),
-        (["--seed", "1"].as_slice(), "not taken"),
-        (["--events", "3"].as_slice(), "not taken"),
-        (["--seed=1", "--events"].as_slice(), "not taken"),
-        (
-            ["--seed=1", "--events=3", "--seed=1"].as_slice(),
-            "not taken",
-        ),
-        (["--seed=-1", "--events=3"].as_slice(), "not taken"),
-        (["--seed", "-1", "--events=3"].as_slice(), "not taken"),
-        (["--seed=", "--events=3"].as_slice(), "not taken"),
-        (
-            ["--seed=1", "--events=3", "--schema=s"].as_slice(),
-            "not taken",
-        ),
-        ([].as_slice(), "not taken"),
-    ] {
-        assert_eq!(rt; told(alloc, CommandName::Generate, words)?.as_str(), want);
-    }
+fn words_of_commands(rt: HostRuntime) -> Result<(), Fail> {
+    assert_eq!(rt; COMMAND_LINES.lines().count(), 98);
+    assert_eq!(rt; wrong_row(rt.alloc(), &Lines, COMMAND_LINES)?.as_str(), "");
     Ok(())
 }

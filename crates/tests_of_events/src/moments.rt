@@ -21,7 +21,7 @@ fn moment(alloc: Global, form: TimeForm, text: &str) -> Result<String, Fail> {
 fn wrong_moment(alloc: Global, form: TimeForm, table: &str) -> Result<String, Fail> {
     for row in table.lines() {
         let Some((read, want)) = row.split_once('~') else {
-            return Ok(String::from_str(alloc, row)?);
+            return Ok(format!(in alloc; "no row: {row}")?);
         };
         if moment(alloc, form, read)?.as_str() != want {
             return Ok(String::from_str(alloc, row)?);

@@ -54,7 +54,7 @@ fn told_value(alloc: Global, schema: &Schema, value: &str) -> Result<String, Fai
 fn wrong_value(alloc: Global, schema: &Schema, table: &str) -> Result<String, Fail> {
     for row in table.lines() {
         let Some((read, want)) = row.split_once('~') else {
-            return Ok(String::from_str(alloc, row)?);
+            return Ok(format!(in alloc; "no row: {row}")?);
         };
         if told_value(alloc, schema, read)?.as_str() != want {
             return Ok(String::from_str(alloc, row)?);
@@ -251,7 +251,7 @@ fn told_text(alloc: Global, schema: &Schema, line: &str) -> Result<String, Fail>
 fn wrong_line(alloc: Global, schema: &Schema, table: &str) -> Result<String, Fail> {
     for row in table.lines() {
         let Some((read, want)) = row.split_once('~') else {
-            return Ok(String::from_str(alloc, row)?);
+            return Ok(format!(in alloc; "no row: {row}")?);
         };
         if told_text(alloc, schema, read)?.as_str() != want {
             return Ok(String::from_str(alloc, row)?);
@@ -393,7 +393,7 @@ fn told_schema(alloc: Global, limits: &Limits, text: &str) -> Result<String, Fai
 fn wrong_schema(alloc: Global, limits: &Limits, table: &str) -> Result<String, Fail> {
     for row in table.lines() {
         let Some((read, want)) = row.split_once('~') else {
-            return Ok(String::from_str(alloc, row)?);
+            return Ok(format!(in alloc; "no row: {row}")?);
         };
         if told_schema(alloc, limits, read)?.as_str() != want {
             return Ok(String::from_str(alloc, row)?);

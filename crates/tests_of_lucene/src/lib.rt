@@ -8,4 +8,8 @@ mod scanning;
 #[cfg(test)]
 mod selecting;
 #[cfg(test)]
+mod tables;
+#[cfg(test)]
+mod trees;
+#[cfg(test)]
 mod writing;

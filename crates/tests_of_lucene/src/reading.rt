@@ -1,7 +1,6 @@
 //! The reader, by hand.
 
-ghost use Rattle.std.specs.Prelude.{◌≤◌};
-
+use super::tables::with_blanks;
 use event_schema::{Field, FieldKind, FieldList, Schema};
 use lucene_lang::{Atom, Clause, Glyph, Group, Sought, Word};
 use lucene_read::read_query;
@@ -146,166 +145,137 @@ fn show_fault(alloc: Global, shown: &mut Text, fault: &Fault) -> Result<(), Fail
     Ok(())
 }
 
+/// The standard limits but for the open parentheses of a query.
+fn within(depth: usize) -> Limits {
+    let mut limits = Limits::standard();
+    limits.lucene_depth = depth.max(1).min(1000);
+    limits
+}
+
 /// What is read within so many parentheses, or the refusal with its place.
-fn told(alloc: Global, depth: usize, bytes: &[u8]) -> Result<Text, Fail>
-    requires depth { (1 ≤ depth) × (depth ≤ 1000) }
-{
+fn told(alloc: Global, depth: usize, bytes: &[u8]) -> Result<Text, Fail> {
     let mut shown = Text::new(alloc);
     let schema = schema(alloc)?;
-    let mut limits = Limits::standard();
-    limits.lucene_depth = depth;
+    let limits = within(depth);
     if bytes.len() > limits.query_bytes {
         return Ok(shown);
     }
-    match read_query(alloc, &limits, &schema, bytes) {
-        Ok(group) => show_group(alloc, &mut shown, &group)?,
-        Err(fault) => show_fault(alloc, &mut shown, &fault)?,
+    match &read_query(alloc, &limits, &schema, bytes) {
+        Ok(group) => show_group(alloc, &mut shown, group)?,
+        Err(fault) => show_fault(alloc, &mut shown, fault)?,
     }
     Ok(shown)
 }
 
-#[test]
-fn groups_are_read(rt: HostRuntime) -> Result<(), Fail> {
-    let alloc = rt.alloc();
-    for (text, want) in [
-        ("a:x", "(and 0=x)"),
-        ("NOT a:x", "(and -0=x)"),
-        ("(NOT a:x)", "(and (and -0=x))"),
-        ("(*:* AND NOT a:x)", "(and (and *:* -0=x))"),
-        ("\ta:x\nOR\r\nNOT\u{3000}a : y ", "(or 0=x -0=y)"),
-        ("NOT (a:1 OR NOT a:2) AND a:3", "(and -(or 0=1 -0=2) 0=3)"),
-        (
-            "n:{-12 TO *] OR a:x OR (a:y AND a:z)",
-            "(or 1{-12..*] 0=x (and 0=y 0=z))",
-        ),
-        ("(a:1)AND(*:*)", "(and (and 0=1) (and *:*))"),
-    ] {
-        let shown = told(alloc, 2, text.as_bytes())?;
-        assert_eq!(rt; shown.as_str(), want);
+/// A text again and again.
+fn repeated(alloc: Global, unit: &str, count: usize) -> Result<String, Fail> {
+    let mut all = String::new(alloc);
+    for _i in 0..count {
+        all.push_str(unit)?;
     }
+    Ok(all)
+}
+
+/// The first row of a table, `what is read~a text`, of which, so many times, that isn't read; see `with_blanks`.
+fn wrong_row(
+    alloc: Global,
+    depth: usize,
+    count: usize,
+    table: &'static str,
+) -> Result<String, Fail> {
+    for row in table.lines() {
+        let Some((want, text)) = row.split_once('~') else {
+            return Ok(format!(in alloc; "no row: {row}")?);
+        };
+        let text = with_blanks(alloc, text)?;
+        let text = repeated(alloc, text.as_str(), count)?;
+        if told(alloc, depth, text.as_str().as_bytes())?.as_str() != want {
+            return Ok(String::from_str(alloc, row)?);
+        }
+    }
+    Ok(String::new(alloc))
+}
+
+/// Within two parentheses.
+const GROUPS: &str = r"(and 0=x)~a:x
+(and -0=x)~NOT a:x
+(and (and -0=x))~(NOT a:x)
+(and (and *:* -0=x))~(*:* AND NOT a:x)
+(or 0=x -0=y)~␉a:x␊OR␍␊NOT␢a : y␠
+(and -(or 0=1 -0=2) 0=3)~NOT (a:1 OR NOT a:2) AND a:3
+(or 1{-12..*] 0=x (and 0=y 0=z))~n:{-12 TO *] OR a:x OR (a:y AND a:z)
+(and (and 0=1) (and *:*))~(a:1)AND(*:*)";
+
+const LEAVES: &str = r#"(or 2c=X<*> 2=y<?>)~c.cased:X* OR c:y?
+(and 2c="X"* y")~c.cased:"X\"* y"
+(and 1=-3 1=<*> 1=0)~n:\-3 AND n:* AND n:0
+(or 1[-9223372036854775807..*} 1=9223372036854775807)~n:[-9223372036854775807 TO *} OR n:9223372036854775807
+(and 1{0..5] 1[*..*])~n:{0 TO 5] AND n:[* TO *]
+(or 0=TO 0=12 0="AND" 0=OR)~a:TO OR a:12 OR a:"AND" OR \a:\OR
+(and 0=*? 0=(: \<*>)~a:\*\? AND a:\(\:\ \\*
+(and 0="" 0=b-c+d)~a:"" AND a:b-c+d"#;
+
+#[test]
+fn groups_and_leaves_are_read(rt: HostRuntime) -> Result<(), Fail> {
+    let alloc = rt.alloc();
+    assert_eq!(rt; wrong_row(alloc, 2, 1, GROUPS)?.as_str(), "");
+    assert_eq!(rt; wrong_row(alloc, 1000, 1, LEAVES)?.as_str(), "");
     Ok(())
 }
 
-#[test]
-fn leaves_are_read(rt: HostRuntime) -> Result<(), Fail> {
-    let alloc = rt.alloc();
-    for (text, want) in [
-        ("c.cased:X* OR c:y?", "(or 2c=X<*> 2=y<?>)"),
-        ("c.cased:\"X\\\"* y\"", "(and 2c=\"X\"* y\")"),
-        ("n:\\-3 AND n:* AND n:0", "(and 1=-3 1=<*> 1=0)"),
-        (
-            "n:[-9223372036854775807 TO *} OR n:9223372036854775807",
-            "(or 1[-9223372036854775807..*} 1=9223372036854775807)",
-        ),
-        ("n:{0 TO 5] AND n:[* TO *]", "(and 1{0..5] 1[*..*])"),
-        (
-            "a:TO OR a:12 OR a:\"AND\" OR \\a:\\OR",
-            "(or 0=TO 0=12 0=\"AND\" 0=OR)",
-        ),
-        ("a:\\*\\? AND a:\\(\\:\\ \\\\*", "(and 0=*? 0=(: \\<*>)"),
-        ("a:\"\" AND a:b-c+d", "(and 0=\"\" 0=b-c+d)"),
-    ] {
-        let shown = told(alloc, 1000, text.as_bytes())?;
-        assert_eq!(rt; shown.as_str(), want);
-    }
-    Ok(())
-}
+/// Where several things are wrong, or one.
+const REFUSED: &str = r#"134 at 1:13~a:1 AND a:2 OR a:3
+134 at 1:13~a:1 AND b:2 OR c:3
+131 at 1:18~b:1 AND a:2 OR a:3~
+130 at 1:7~a:1 OR
+130 at 1:5~NOT NOT a:b
+130 at 2:9~a:x␊AND (a:1
+130 at 1:3~a:"x
+130 at 1:3~*:x
+132 at 1:10~(a:1 AND b:1)
+133 at 1:9~a:x AND a:[1 TO 2]
+132 at 1:1~TO:x
+132 at 1:1~a.cased:x
+132 at 1:1~A:x
+133 at 1:1~n:05
+133 at 1:1~n:x*
+133 at 1:13~a:x AND NOT n:"1"
+133 at 1:1~n:9223372036854775808
+133 at 1:1~n:[* TO -9223372036854775808]
+133 at 1:1~n:x AND b:x
+132 at 1:1~b:x AND n:x"#;
+
+/// Within one parenthesis.
+const NESTS: &str = r"(and (and 0=1) (and 0=2))~(a:1) AND (a:2)
+135 at 1:1~a:1 AND ((a:2))
+135 at 1:1~((a:1 OR
+131 at 1:5~((a:1~
+130 at 1:1~))((";
 
 #[test]
 fn first_refusals(rt: HostRuntime) -> Result<(), Fail> {
     let alloc = rt.alloc();
-    for (text, want) in [
-        ("a:1 AND a:2 OR a:3", "134 at 1:13"),
-        ("a:1 AND b:2 OR c:3", "134 at 1:13"),
-        ("b:1 AND a:2 OR a:3~", "131 at 1:18"),
-        ("a:1 OR", "130 at 1:7"),
-        ("NOT NOT a:b", "130 at 1:5"),
-        ("a:x\nAND (a:1", "130 at 2:9"),
-        ("a:\"x", "130 at 1:3"),
-        ("*:x", "130 at 1:3"),
-        ("(a:1 AND b:1)", "132 at 1:10"),
-        ("a:x AND a:[1 TO 2]", "133 at 1:9"),
-    ] {
-        let shown = told(alloc, 1000, text.as_bytes())?;
-        assert_eq!(rt; shown.as_str(), want);
-    }
+    assert_eq!(rt; wrong_row(alloc, 1000, 1, REFUSED)?.as_str(), "");
+    assert_eq!(rt; wrong_row(alloc, 1, 1, NESTS)?.as_str(), "");
+    assert_eq!(rt; told(alloc, 1, b"a:\n\xc3\xa4\xff")?.as_str(), "1 at 2:2");
+    assert_eq!(rt; told(alloc, 1, b"\xc3((~ OR")?.as_str(), "1 at 1:1");
     Ok(())
 }
 
-#[test]
-fn names_and_kinds_that_are_refused(rt: HostRuntime) -> Result<(), Fail> {
-    let alloc = rt.alloc();
-    for (text, want) in [
-        ("TO:x", "132 at 1:1"),
-        ("a.cased:x", "132 at 1:1"),
-        ("A:x", "132 at 1:1"),
-        ("n:05", "133 at 1:1"),
-        ("n:x*", "133 at 1:1"),
-        ("a:x AND NOT n:\"1\"", "133 at 1:13"),
-        ("n:9223372036854775808", "133 at 1:1"),
-        ("n:[* TO -9223372036854775808]", "133 at 1:1"),
-        ("n:x AND b:x", "133 at 1:1"),
-        ("b:x AND n:x", "132 at 1:1"),
-    ] {
-        let shown = told(alloc, 1000, text.as_bytes())?;
-        assert_eq!(rt; shown.as_str(), want);
-    }
-    Ok(())
-}
-
-#[test]
-fn parentheses_within_a_limit(rt: HostRuntime) -> Result<(), Fail> {
-    let alloc = rt.alloc();
-    for (text, want) in [
-        ("(a:1) AND (a:2)", "(and (and 0=1) (and 0=2))"),
-        ("a:1 AND ((a:2))", "135 at 1:1"),
-        ("((a:1 OR", "135 at 1:1"),
-        ("((a:1~", "131 at 1:5"),
-        ("))((", "130 at 1:1"),
-    ] {
-        let shown = told(alloc, 1, text.as_bytes())?;
-        assert_eq!(rt; shown.as_str(), want);
-    }
-    Ok(())
-}
-
-#[test]
-fn bytes_that_are_no_text(rt: HostRuntime) -> Result<(), Fail> {
-    let alloc = rt.alloc();
-    let late = told(alloc, 1, b"a:\n\xc3\xa4\xff")?;
-    assert_eq!(rt; late.as_str(), "1 at 2:2");
-    let early = told(alloc, 1, b"\xc3((~ OR")?;
-    assert_eq!(rt; early.as_str(), "1 at 1:1");
-    Ok(())
-}
-
-/// A text again and again.
-fn repeated(alloc: Global, unit: &str, count: usize) -> Result<Vec<u8>, Fail> {
-    let mut bytes = Vec::new(alloc);
-    for _i in 0..count {
-        bytes.extend_from_slice(unit.as_bytes())?;
-    }
-    Ok(bytes)
-}
+/// Each 50,000 times.
+const HOSTILE: &str = r#"135 at 1:1~(
+130 at 1:1~)
+130 at 1:1~"
+130 at 1:50001~\
+130 at 1:50001~a
+130 at 1:50001~9
+130 at 1:5~NOT␠
+130 at 1:350001~a:x OR␠
+130 at 1:1~[
+130 at 1:50001~␢"#;
 
 #[test]
 fn hostile_texts(rt: HostRuntime) -> Result<(), Fail> {
-    let alloc = rt.alloc();
-    for (unit, want) in [
-        ("(", "135 at 1:1"),
-        (")", "130 at 1:1"),
-        ("\"", "130 at 1:1"),
-        ("\\", "130 at 1:50001"),
-        ("a", "130 at 1:50001"),
-        ("9", "130 at 1:50001"),
-        ("NOT ", "130 at 1:5"),
-        ("a:x OR ", "130 at 1:350001"),
-        ("[", "130 at 1:1"),
-        ("\u{3000}", "130 at 1:50001"),
-    ] {
-        let bytes = repeated(alloc, unit, 50_000)?;
-        let shown = told(alloc, 1000, bytes.as_slice())?;
-        assert_eq!(rt; shown.as_str(), want);
-    }
+    assert_eq!(rt; wrong_row(rt.alloc(), 1000, 50_000, HOSTILE)?.as_str(), "");
     Ok(())
 }

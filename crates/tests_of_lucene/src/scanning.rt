@@ -1,5 +1,6 @@
 //! The scanner, by hand.
 
+use super::tables::with_blanks;
 use lucene_lang::{Word, Written};
 use lucene_scan::{Sort, Tokens, first_outside, opens_too_far, scan};
 use sig_base::Text;
@@ -65,100 +66,104 @@ fn show(alloc: Global, tokens: &Tokens) -> Result<Text, Fail> {
     Ok(shown)
 }
 
-/// The tokens of a text, and the place of the last one.
-fn told(alloc: Global, text: &str) -> Result<(Text, u32, u32), Fail> {
+/// The place of the last token, and the tokens.
+fn told(alloc: Global, text: &str) -> Result<String, Fail> {
     if text.len() >= 1000 {
-        return Ok((Text::new(alloc), 0, 0));
+        return Ok(String::from_str(alloc, "too long")?);
     }
     let tokens = scan(alloc, text)?;
     let shown = show(alloc, &tokens)?;
-    match tokens.as_slice() {
-        [.., last] => Ok((shown, last.place.line, last.place.column)),
-        [] => Ok((shown, 0, 0)),
-    }
+    let (line, column) = match tokens.as_slice() {
+        [.., last] => (last.place.line, last.place.column),
+        [] => (0, 0),
+    };
+    Ok(format!(in alloc; "{line}:{column} {}", shown.as_str())?)
 }
 
-#[test]
-fn tokens_and_places(rt: HostRuntime) -> Result<(), Fail> {
-    let alloc = rt.alloc();
-    for (text, tokens, line, column) in [
-        ("", "", 0, 0),
-        (" \t\r\n", "", 0, 0),
-        ("a:1 AND NOT b:x*", "pa : d1 AND NOT pb : wx* ", 1, 15),
-        (
-            "*:* OR(\\AND:\"x\\\"y\")",
-            "* : * OR ( p\\AND : qx\\\"y ) ",
-            1,
-            19,
-        ),
-        ("n:[-5 TO *}", "pn : [ d-5 TO * } ", 1, 11),
-        ("n:{05 T\\O -0]", "pn : { p05 pT\\O p-0 ] ", 1, 13),
-        ("x\n\u{3000}\\:y\\", "px p\\:y ? ", 2, 5),
-        ("a:\"b\\", "pa : ? ", 1, 3),
-        ("\"\"x\"", "q px ? ", 1, 4),
-    ] {
-        let (shown, at_line, at_column) = told(alloc, text)?;
-        assert_eq!(rt; shown.as_str(), tokens);
-        assert_eq!(rt; at_line, line);
-        assert_eq!(rt; at_column, column);
-    }
-    Ok(())
-}
-
-/// The place of the first token that is left out, or 0 and 0.
-fn outside(alloc: Global, text: &str) -> Result<(u32, u32), Fail> {
+/// The place of the first token that is left out, or `none`.
+fn outside(alloc: Global, text: &str) -> Result<String, Fail> {
     if text.len() >= 1000 {
-        return Ok((9, 9));
+        return Ok(String::from_str(alloc, "too long")?);
     }
     let tokens = scan(alloc, text)?;
     match first_outside(tokens.as_slice()) {
-        Some(place) => Ok((place.line, place.column)),
-        None => Ok((0, 0)),
+        Some(place) => Ok(format!(in alloc; "{}:{}", place.line, place.column)?),
+        None => Ok(String::from_str(alloc, "none")?),
     }
 }
 
-#[test]
-fn first_token_that_is_left_out(rt: HostRuntime) -> Result<(), Fail> {
-    let alloc = rt.alloc();
-    for (text, line, column) in [
-        ("a:b-c", 0, 0),
-        ("a:b -c", 1, 5),
-        ("n:[-5 TO 1] -b", 1, 13),
-        ("a:x\\u", 1, 3),
-        ("a:\"^\\^\"", 0, 0),
-        ("a:\"\\u\"", 1, 3),
-        ("\n a:b~", 2, 4),
-        ("-5", 1, 1),
-        ("\\-5 \\~", 0, 0),
-    ] {
-        let (at_line, at_column) = outside(alloc, text)?;
-        assert_eq!(rt; at_line, line);
-        assert_eq!(rt; at_column, column);
-    }
-    Ok(())
-}
-
-fn nests(alloc: Global, limit: usize, text: &str) -> Result<bool, Fail> {
+/// Whether parentheses are open too far, behind the limit and a blank.
+fn nests(alloc: Global, text: &str) -> Result<String, Fail> {
+    let Some((limit, text)) = text.split_once(' ') else {
+        return Ok(String::from_str(alloc, "no limit")?);
+    };
+    let Ok(limit) = limit.parse::<usize>() else {
+        return Ok(String::from_str(alloc, "no limit")?);
+    };
     if text.len() >= 1000 {
-        return Ok(false);
+        return Ok(String::from_str(alloc, "too long")?);
     }
     let tokens = scan(alloc, text)?;
-    Ok(opens_too_far(limit, tokens.as_slice()))
+    let far = opens_too_far(limit, tokens.as_slice());
+    Ok(String::from_str(alloc, if far { "far" } else { "near" })?)
 }
 
-#[test]
-fn parentheses_within_a_limit(rt: HostRuntime) -> Result<(), Fail> {
-    let alloc = rt.alloc();
-    for (limit, text, far) in [
-        (0, "a", false),
-        (0, "(", true),
-        (1, "()()(", false),
-        (1, "()()((", true),
-        (1, ")((", false),
-        (1, ")(((", true),
-        (2, "((\"(((\"", false),
-    ] {
-        assert_eq!(rt; nests(alloc, limit, text)?, far);
+/// What one of the three above answers to a text.
+fn answer(alloc: Global, what: &str, text: &str) -> Result<String, Fail> {
+    match what {
+        "tokens" => told(alloc, text),
+        "outside" => outside(alloc, text),
+        _ => nests(alloc, text),
     }
+}
+
+/// The first row of a table, `what is answered~a text`, that isn't answered so; see `with_blanks`.
+fn wrong_row(alloc: Global, what: &str, table: &'static str) -> Result<String, Fail> {
+    for row in table.lines() {
+        let Some((want, text)) = row.split_once('~') else {
+            return Ok(format!(in alloc; "no row: {row}")?);
+        };
+        let text = with_blanks(alloc, text)?;
+        if answer(alloc, what, text.as_str())?.as_str() != want {
+            return Ok(String::from_str(alloc, row)?);
+        }
+    }
+    Ok(String::new(alloc))
+}
+
+const TOKENS: &str = r#"0:0 ~
+0:0 ~ ␉␍␊
+1:15 pa : d1 AND NOT pb : wx* ~a:1 AND NOT b:x*
+1:19 * : * OR ( p\AND : qx\"y ) ~*:* OR(\AND:"x\"y")
+1:11 pn : [ d-5 TO * } ~n:[-5 TO *}
+1:13 pn : { p05 pT\O p-0 ] ~n:{05 T\O -0]
+2:5 px p\:y ? ~x␊␢\:y\
+1:3 pa : ? ~a:"b\
+1:4 q px ? ~""x""#;
+
+const OUTSIDE: &str = r#"none~a:b-c
+1:5~a:b -c
+1:13~n:[-5 TO 1] -b
+1:3~a:x\u
+none~a:"^\^"
+1:3~a:"\u"
+2:4~␊ a:b~
+1:1~-5
+none~\-5 \~"#;
+
+const NESTS: &str = r#"near~0 a
+far~0 (
+near~1 ()()(
+far~1 ()()((
+near~1 )((
+far~1 )(((
+near~2 (("(((""#;
+
+#[test]
+fn tokens_are_scanned_and_judged(rt: HostRuntime) -> Result<(), Fail> {
+    let alloc = rt.alloc();
+    assert_eq!(rt; wrong_row(alloc, "tokens", TOKENS)?.as_str(), "");
+    assert_eq!(rt; wrong_row(alloc, "outside", OUTSIDE)?.as_str(), "");
+    assert_eq!(rt; wrong_row(alloc, "nests", NESTS)?.as_str(), "");
     Ok(())
 }

@@ -7,11 +7,13 @@ use sig_base::Text;
 use std::alloc::Global;
 use std::test::Fail;
 
-/// An event whose one field has these texts, or none.
-fn event(alloc: Global, texts: &[&str]) -> Result<Event, Fail> {
+/// An event whose one field has these texts, with a comma between them, or none.
+fn event(alloc: Global, texts: &str) -> Result<Event, Fail> {
     let mut values = Vec::new(alloc);
-    for text in texts {
-        values.push(Value::Text(Text::copy(alloc, text)?))?;
+    if !texts.is_empty() {
+        for text in texts.split(',') {
+            values.push(Value::Text(Text::copy(alloc, text)?))?;
+        }
     }
     let mut row = Vec::new(alloc);
     row.push(FieldValues::from_vec(values))?;
@@ -60,31 +62,51 @@ fn either(alloc: Global) -> Result<Group, Fail> {
     })
 }
 
-#[test]
-fn prohibited_clauses_alone_select_nothing(rt: HostRuntime) -> Result<(), Fail> {
-    let alloc = rt.alloc();
-    let alone = without(alloc, false)?;
-    let all = without(alloc, true)?;
-    let nothing = event(alloc, &[])?;
-    let other = event(alloc, &["y"])?;
-    let same = event(alloc, &["y", "X"])?;
-    assert_eq!(rt; selects(&alone, &nothing), false);
-    assert_eq!(rt; selects(&alone, &other), false);
-    assert_eq!(rt; selects(&all, &nothing), true);
-    assert_eq!(rt; selects(&all, &other), true);
-    assert_eq!(rt; selects(&all, &same), false);
-    Ok(())
+/// The query of its text.
+fn query(alloc: Global, text: &str) -> Result<Group, Fail> {
+    match text {
+        "NOT f:x" => without(alloc, false),
+        "*:* AND NOT f:x" => without(alloc, true),
+        "f:x OR f.cased:x*" => either(alloc),
+        _ => Err(Fail::new("no query")),
+    }
 }
 
+/// `yes` where an event with these texts is selected, else `no`.
+fn told(alloc: Global, text: &str, texts: &str) -> Result<&'static str, Fail> {
+    let query = query(alloc, text)?;
+    let event = event(alloc, texts)?;
+    Ok(if selects(&query, &event) { "yes" } else { "no" })
+}
+
+/// The first row of a table, `yes or no~a query~the field's texts`, that isn't so.
+fn wrong_row(alloc: Global, table: &'static str) -> Result<String, Fail> {
+    for row in table.lines() {
+        let Some((want, rest)) = row.split_once('~') else {
+            return Ok(format!(in alloc; "no row: {row}")?);
+        };
+        let Some((text, texts)) = rest.split_once('~') else {
+            return Ok(String::from_str(alloc, row)?);
+        };
+        if told(alloc, text, texts)? != want {
+            return Ok(String::from_str(alloc, row)?);
+        }
+    }
+    Ok(String::new(alloc))
+}
+
+/// Prohibited clauses alone select nothing, and twins keep their case.
+const SELECTED: &str = r"no~NOT f:x~
+no~NOT f:x~y
+yes~*:* AND NOT f:x~
+yes~*:* AND NOT f:x~y
+no~*:* AND NOT f:x~y,X
+yes~f:x OR f.cased:x*~Y,X
+yes~f:x OR f.cased:x*~xY
+no~f:x OR f.cased:x*~XY";
+
 #[test]
-fn twins_keep_their_case(rt: HostRuntime) -> Result<(), Fail> {
-    let alloc = rt.alloc();
-    let query = either(alloc)?;
-    let folded = event(alloc, &["Y", "X"])?;
-    let longer = event(alloc, &["xY"])?;
-    let upper = event(alloc, &["XY"])?;
-    assert_eq!(rt; selects(&query, &folded), true);
-    assert_eq!(rt; selects(&query, &longer), true);
-    assert_eq!(rt; selects(&query, &upper), false);
+fn prohibited_clauses_and_twins(rt: HostRuntime) -> Result<(), Fail> {
+    assert_eq!(rt; wrong_row(rt.alloc(), SELECTED)?.as_str(), "");
     Ok(())
 }

@@ -1,21 +1,45 @@
-//! Small rules over small events, all reckoned by hand.
+//! Small rules over small events, all reckoned by hand. Events have spaces between them, fields strokes, and values commas.
 
+use crate::rules::{detection, fields, one_alternative, one_detection, one_item, rule};
+use crate::tables::{Asked, joined, no_row, three, wrong_row};
 use detection_eval::{Judge, Ready};
 use event_schema::{Event, Field, FieldKind, FieldList, FieldValues, Schema, Value};
 use languages::{BuildFault, Builder, CrateBuilder};
 use modifier_chains::{Flags, Joined, Op};
 use regex::Regex;
-use rule_head::{Head, LogSource};
-use rule_items::{Alternative, Alternatives, Detection, Detections, Fields, Item, Values};
+use rule_items::{Alternatives, Detection, Detections, Item, Values};
 use rule_model::Rule;
 use sig_base::{Fault, Limits, Place, Text, Texts};
-use sig_conditions::{DetectionNumbers, Formula};
 use sig_modifiers::{Test, Tests};
 use sig_strings::{Pattern, SharedPattern};
 use std::alloc::Global;
 use std::test::Fail;
 
 const PLACE: Place = Place { line: 1, column: 1 };
+
+/// What the rows of this module's tables are asked.
+#[derive(Clone, Copy)]
+enum Question {
+    Item,
+    Both,
+    Alternatives,
+    Conditions,
+    Flags,
+    Unbuilt,
+}
+
+impl Asked for Question {
+    fn told(self, alloc: Global, row: &str) -> Result<String, Fail> {
+        match self {
+            Question::Item => shown_item(alloc, row),
+            Question::Both => shown_both(alloc, row),
+            Question::Alternatives => shown_alternatives(alloc, row),
+            Question::Conditions => shown_conditions(alloc, row),
+            Question::Flags => shown_flags(alloc, row),
+            Question::Unbuilt => refused_at(alloc, row),
+        }
+    }
+}
 
 fn field(alloc: Global, name: &str, kind: FieldKind, search: bool) -> Result<Field, Fail> {
     Ok(Field {
@@ -29,16 +53,20 @@ fn field(alloc: Global, name: &str, kind: FieldKind, search: bool) -> Result<Fie
 }
 
 /// The texts `u`, `p` and `h`, of which keywords search the first two, the number `n` as the third field and `m` as the last.
-fn schema(alloc: Global) -> Result<Schema, Fail> {
+fn all_fields(alloc: Global) -> Result<FieldList, Fail> {
     let mut fields = FieldList::new(alloc);
     fields.push(field(alloc, "u", FieldKind::Text, true)?)?;
     fields.push(field(alloc, "p", FieldKind::Text, true)?)?;
     fields.push(field(alloc, "n", FieldKind::Whole, false)?)?;
     fields.push(field(alloc, "h", FieldKind::Text, false)?)?;
     fields.push(field(alloc, "m", FieldKind::Whole, false)?)?;
+    Ok(fields)
+}
+
+fn schema(alloc: Global) -> Result<Schema, Fail> {
     Ok(Schema {
         table: Text::copy(alloc, "events")?,
-        fields,
+        fields: all_fields(alloc)?,
         time: None,
     })
 }
@@ -74,7 +102,7 @@ fn event(alloc: Global, text: &str) -> Result<Event, Fail> {
     Ok(Event::new(row, None))
 }
 
-/// For each of these events, with spaces between them, whether the rule matches.
+/// For each of these events whether the rule matches.
 fn judged(alloc: Global, judge: &mut Judge<'_>, events: &str) -> Result<String, Fail> {
     let mut shown = String::new(alloc);
     for word in events.split(' ') {
@@ -85,8 +113,9 @@ fn judged(alloc: Global, judge: &mut Judge<'_>, events: &str) -> Result<String, 
 }
 
 fn shown(alloc: Global, rule: &Rule, events: &str) -> Result<String, Fail> {
+    let schema = schema(alloc)?;
     let mut builder = CrateBuilder::new(alloc, Vec::new(alloc));
-    let ready = Ready::make(alloc, &schema(alloc)?, rule, &mut builder)?;
+    let ready = Ready::make(alloc, &schema, rule, &mut builder)?;
     judged(alloc, &mut ready.judge(alloc)?, events)
 }
 
@@ -143,64 +172,23 @@ fn one_test(alloc: Global, text: &str) -> Result<Tests, Fail> {
     Ok(tests)
 }
 
-fn names(alloc: Global, text: &str) -> Result<Fields, Fail> {
-    if text.is_empty() {
-        return Ok(Fields::Keyword);
+fn values(alloc: Global, texts: &str) -> Result<Values, Fail> {
+    let mut values = Values::new(alloc);
+    for text in texts.split(',') {
+        values.push(one_test(alloc, text)?)?;
     }
-    let mut names = Texts::new(alloc);
-    for name in text.split(',') {
-        names.push(Text::copy(alloc, name)?)?;
-    }
-    Ok(Fields::Names(names))
+    Ok(values)
 }
 
 /// An item of these names and values, with commas between them; one without names is a keyword.
-fn item(alloc: Global, joined: Joined, fields: &str, values: &str) -> Result<Item, Fail> {
-    let mut tests = Values::new(alloc);
-    for text in values.split(',') {
-        tests.push(one_test(alloc, text)?)?;
-    }
+fn item(alloc: Global, joined: Joined, names: &str, texts: &str) -> Result<Item, Fail> {
+    let fields = fields(alloc, names)?;
+    let tests = values(alloc, texts)?;
     Ok(Item {
-        fields: names(alloc, fields)?,
+        fields,
         tests,
         joined,
         place: PLACE,
-    })
-}
-
-fn detection(alloc: Global, alternatives: Alternatives) -> Result<Detection, Fail> {
-    Ok(Detection {
-        name: Text::copy(alloc, "d")?,
-        alternatives,
-        place: PLACE,
-    })
-}
-
-/// A detection of one item.
-fn one_item(alloc: Global, item: Item) -> Result<Detection, Fail> {
-    let mut items = Alternative::new(alloc);
-    items.push(item)?;
-    let mut alternatives = Alternatives::new(alloc);
-    alternatives.push(items)?;
-    detection(alloc, alternatives)
-}
-
-fn rule(alloc: Global, detections: Detections, conditions: Vec<Formula>) -> Result<Rule, Fail> {
-    Ok(Rule {
-        head: Head {
-            title: Text::copy(alloc, "T")?,
-            id: None,
-            name: None,
-            place: PLACE,
-            rest: Vec::new(alloc),
-        },
-        source: LogSource {
-            category: Some(Text::copy(alloc, "c")?),
-            product: None,
-            service: None,
-        },
-        detections,
-        conditions,
     })
 }
 
@@ -208,334 +196,228 @@ fn rule(alloc: Global, detections: Detections, conditions: Vec<Formula>) -> Resu
 fn shown_condition(
     alloc: Global,
     detection: Detection,
-    condition: Formula,
+    condition: &str,
     events: &str,
 ) -> Result<String, Fail> {
-    let mut detections = Detections::new(alloc);
-    detections.push(detection)?;
-    let mut conditions = Vec::new(alloc);
-    conditions.push(condition)?;
-    let rule = rule(alloc, detections, conditions)?;
+    let detections = one_detection(alloc, detection)?;
+    let rule = rule(alloc, detections, condition)?;
     shown(alloc, &rule, events)
 }
 
-/// Whether the events match a rule of one detection.
-fn shown_detection(alloc: Global, detection: Detection, events: &str) -> Result<String, Fail> {
-    shown_condition(alloc, detection, Formula::Detection(0), events)
+/// Whether the events match a rule of one item, `any or all;names;values;events`.
+fn shown_item(alloc: Global, row: &str) -> Result<String, Fail> {
+    let Some((word, names, rest)) = three(row) else {
+        return no_row(alloc);
+    };
+    let Some(joined) = joined(word) else {
+        return no_row(alloc);
+    };
+    let Some((values, events)) = rest.split_once(';') else {
+        return no_row(alloc);
+    };
+    let item = item(alloc, joined, names, values)?;
+    shown_condition(alloc, one_item(alloc, item, PLACE)?, "0", events)
 }
 
-/// Whether the events match a rule of one item.
-fn shown_item(
-    alloc: Global,
-    joined: Joined,
-    fields: &str,
-    values: &str,
-    events: &str,
-) -> Result<String, Fail> {
-    let item = item(alloc, joined, fields, values)?;
-    shown_detection(alloc, one_item(alloc, item)?, events)
+/// Whether the events match an item of one value, and behind a space whether they match where it doesn't hold,
+/// `field;value;events`.
+fn shown_both(alloc: Global, row: &str) -> Result<String, Fail> {
+    let Some((field, value, events)) = three(row) else {
+        return no_row(alloc);
+    };
+    let holds = shown_value(alloc, field, value, "0", events)?;
+    let fails = shown_value(alloc, field, value, "!0", events)?;
+    Ok(format!(in alloc; "{holds} {fails}")?)
 }
 
-/// Whether the events match an item of one value, and whether they match where it doesn't hold.
-fn shown_both(
+fn shown_value(
     alloc: Global,
     field: &str,
     value: &str,
+    condition: &str,
     events: &str,
-) -> Result<(String, String), Fail> {
-    let holds = shown_item(alloc, Joined::Any, field, value, events)?;
+) -> Result<String, Fail> {
     let item = item(alloc, Joined::Any, field, value)?;
-    let not = Formula::Not(Box::new(alloc, Formula::Detection(0))?);
-    let fails = shown_condition(alloc, one_item(alloc, item)?, not, events)?;
-    Ok((holds, fails))
+    shown_condition(alloc, one_item(alloc, item, PLACE)?, condition, events)
 }
 
+/// What keywords match, `matches;any or all;names;values;events`.
+const KEYWORDS: &str = "11010;any;;*x*;x||| |x|| |||x a,bx||| |||
+1010;all;;*x*,*y*;x|y|| x||| xy||| x|||y";
+
+/// What items match, `matches;any or all;names;values;events`.
+const VALUES: &str = "10100;any;u;x,y*;x||| |x|| a,yes||| a||| |||
+1010;all;u;*x*,*y*;x,y||| x|y|| xy||| x|||
+101;any;u;null;||| x||| |x||";
+
+/// .. of several names, and of one that the schema lacks in the last two rows, `matches;any or all;names;values;events`.
+const NAMES: &str = "1100;any;h,u;x;x||| |||x |x|| |||
+011;all;h,u;*x*,*y*;x|||y |||xy xy|||
+111;any;z;null;x|x|7|x ||| x|x|7|x|x
+000;any;z;some;x|x|7|x ||| x|x|7|x|x";
+
+/// .. over numbers, `matches;any or all;names;values;events`.
+const NUMBERS: &str = "10100;any;n;#7;||7| ||70| ||8,7| 7||| |||
+1100;any;n;7*;||7| ||70| ||8| |||
+1101100;any;n;<=5;||4| ||5| ||6| ||-7| ||9,4| ||'4| |||
+0010100;any;n;>5;||4| ||5| ||6| ||-7| ||9,4| ||'4| |||
+1010;all;n;>=5,<=5;||5| ||4| ||4,6| |||
+1100;any;;<5;4||| |4|| ||4| 5|||";
+
+/// What items of one value match, and what they match where they don't hold, `matches matches;field;value;events`.
+const COMPARISONS: &str = "1001100 0110011;n;<5;||4| ||5| ||6| ||-7| ||9,4| ||'4| |||
+0110100 1001011;n;>=5;||4| ||5| ||6| ||-7| ||9,4| ||'4| |||";
+
+/// .. with values of another field, `matches matches;field;value;events`.
+const OTHER_FIELDS: &str =
+    "111000010110 000111101001;u;=p;a|a|| a|A|| aZ|Az|| a|b|| a||| |a|| ||| a,b|c,B|| a,b|c,d|| 7|7|| '7|7|| ä|Ä||
+101001 010110;n;=m;||7||7 ||7||8 ||7,8||8 ||7|| ||||7 ||-7||-7
+00 11;u;=z;a||| |||";
+
+/// What items match, `matches;any or all;names;values;events`.
+const ITSELF: &str = "1001;any;u;=u;a||| |a|| ||| 7|||
+1110;any;;=p;a|a|| a|b|| |b|| a|||";
+
 #[test]
-fn keywords(rt: HostRuntime) -> Result<(), Fail> {
-    let alloc = rt.alloc();
-    let any = shown_item(alloc, Joined::Any, "", "*x*", "x||| |x|| |||x a,bx||| |||")?;
-    assert_eq!(rt; any.as_str(), "11010");
-    let all = shown_item(alloc, Joined::All, "", "*x*,*y*", "x|y|| x||| xy||| x|||y")?;
-    assert_eq!(rt; all.as_str(), "1010");
+fn items_over_fields_and_keywords(rt: HostRuntime) -> Result<(), Fail> {
+    assert_eq!(rt;
+        wrong_row(rt.alloc(), Question::Item, KEYWORDS)?.as_str(),
+        ""
+    );
+    assert_eq!(rt; wrong_row(rt.alloc(), Question::Item, VALUES)?.as_str(), "");
+    assert_eq!(rt; wrong_row(rt.alloc(), Question::Item, NAMES)?.as_str(), "");
+    assert_eq!(rt;
+        wrong_row(rt.alloc(), Question::Item, NUMBERS)?.as_str(),
+        ""
+    );
+    assert_eq!(rt;
+        wrong_row(rt.alloc(), Question::Both, COMPARISONS)?.as_str(),
+        ""
+    );
+    assert_eq!(rt;
+        wrong_row(rt.alloc(), Question::Both, OTHER_FIELDS)?.as_str(),
+        ""
+    );
+    assert_eq!(rt; wrong_row(rt.alloc(), Question::Item, ITSELF)?.as_str(), "");
     Ok(())
 }
 
-#[test]
-fn values_of_fields(rt: HostRuntime) -> Result<(), Fail> {
-    let alloc = rt.alloc();
-    let any = shown_item(
-        alloc,
-        Joined::Any,
-        "u",
-        "x,y*",
-        "x||| |x|| a,yes||| a||| |||",
-    )?;
-    assert_eq!(rt; any.as_str(), "10100");
-    let all = shown_item(
-        alloc,
-        Joined::All,
-        "u",
-        "*x*,*y*",
-        "x,y||| x|y|| xy||| x|||",
-    )?;
-    assert_eq!(rt; all.as_str(), "1010");
-    let null = shown_item(alloc, Joined::Any, "u", "null", "||| x||| |x||")?;
-    assert_eq!(rt; null.as_str(), "101");
-    Ok(())
-}
-
-#[test]
-fn several_names(rt: HostRuntime) -> Result<(), Fail> {
-    let alloc = rt.alloc();
-    let any = shown_item(alloc, Joined::Any, "h,u", "x", "x||| |||x |x|| |||")?;
-    assert_eq!(rt; any.as_str(), "1100");
-    let all = shown_item(alloc, Joined::All, "h,u", "*x*,*y*", "x|||y |||xy xy|||")?;
-    assert_eq!(rt; all.as_str(), "011");
-    Ok(())
-}
-
-#[test]
-fn numbers(rt: HostRuntime) -> Result<(), Fail> {
-    let alloc = rt.alloc();
-    let equal = shown_item(alloc, Joined::Any, "n", "#7", "||7| ||70| ||8,7| 7||| |||")?;
-    assert_eq!(rt; equal.as_str(), "10100");
-    let begin = shown_item(alloc, Joined::Any, "n", "7*", "||7| ||70| ||8| |||")?;
-    assert_eq!(rt; begin.as_str(), "1100");
-    Ok(())
-}
-
-#[test]
-fn comparisons(rt: HostRuntime) -> Result<(), Fail> {
-    let alloc = rt.alloc();
-    let events = "||4| ||5| ||6| ||-7| ||9,4| ||'4| |||";
-    let (below, not_below) = shown_both(alloc, "n", "<5", events)?;
-    assert_eq!(rt; below.as_str(), "1001100");
-    assert_eq!(rt; not_below.as_str(), "0110011");
-    let at_most = shown_item(alloc, Joined::Any, "n", "<=5", events)?;
-    assert_eq!(rt; at_most.as_str(), "1101100");
-    let above = shown_item(alloc, Joined::Any, "n", ">5", events)?;
-    assert_eq!(rt; above.as_str(), "0010100");
-    let (at_least, not_at_least) = shown_both(alloc, "n", ">=5", events)?;
-    assert_eq!(rt; at_least.as_str(), "0110100");
-    assert_eq!(rt; not_at_least.as_str(), "1001011");
-    Ok(())
-}
-
-#[test]
-fn several_comparisons(rt: HostRuntime) -> Result<(), Fail> {
-    let alloc = rt.alloc();
-    let both = shown_item(alloc, Joined::All, "n", ">=5,<=5", "||5| ||4| ||4,6| |||")?;
-    assert_eq!(rt; both.as_str(), "1010");
-    let searched = shown_item(alloc, Joined::Any, "", "<5", "4||| |4|| ||4| 5|||")?;
-    assert_eq!(rt; searched.as_str(), "1100");
-    Ok(())
-}
-
-#[test]
-fn values_of_another_field(rt: HostRuntime) -> Result<(), Fail> {
-    let alloc = rt.alloc();
-    let events = "a|a|| a|A|| aZ|Az|| a|b|| a||| |a|| ||| a,b|c,B|| a,b|c,d|| 7|7|| '7|7|| ä|Ä||";
-    let (same, other) = shown_both(alloc, "u", "=p", events)?;
-    assert_eq!(rt; same.as_str(), "111000010110");
-    assert_eq!(rt; other.as_str(), "000111101001");
-    let itself = shown_item(alloc, Joined::Any, "u", "=u", "a||| |a|| ||| 7|||")?;
-    assert_eq!(rt; itself.as_str(), "1001");
-    let searched = shown_item(alloc, Joined::Any, "", "=p", "a|a|| a|b|| |b|| a|||")?;
-    assert_eq!(rt; searched.as_str(), "1110");
-    Ok(())
-}
-
-#[test]
-fn numbers_of_another_field(rt: HostRuntime) -> Result<(), Fail> {
-    let alloc = rt.alloc();
-    let events = "||7||7 ||7||8 ||7,8||8 ||7|| ||||7 ||-7||-7";
-    let (same, other) = shown_both(alloc, "n", "=m", events)?;
-    assert_eq!(rt; same.as_str(), "101001");
-    assert_eq!(rt; other.as_str(), "010110");
-    let (lacking, not_lacking) = shown_both(alloc, "u", "=z", "a||| |||")?;
-    assert_eq!(rt; lacking.as_str(), "00");
-    assert_eq!(rt; not_lacking.as_str(), "11");
-    Ok(())
-}
-
-#[test]
-fn names_that_the_schema_lacks(rt: HostRuntime) -> Result<(), Fail> {
-    let alloc = rt.alloc();
-    let null = shown_item(alloc, Joined::Any, "z", "null", "x|x|7|x ||| x|x|7|x|x")?;
-    assert_eq!(rt; null.as_str(), "111");
-    let some = shown_item(alloc, Joined::Any, "z", "some", "x|x|7|x ||| x|x|7|x|x")?;
-    assert_eq!(rt; some.as_str(), "000");
-    Ok(())
-}
-
-#[test]
-fn alternatives(rt: HostRuntime) -> Result<(), Fail> {
-    let alloc = rt.alloc();
-    let mut both = Alternative::new(alloc);
-    both.push(item(alloc, Joined::Any, "u", "a")?)?;
+/// That `u` is `a` and `p` is `b`, or that `h` is `c`.
+fn two_alternatives(alloc: Global) -> Result<Alternatives, Fail> {
+    let mut both = one_alternative(alloc, item(alloc, Joined::Any, "u", "a")?)?;
     both.push(item(alloc, Joined::Any, "p", "b")?)?;
-    let mut other = Alternative::new(alloc);
-    other.push(item(alloc, Joined::Any, "h", "c")?)?;
     let mut alternatives = Alternatives::new(alloc);
     alternatives.push(both)?;
-    alternatives.push(other)?;
-    let detection = detection(alloc, alternatives)?;
-    let shown = shown_detection(alloc, detection, "a||| |b|| |||c a|b|| a|b||c |||")?;
-    assert_eq!(rt; shown.as_str(), "001110");
-    Ok(())
+    let other = item(alloc, Joined::Any, "h", "c")?;
+    alternatives.push(one_alternative(alloc, other)?)?;
+    Ok(alternatives)
 }
+
+/// Whether the events match them.
+fn shown_alternatives(alloc: Global, events: &str) -> Result<String, Fail> {
+    let alternatives = two_alternatives(alloc)?;
+    let detection = detection(alloc, alternatives, PLACE)?;
+    shown_condition(alloc, detection, "0", events)
+}
+
+/// What the alternatives match, `matches;events`.
+const ALTERNATIVES: &str = "001110;a||| |b|| |||c a|b|| a|b||c |||";
 
 /// The detections that `u` is `a`, that `p` is `b`, and that `h` is `c`.
 fn detections(alloc: Global) -> Result<Detections, Fail> {
     let mut all = Detections::new(alloc);
-    all.push(one_item(alloc, item(alloc, Joined::Any, "u", "a")?)?)?;
-    all.push(one_item(alloc, item(alloc, Joined::Any, "p", "b")?)?)?;
-    all.push(one_item(alloc, item(alloc, Joined::Any, "h", "c")?)?)?;
+    all.push(one_item(alloc, item(alloc, Joined::Any, "u", "a")?, PLACE)?)?;
+    all.push(one_item(alloc, item(alloc, Joined::Any, "p", "b")?, PLACE)?)?;
+    all.push(one_item(alloc, item(alloc, Joined::Any, "h", "c")?, PLACE)?)?;
     Ok(all)
 }
 
-fn numbers_of(alloc: Global, two: [u32; 2]) -> Result<DetectionNumbers, Fail> {
-    let mut numbers = Vec::new(alloc);
-    numbers.push(two[0])?;
-    numbers.push(two[1])?;
-    Ok(DetectionNumbers::from_vec(numbers))
-}
-
 /// Whether the events `a`, `b`, `c`, `ab`, `abc` and one of no values match.
-fn shown_conditions(alloc: Global, conditions: Vec<Formula>) -> Result<String, Fail> {
+fn shown_conditions(alloc: Global, conditions: &str) -> Result<String, Fail> {
     let rule = rule(alloc, detections(alloc)?, conditions)?;
     shown(alloc, &rule, "a||| |b|| |||c a|b|| a|b||c |||")
 }
 
-fn shown_formula(alloc: Global, formula: Formula) -> Result<String, Fail> {
-    let mut conditions = Vec::new(alloc);
-    conditions.push(formula)?;
-    shown_conditions(alloc, conditions)
-}
+/// What conditions match, `matches;conditions`.
+const CONDITIONS: &str = "101110;one-0-2
+000110;all-0-1
+011001;!0
+100000;and 0 !1
+010110;or 1 all-0-2
+001110;all-0-1,2
+000000;9";
 
 #[test]
-fn selectors(rt: HostRuntime) -> Result<(), Fail> {
-    let alloc = rt.alloc();
-    let one = shown_formula(alloc, Formula::OneOf(numbers_of(alloc, [0, 2])?))?;
-    assert_eq!(rt; one.as_str(), "101110");
-    let all = shown_formula(alloc, Formula::AllOf(numbers_of(alloc, [0, 1])?))?;
-    assert_eq!(rt; all.as_str(), "000110");
-    Ok(())
-}
-
-#[test]
-fn negations(rt: HostRuntime) -> Result<(), Fail> {
-    let alloc = rt.alloc();
-    let not = shown_formula(alloc, Formula::Not(Box::new(alloc, Formula::Detection(0))?))?;
-    assert_eq!(rt; not.as_str(), "011001");
-    let mut parts = Vec::new(alloc);
-    parts.push(Formula::Detection(0))?;
-    parts.push(Formula::Not(Box::new(alloc, Formula::Detection(1))?))?;
+fn alternatives_and_conditions(rt: HostRuntime) -> Result<(), Fail> {
     assert_eq!(rt;
-        shown_formula(alloc, Formula::And(parts))?.as_str(),
-        "100000"
+        wrong_row(rt.alloc(), Question::Alternatives, ALTERNATIVES)?.as_str(),
+        ""
+    );
+    assert_eq!(rt;
+        wrong_row(rt.alloc(), Question::Conditions, CONDITIONS)?.as_str(),
+        ""
     );
     Ok(())
 }
 
-#[test]
-fn several_formulas(rt: HostRuntime) -> Result<(), Fail> {
-    let alloc = rt.alloc();
-    let mut parts = Vec::new(alloc);
-    parts.push(Formula::Detection(1))?;
-    parts.push(Formula::AllOf(numbers_of(alloc, [0, 2])?))?;
-    assert_eq!(rt;
-        shown_formula(alloc, Formula::Or(parts))?.as_str(),
-        "010110"
-    );
-    let mut conditions = Vec::new(alloc);
-    conditions.push(Formula::AllOf(numbers_of(alloc, [0, 1])?))?;
-    conditions.push(Formula::Detection(2))?;
-    assert_eq!(rt; shown_conditions(alloc, conditions)?.as_str(), "001110");
-    assert_eq!(rt;
-        shown_formula(alloc, Formula::Detection(9))?.as_str(),
-        "000000"
-    );
-    Ok(())
+/// What items match by texts, numbers and keywords, and by all of several, `matches;any or all;names;values;events`.
+const EXPRESSIONS: &str = "101;any;u;~/^a.$;ab||| aab||| ab,c|||
+1010;any;h,u;~/^a;a||| |a|| |||a |||
+1110110;any;n;~/^-?7;||7| ||70| ||-7| ||17| ||1,7| ||'7| |||
+11000;any;;~/b$;ab||| |b|| |||ab a||| |||
+1100;all;;~/b$,~/^a;ab||| a|b|| b||| |||
+101000;all;u;~/a,~/b$;ab||| ba||| a,b||| b||| a|b|| |||
+101000;all;u;~/a,*b;ab||| ba||| a,b||| b||| a|b|| |||";
+
+/// What items of one value match, and what they match where they don't hold, `matches matches;field;value;events`.
+const FOUND: &str =
+    "1110000010 0001111101;u;~/a+b;aab||| xaabx||| ab||| ba||| b||| AB||| |ab|| a,b||| b,ab||| |||";
+
+/// A text with a line feed for each `¶`.
+fn with_lines(alloc: Global, text: &str) -> Result<String, Fail> {
+    let mut lines = String::new(alloc);
+    for character in text.chars() {
+        lines.push(if character == '¶' { '\n' } else { character })?;
+    }
+    Ok(lines)
 }
 
-#[test]
-fn expressions(rt: HostRuntime) -> Result<(), Fail> {
-    let alloc = rt.alloc();
-    let events = "aab||| xaabx||| ab||| ba||| b||| AB||| |ab|| a,b||| b,ab||| |||";
-    let (found, not_found) = shown_both(alloc, "u", "~/a+b", events)?;
-    assert_eq!(rt; found.as_str(), "1110000010");
-    assert_eq!(rt; not_found.as_str(), "0001111101");
-    let whole = shown_item(alloc, Joined::Any, "u", "~/^a.$", "ab||| aab||| ab,c|||")?;
-    assert_eq!(rt; whole.as_str(), "101");
-    let fields = shown_item(alloc, Joined::Any, "h,u", "~/^a", "a||| |a|| |||a |||")?;
-    assert_eq!(rt; fields.as_str(), "1010");
-    Ok(())
-}
-
-#[test]
-fn expressions_in_numbers(rt: HostRuntime) -> Result<(), Fail> {
-    let alloc = rt.alloc();
-    let events = "||7| ||70| ||-7| ||17| ||1,7| ||'7| |||";
-    let shown = shown_item(alloc, Joined::Any, "n", "~/^-?7", events)?;
-    assert_eq!(rt; shown.as_str(), "1110110");
-    Ok(())
-}
-
-#[test]
-fn expressions_of_keywords(rt: HostRuntime) -> Result<(), Fail> {
-    let alloc = rt.alloc();
-    let events = "ab||| |b|| |||ab a||| |||";
-    let any = shown_item(alloc, Joined::Any, "", "~/b$", events)?;
-    assert_eq!(rt; any.as_str(), "11000");
-    let all = shown_item(alloc, Joined::All, "", "~/b$,~/^a", "ab||| a|b|| b||| |||")?;
-    assert_eq!(rt; all.as_str(), "1100");
-    Ok(())
-}
-
-#[test]
-fn all_expressions(rt: HostRuntime) -> Result<(), Fail> {
-    let alloc = rt.alloc();
-    let events = "ab||| ba||| a,b||| b||| a|b|| |||";
-    let all = shown_item(alloc, Joined::All, "u", "~/a,~/b$", events)?;
-    assert_eq!(rt; all.as_str(), "101000");
-    let other = shown_item(alloc, Joined::All, "u", "~/a,*b", events)?;
-    assert_eq!(rt; other.as_str(), "101000");
-    Ok(())
-}
-
-/// Whether expressions with different flags, with commas between them, are found in one text.
-fn shown_flags(alloc: Global, values: &str, text: &str) -> Result<String, Fail> {
+/// Whether expressions with different flags, with commas between them, are found in one text, `expressions;event`.
+fn shown_flags(alloc: Global, row: &str) -> Result<String, Fail> {
+    let Some((values, text)) = row.split_once(';') else {
+        return no_row(alloc);
+    };
+    let event = with_lines(alloc, text)?;
     let mut shown = String::new(alloc);
     for value in values.split(',') {
-        let one = shown_item(alloc, Joined::Any, "u", value, text)?;
+        let one = shown_value(alloc, "u", value, "0", event.as_str())?;
         shown.push_str(one.as_str())?;
     }
     Ok(shown)
 }
 
-#[test]
-fn flags(rt: HostRuntime) -> Result<(), Fail> {
-    let alloc = rt.alloc();
-    let case = shown_flags(alloc, "~/ab,~i/ab,~m/ab,~s/ab,~ims/ab", "xAB|||")?;
-    assert_eq!(rt; case.as_str(), "01001");
-    let lines = shown_flags(alloc, "~/^b$,~i/^b$,~m/^b$,~s/^b$,~ims/^B$", "a\nb|||")?;
-    assert_eq!(rt; lines.as_str(), "00101");
-    let dots = shown_flags(alloc, "~/a.b,~i/a.b,~m/a.b,~s/a.b,~ims/A.B", "a\nb|||")?;
-    assert_eq!(rt; dots.as_str(), "00011");
-    Ok(())
-}
+/// Which expressions are found, `matches;expressions;event`.
+const FLAGS: &str = "01001;~/ab,~i/ab,~m/ab,~s/ab,~ims/ab;xAB|||
+00101;~/^b$,~i/^b$,~m/^b$,~s/^b$,~ims/^B$;a¶b|||
+00011;~/a.b,~i/a.b,~m/a.b,~s/a.b,~ims/A.B;a¶b|||";
+
+/// What items of several regular expressions match, `matches;any or all;names;values;events`.
+const SEVERAL: &str = "1000;all;u;~/a,~/b,~/a;ab||| a|b|| b|ab|| |||
+01;all;u;~/A,~i/A;ab||| Ab|||
+0011;any;u;x,~/^b,null;ab||| a|b|| b|ab|| |||";
 
 #[test]
-fn several_expressions_of_one_rule(rt: HostRuntime) -> Result<(), Fail> {
-    let alloc = rt.alloc();
-    let events = "ab||| a|b|| b|ab|| |||";
-    let same = shown_item(alloc, Joined::All, "u", "~/a,~/b,~/a", events)?;
-    assert_eq!(rt; same.as_str(), "1000");
-    let flagged = shown_item(alloc, Joined::All, "u", "~/A,~i/A", "ab||| Ab|||")?;
-    assert_eq!(rt; flagged.as_str(), "01");
-    let mixed = shown_item(alloc, Joined::Any, "u", "x,~/^b,null", events)?;
-    assert_eq!(rt; mixed.as_str(), "0011");
+fn expressions_in_values(rt: HostRuntime) -> Result<(), Fail> {
+    assert_eq!(rt; wrong_row(rt.alloc(), Question::Both, FOUND)?.as_str(), "");
+    assert_eq!(rt;
+        wrong_row(rt.alloc(), Question::Item, EXPRESSIONS)?.as_str(),
+        ""
+    );
+    assert_eq!(rt; wrong_row(rt.alloc(), Question::Flags, FLAGS)?.as_str(), "");
+    assert_eq!(rt;
+        wrong_row(rt.alloc(), Question::Item, SEVERAL)?.as_str(),
+        ""
+    );
     Ok(())
 }
 
@@ -549,11 +431,9 @@ fn item_on(alloc: Global, line: u32, values: &str) -> Result<Item, Fail> {
 /// A rule of the regular expressions `a` on line 6, and `b`, `c` and `a` on line 7, with its first detection as its condition.
 fn four_expressions(alloc: Global) -> Result<Rule, Fail> {
     let mut detections = Detections::new(alloc);
-    detections.push(one_item(alloc, item_on(alloc, 6, "~/a,x")?)?)?;
-    detections.push(one_item(alloc, item_on(alloc, 7, "~/b,~/c,~/a")?)?)?;
-    let mut conditions = Vec::new(alloc);
-    conditions.push(Formula::Detection(0))?;
-    rule(alloc, detections, conditions)
+    detections.push(one_item(alloc, item_on(alloc, 6, "~/a,x")?, PLACE)?)?;
+    detections.push(one_item(alloc, item_on(alloc, 7, "~/b,~/c,~/a")?, PLACE)?)?;
+    rule(alloc, detections, "0")
 }
 
 /// What a rule is refused with, if it is.
@@ -567,41 +447,37 @@ fn refused(alloc: Global, made: &Result<Ready, Fault>) -> Result<String, Fail> {
     Ok(format!(in alloc; "{code} at {line}:{column}")?)
 }
 
-/// What the rule of four regular expressions is refused with by a builder whose call of this ordinal fails.
-fn refused_at(alloc: Global, ordinal: u64) -> Result<String, Fail> {
-    let mut failing = Vec::new(alloc);
-    failing.push(ordinal)?;
+/// .. by a builder whose calls of these ordinals fail.
+fn refused_by(alloc: Global, failing: Vec<u64>, rule: &Rule) -> Result<String, Fail> {
+    let schema = schema(alloc)?;
     let mut builder = CrateBuilder::new(alloc, failing);
-    let rule = four_expressions(alloc)?;
-    let made = Ready::make(alloc, &schema(alloc)?, &rule, &mut builder);
+    let made = Ready::make(alloc, &schema, rule, &mut builder);
     refused(alloc, &made)
 }
 
-#[test]
-fn expressions_that_are_not_built(rt: HostRuntime) -> Result<(), Fail> {
-    let alloc = rt.alloc();
-    for (ordinal, want) in [
-        (1, "48 at 6:5"),
-        (2, "48 at 7:5"),
-        (3, "48 at 7:5"),
-        (4, "48 at 7:5"),
-        (5, ""),
-    ] {
-        assert_eq!(rt; refused_at(alloc, ordinal)?.as_str(), want);
-    }
-    Ok(())
+/// What the rule of four regular expressions is refused with by a builder whose call of this ordinal fails.
+fn refused_at(alloc: Global, ordinal: &str) -> Result<String, Fail> {
+    let Ok(ordinal) = ordinal.parse::<u64>() else {
+        return no_row(alloc);
+    };
+    let rule = four_expressions(alloc)?;
+    let mut failing = Vec::new(alloc);
+    failing.push(ordinal)?;
+    refused_by(alloc, failing, &rule)
 }
 
-#[test]
-fn expressions_that_are_none(rt: HostRuntime) -> Result<(), Fail> {
-    let alloc = rt.alloc();
-    let mut detections = Detections::new(alloc);
-    detections.push(one_item(alloc, item_on(alloc, 6, "~/a,~/(")?)?)?;
-    let rule = rule(alloc, detections, Vec::new(alloc))?;
-    let mut builder = CrateBuilder::new(alloc, Vec::new(alloc));
-    let made = Ready::make(alloc, &schema(alloc)?, &rule, &mut builder);
-    assert_eq!(rt; refused(alloc, &made)?.as_str(), "48 at 6:5");
-    Ok(())
+/// What a rule is refused with, `refusal;ordinal`.
+const UNBUILT: &str = "48 at 6:5;1
+48 at 7:5;2
+48 at 7:5;3
+48 at 7:5;4
+;5";
+
+/// What a rule of no condition, one of whose regular expressions is none, is refused with by a builder that fails nowhere.
+fn refused_none(alloc: Global) -> Result<String, Fail> {
+    let detection = one_item(alloc, item_on(alloc, 6, "~/a,~/(")?, PLACE)?;
+    let rule = rule(alloc, one_detection(alloc, detection)?, "")?;
+    refused_by(alloc, Vec::new(alloc), &rule)
 }
 
 /// A builder that counts what it is asked for.
@@ -620,19 +496,28 @@ impl Builder for Counting {
     }
 }
 
-#[test]
-fn expressions_are_built_once(rt: HostRuntime) -> Result<(), Fail> {
-    let alloc = rt.alloc();
+/// The calls of a builder that makes the rule of four regular expressions, whether events match, and the calls after that.
+fn built_once(alloc: Global) -> Result<String, Fail> {
+    let rule = four_expressions(alloc)?;
+    let schema = schema(alloc)?;
     let mut builder = Counting {
         inner: CrateBuilder::new(alloc, Vec::new(alloc)),
         calls: 0,
     };
-    let rule = four_expressions(alloc)?;
-    let ready = Ready::make(alloc, &schema(alloc)?, &rule, &mut builder)?;
-    assert_eq!(rt; builder.calls, 4);
-    let mut judge = ready.judge(alloc)?;
-    let shown = judged(alloc, &mut judge, "ab||| x||| b|||")?;
-    assert_eq!(rt; shown.as_str(), "110");
-    assert_eq!(rt; builder.calls, 4);
+    let ready = Ready::make(alloc, &schema, &rule, &mut builder)?;
+    let made = builder.calls;
+    let shown = judged(alloc, &mut ready.judge(alloc)?, "ab||| x||| b|||")?;
+    let judged = builder.calls;
+    Ok(format!(in alloc; "{made} {shown} {judged}")?)
+}
+
+#[test]
+fn expressions_are_built_once_or_refused(rt: HostRuntime) -> Result<(), Fail> {
+    assert_eq!(rt;
+        wrong_row(rt.alloc(), Question::Unbuilt, UNBUILT)?.as_str(),
+        ""
+    );
+    assert_eq!(rt; refused_none(rt.alloc())?.as_str(), "48 at 6:5");
+    assert_eq!(rt; built_once(rt.alloc())?.as_str(), "4 110 4");
     Ok(())
 }

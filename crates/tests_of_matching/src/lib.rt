@@ -5,3 +5,7 @@
 mod judging;
 #[cfg(test)]
 mod lowering;
+#[cfg(test)]
+mod rules;
+#[cfg(test)]
+mod tables;

@@ -2,15 +2,15 @@
 
 ghost use Rattle.std.specs.Prelude.{◌≤◌};
 
+use crate::rules::{detection, fields, one_alternative, one_detection, one_item, rule};
+use crate::tables::{Asked, joined, no_row, three, wrong_row};
 use backend_core::{Leaf, LeafTest, Op as LeafOp, Tree};
 use event_schema::{Field, FieldKind, FieldList, Schema};
 use modifier_chains::{Flags, Joined, Op};
-use rule_head::{Head, LogSource};
-use rule_items::{Alternative, Alternatives, Detection, Detections, Fields, Item, Values};
+use rule_items::{Alternative, Alternatives, Detections, Item, Values};
 use rule_lowering::lower;
 use rule_model::Rule;
 use sig_base::{Code, Detail, Fault, Limits, Place, Text, Texts};
-use sig_conditions::{DetectionNumbers, Formula};
 use sig_encode::Network;
 use sig_modifiers::{Test, Tests};
 use sig_strings::{Pattern, SharedPattern};
@@ -26,6 +26,36 @@ const NO_FLAGS: Flags = Flags {
     m: false,
     s: false,
 };
+
+/// What the rows of this module's tables are asked.
+#[derive(Clone, Copy)]
+enum Question {
+    Item,
+    Written,
+    Dashed,
+    Network,
+    Number,
+    Compared,
+    Expression,
+    Same,
+    Conditions,
+}
+
+impl Asked for Question {
+    fn told(self, alloc: Global, row: &str) -> Result<String, Fail> {
+        match self {
+            Question::Item => item_of_row(alloc, row),
+            Question::Written => written(alloc, row),
+            Question::Dashed => dashed_of_row(alloc, row),
+            Question::Network => network(alloc, row),
+            Question::Number => number(alloc, row),
+            Question::Compared => compared(alloc, row),
+            Question::Expression => expression(alloc, row),
+            Question::Same => same(alloc, row),
+            Question::Conditions => conditions_of_row(alloc, row),
+        }
+    }
+}
 
 fn field(alloc: Global, name: &str, kind: FieldKind, search: bool) -> Result<Field, Fail> {
     let mut at = Texts::new(alloc);
@@ -48,11 +78,15 @@ fn schema_of(alloc: Global, fields: FieldList) -> Result<Schema, Fail> {
     })
 }
 
-/// Texts of these names, each with whether keywords search it.
-fn schema(alloc: Global, names: &[(&str, bool)]) -> Result<Schema, Fail> {
+/// Texts of these names, with spaces between them; keywords search those with `+` in front.
+fn schema(alloc: Global, names: &str) -> Result<Schema, Fail> {
     let mut fields = FieldList::new(alloc);
-    for (name, search) in names {
-        fields.push(field(alloc, name, FieldKind::Text, *search)?)?;
+    for word in names.split(' ') {
+        let (name, search) = match word.strip_prefix("+") {
+            Some(name) => (name, true),
+            None => (word, false),
+        };
+        fields.push(field(alloc, name, FieldKind::Text, search)?)?;
     }
     schema_of(alloc, fields)
 }
@@ -68,19 +102,21 @@ fn fits(alloc: Global, text: &str) -> Result<Tests, Fail> {
     Ok(tests)
 }
 
-fn item(alloc: Global, names: &[&str], joined: Joined, texts: &[&str]) -> Result<Item, Fail> {
-    let mut fields = Fields::Keyword;
-    if !names.is_empty() {
-        let mut all = Texts::new(alloc);
-        for name in names {
-            all.push(Text::copy(alloc, name)?)?;
-        }
-        fields = Fields::Names(all);
+fn values(alloc: Global, texts: &str) -> Result<Values, Fail> {
+    let mut values = Values::new(alloc);
+    if texts.is_empty() {
+        return Ok(values);
     }
-    let mut tests = Values::new(alloc);
-    for text in texts {
-        tests.push(fits(alloc, text)?)?;
+    for text in texts.split(',') {
+        values.push(fits(alloc, text)?)?;
     }
+    Ok(values)
+}
+
+/// An item of these names and patterns, with commas between them; one without names is a keyword.
+fn item(alloc: Global, names: &str, joined: Joined, texts: &str) -> Result<Item, Fail> {
+    let fields = fields(alloc, names)?;
+    let tests = values(alloc, texts)?;
     Ok(Item {
         fields,
         tests,
@@ -89,36 +125,11 @@ fn item(alloc: Global, names: &[&str], joined: Joined, texts: &[&str]) -> Result
     })
 }
 
-/// A detection of one item.
-fn detection(alloc: Global, item: Item) -> Result<Detection, Fail> {
-    let mut items = Alternative::new(alloc);
-    items.push(item)?;
-    let mut alternatives = Alternatives::new(alloc);
-    alternatives.push(items)?;
-    Ok(Detection {
-        name: Text::copy(alloc, "d")?,
-        alternatives,
-        place: KEY,
-    })
-}
-
-fn rule(alloc: Global, detections: Detections, conditions: Vec<Formula>) -> Result<Rule, Fail> {
-    Ok(Rule {
-        head: Head {
-            title: Text::copy(alloc, "T")?,
-            id: None,
-            name: None,
-            place: RULE,
-            rest: Vec::new(alloc),
-        },
-        source: LogSource {
-            category: Some(Text::copy(alloc, "c")?),
-            product: None,
-            service: None,
-        },
-        detections,
-        conditions,
-    })
+/// An item of this one value behind the pattern of the texts, with commas between them.
+fn item_with(alloc: Global, names: &str, texts: &str, tests: Tests) -> Result<Item, Fail> {
+    let mut item = item(alloc, names, Joined::Any, texts)?;
+    item.tests.push(tests)?;
+    Ok(item)
 }
 
 fn sign(op: LeafOp) -> &'static str {
@@ -130,37 +141,51 @@ fn sign(op: LeafOp) -> &'static str {
     }
 }
 
-fn show_leaf(alloc: Global, shown: &mut String, leaf: &Leaf) -> Result<(), Fail> {
-    let field = leaf.field;
-    shown.push_str(&format!(in alloc; "{field}")?)?;
-    match &leaf.test {
-        LeafTest::Has => shown.push_str("+")?,
-        LeafTest::Absent => shown.push_str("-")?,
-        LeafTest::Fits { pattern, cased } => {
-            shown.push_str(if *cased { "=" } else { "~" })?;
-            if pattern.is_written() {
-                shown.push_str(pattern.write_sigma(alloc)?.as_str())?;
-            }
-        }
-        LeafTest::Equals(number) => {
-            let number = *number;
-            shown.push_str(&format!(in alloc; "#{number}")?)?;
-        }
-        LeafTest::Compare { op, number } => {
-            let number = *number;
-            shown.push_str(sign(*op))?;
-            shown.push_str(&format!(in alloc; "{number}")?)?;
-        }
-        LeafTest::SameAs(other) => {
-            let other = *other;
-            shown.push_str(&format!(in alloc; "^{other}")?)?;
-        }
-        LeafTest::Finds(expression) => {
-            shown.push_str("/")?;
-            shown.push_str(expression.as_str())?;
-        }
+fn show_number(
+    alloc: Global,
+    shown: &mut String,
+    sign: &'static str,
+    number: i64,
+) -> Result<(), Fail> {
+    let text = format!(in alloc; "{sign}{number}")?;
+    shown.push_str(text.as_str())?;
+    Ok(())
+}
+
+fn show_pattern(
+    alloc: Global,
+    shown: &mut String,
+    pattern: &SharedPattern,
+    cased: bool,
+) -> Result<(), Fail> {
+    shown.push_str(if cased { "=" } else { "~" })?;
+    if pattern.is_written() {
+        shown.push_str(pattern.write_sigma(alloc)?.as_str())?;
     }
     Ok(())
+}
+
+fn show_expression(shown: &mut String, expression: &Text) -> Result<(), Fail> {
+    shown.push_str("/")?;
+    shown.push_str(expression.as_str())?;
+    Ok(())
+}
+
+fn show_test(alloc: Global, shown: &mut String, test: &LeafTest) -> Result<(), Fail> {
+    match test {
+        LeafTest::Has => Ok(shown.push_str("+")?),
+        LeafTest::Absent => Ok(shown.push_str("-")?),
+        LeafTest::Fits { pattern, cased } => show_pattern(alloc, shown, pattern, *cased),
+        LeafTest::Equals(number) => show_number(alloc, shown, "#", *number),
+        LeafTest::Compare { op, number } => show_number(alloc, shown, sign(*op), *number),
+        LeafTest::SameAs(other) => show_number(alloc, shown, "^", i64::from(*other)),
+        LeafTest::Finds(expression) => show_expression(shown, expression),
+    }
+}
+
+fn show_leaf(alloc: Global, shown: &mut String, leaf: &Leaf) -> Result<(), Fail> {
+    show_number(alloc, shown, "", i64::from(leaf.field))?;
+    show_test(alloc, shown, &leaf.test)
 }
 
 /// `(a & b)`, `(a | b)`, `!a`, `never`, and a leaf as its field, `+`, `-`, `~` or `=` with its pattern, `#` with its number, `<`, `<=`, `>` or
@@ -202,91 +227,72 @@ fn shown(alloc: Global, schema: &Schema, rule: &Rule) -> Result<String, Fail> {
 
 /// The tree of a rule that has one item.
 fn shown_under(alloc: Global, schema: &Schema, item: Item) -> Result<String, Fail> {
-    let mut detections = Detections::new(alloc);
-    detections.push(detection(alloc, item)?)?;
-    let mut conditions = Vec::new(alloc);
-    conditions.push(Formula::Detection(0))?;
-    let rule = rule(alloc, detections, conditions)?;
+    let detections = one_detection(alloc, one_item(alloc, item, KEY)?)?;
+    let rule = rule(alloc, detections, "0")?;
     shown(alloc, schema, &rule)
 }
 
 /// The tree of a rule that has one item, with field A as number 0, B as 1 and C as 2; keywords search A and C.
 fn shown_item(alloc: Global, item: Item) -> Result<String, Fail> {
-    let schema = schema(alloc, &[("A", true), ("B", false), ("C", true)])?;
+    let schema = schema(alloc, "+A B +C")?;
     shown_under(alloc, &schema, item)
 }
 
-#[test]
-fn items(rt: HostRuntime) -> Result<(), Fail> {
-    let alloc = rt.alloc();
-    for (names, joined, texts, want) in [
-        (["B"].as_slice(), Joined::Any, ["a*"].as_slice(), "1~a*"),
-        (
-            ["B"].as_slice(),
-            Joined::Any,
-            ["a*", "b"].as_slice(),
-            "(1~a*|1~b|)",
-        ),
-        (
-            ["B"].as_slice(),
-            Joined::All,
-            ["a*", "b"].as_slice(),
-            "(1~a*&1~b&)",
-        ),
-        (
-            ["C", "A"].as_slice(),
-            Joined::Any,
-            ["a", "b"].as_slice(),
-            "(2~a|2~b|0~a|0~b|)",
-        ),
-        (
-            ["C", "A"].as_slice(),
-            Joined::All,
-            ["a", "b"].as_slice(),
-            "((2~a&2~b&)|(0~a&0~b&)|)",
-        ),
-        (
-            [].as_slice(),
-            Joined::Any,
-            ["a", "b"].as_slice(),
-            "(0~a|2~a|0~b|2~b|)",
-        ),
-        (
-            [].as_slice(),
-            Joined::All,
-            ["a", "b"].as_slice(),
-            "((0~a|2~a|)&(0~b|2~b|)&)",
-        ),
-    ] {
-        assert_eq!(rt;
-            shown_item(alloc, item(alloc, names, joined, texts)?)?.as_str(),
-            want
-        );
-    }
-    Ok(())
+/// .. an item of `names;any or all;texts`.
+fn item_of_row(alloc: Global, row: &str) -> Result<String, Fail> {
+    let Some((names, word, texts)) = three(row) else {
+        return no_row(alloc);
+    };
+    let Some(joined) = joined(word) else {
+        return no_row(alloc);
+    };
+    let item = item(alloc, names, joined, texts)?;
+    shown_item(alloc, item)
 }
 
-#[test]
-fn tests_of_one_value(rt: HostRuntime) -> Result<(), Fail> {
-    let alloc = rt.alloc();
+/// The trees of items, `tree;names;any or all;texts`.
+const ITEMS: &str = "1~a*;B;any;a*
+(1~a*|1~b|);B;any;a*,b
+(1~a*&1~b&);B;all;a*,b
+(2~a|2~b|0~a|0~b|);C,A;any;a,b
+((2~a&2~b&)|(0~a&0~b&)|);C,A;all;a,b
+(0~a|2~a|0~b|2~b|);;any;a,b
+((0~a|2~a|)&(0~b|2~b|)&);;all;a,b";
+
+/// That there is a value, that there is none by both tests of it, and that it's the number -70.
+fn four_tests(alloc: Global) -> Result<Tests, Fail> {
     let mut tests = Tests::new(alloc);
     tests.push(Test::Exists(true))?;
     tests.push(Test::Exists(false))?;
     tests.push(Test::Absent)?;
     tests.push(Test::Equals(-70))?;
-    let mut all = item(alloc, ["B"].as_slice(), Joined::Any, [].as_slice())?;
-    all.tests.push(tests)?;
-    assert_eq!(rt; shown_item(alloc, all)?.as_str(), "(1+|1-|1-|1~-70|)");
-    Ok(())
+    Ok(tests)
 }
 
-/// The tree of one value of field A, which is of this kind.
-fn shown_value(alloc: Global, kind: FieldKind, tests: Tests) -> Result<String, Fail> {
+fn shown_four_tests(alloc: Global) -> Result<String, Fail> {
+    let item = item_with(alloc, "B", "", four_tests(alloc)?)?;
+    shown_item(alloc, item)
+}
+
+fn kind_of(word: &str) -> Option<FieldKind> {
+    match word {
+        "text" => Some(FieldKind::Text),
+        "whole" => Some(FieldKind::Whole),
+        "address" => Some(FieldKind::Address),
+        _ => None,
+    }
+}
+
+/// The tree of one value of field A, which is of the kind of this name.
+fn shown_value(alloc: Global, kind: &str, tests: Tests) -> Result<String, Fail> {
+    let Some(kind) = kind_of(kind) else {
+        return no_row(alloc);
+    };
+    let item = item_with(alloc, "A", "", tests)?;
     let mut fields = FieldList::new(alloc);
     fields.push(field(alloc, "A", kind, false)?)?;
-    let mut one = item(alloc, ["A"].as_slice(), Joined::Any, [].as_slice())?;
-    one.tests.push(tests)?;
-    shown_under(alloc, &schema_of(alloc, fields)?, one)
+    let schema = schema_of(alloc, fields)?;
+    shown_under(alloc, &schema, item)
 }
 
 /// A value of one test.
@@ -296,40 +302,35 @@ fn one(alloc: Global, test: Test) -> Result<Tests, Fail> {
     Ok(tests)
 }
 
-fn shown_test(alloc: Global, kind: FieldKind, test: Test) -> Result<String, Fail> {
+fn shown_test(alloc: Global, kind: &str, test: Test) -> Result<String, Fail> {
     shown_value(alloc, kind, one(alloc, test)?)
 }
 
-/// A text, `=`, and the tree that it gives on a field of whole numbers.
-const WHOLE: &str = "4624=0#4624
-0=0#0
--7=0#-7
-9223372036854775807=0#9223372036854775807
--9223372036854775807=0#-9223372036854775807
-46*=0~46*
-?=0~?
-0042=never
-+5=never
--0=never
-5 =never
-x=never
--=never
-9223372036854775808=never
--9223372036854775808=never
-=never";
-
-#[test]
-fn texts_of_whole_numbers(rt: HostRuntime) -> Result<(), Fail> {
-    let alloc = rt.alloc();
-    for line in WHOLE.lines() {
-        let Some((text, want)) = line.split_once('=') else {
-            continue;
-        };
-        let tree = shown_value(alloc, FieldKind::Whole, fits(alloc, text)?)?;
-        assert_eq!(rt; tree.as_str(), want);
-    }
-    Ok(())
+/// The tree of the pattern of `text;kind of the field`.
+fn written(alloc: Global, row: &str) -> Result<String, Fail> {
+    let Some((text, kind)) = row.split_once(';') else {
+        return no_row(alloc);
+    };
+    shown_value(alloc, kind, fits(alloc, text)?)
 }
+
+/// The trees of patterns, `tree;text;kind of the field`.
+const WHOLE: &str = "0#4624;4624;whole
+0#0;0;whole
+0#-7;-7;whole
+0#9223372036854775807;9223372036854775807;whole
+0#-9223372036854775807;-9223372036854775807;whole
+0~46*;46*;whole
+0~?;?;whole
+never;0042;whole
+never;+5;whole
+never;-0;whole
+never;5 ;whole
+never;x;whole
+never;-;whole
+never;9223372036854775808;whole
+never;-9223372036854775808;whole
+never;;whole";
 
 /// The test that `windash` makes of a text.
 fn dashed(alloc: Global, text: &str) -> Result<Tests, Fail> {
@@ -343,134 +344,128 @@ fn dashed(alloc: Global, text: &str) -> Result<Tests, Fail> {
     Ok(tests)
 }
 
-/// A row's kind of a field, its text, and the tree that is wanted.
-fn row(line: &str) -> Option<(FieldKind, &str, &str)> {
-    let (kind, rest) = line.split_once('=')?;
-    let (text, want) = rest.split_once('=')?;
-    let kind = match kind {
-        "whole" => FieldKind::Whole,
-        "address" => FieldKind::Address,
-        _ => FieldKind::Text,
+/// The tree of the pattern with dash places of `text;kind of the field`.
+fn dashed_of_row(alloc: Global, row: &str) -> Result<String, Fail> {
+    let Some((text, kind)) = row.split_once(';') else {
+        return no_row(alloc);
     };
-    Some((kind, text, want))
+    shown_value(alloc, kind, dashed(alloc, text)?)
 }
 
-/// The kind of a field, `=`, a text, `=`, and the tree that its pattern with dash places gives.
-const DASHED: &str = "text=*-a=(0=*-a|0=*/a|0=*–a|0=*—a|0=*―a|)
-text=a-b=0=a-b
-whole=-5=(0#-5|never|never|never|never|)
-whole=/5*=(0=-5*|0=/5*|0=–5*|0=—5*|0=―5*|)";
+/// The trees of patterns with dash places, `tree;text;kind of the field`.
+const DASHED: &str = "(0=*-a|0=*/a|0=*–a|0=*—a|0=*―a|);*-a;text
+0=a-b;a-b;text
+(0#-5|never|never|never|never|);-5;whole
+(0=-5*|0=/5*|0=–5*|0=—5*|0=―5*|);/5*;whole";
 
-#[test]
-fn each_choice_of_dashes(rt: HostRuntime) -> Result<(), Fail> {
-    let alloc = rt.alloc();
-    for line in DASHED.lines() {
-        let Some((kind, text, want)) = row(line) else {
-            panic!(rt; "{line}");
-        };
-        let tree = shown_value(alloc, kind, dashed(alloc, text)?)?;
-        assert_eq!(rt; tree.as_str(), want);
+/// The tree of `network;kind of the field`.
+fn network(alloc: Global, row: &str) -> Result<String, Fail> {
+    let Some((text, kind)) = row.split_once(';') else {
+        return no_row(alloc);
+    };
+    let network = Network::read(text, KEY)?;
+    shown_test(alloc, kind, Test::Inside(network))
+}
+
+/// The trees of networks, `tree;network;kind of the field`.
+const NETWORKS: &str = "0~10.*;10.0.0.0/8;address
+(0~192.168.*|0~192.169.*|);192.168.0.0/15;address
+0~10.1.2.3;10.1.2.3;address
+(0~10.1.2.2|0~10.1.2.3|);10.1.2.3/31;address
+(0~10.*|0~11.*|);11.0.0.0/7;text
+0~10.*;10.0.0.0/8;whole
+never;10.1.2.3;whole";
+
+/// An item of two names with a pattern and a network of 128 patterns.
+fn networks(alloc: Global) -> Result<Item, Fail> {
+    let tests = one(alloc, Test::Inside(Network::read("10.0.0.0/9", KEY)?))?;
+    item_with(alloc, "A,B", "c", tests)
+}
+
+/// An item of two names with a pattern and one of 125 choices.
+fn choices(alloc: Global) -> Result<Item, Fail> {
+    let tests = dashed(alloc, " -a /b -c")?;
+    item_with(alloc, "A,B", "c", tests)
+}
+
+/// The tree of a number, of `exists` or of `absent`, `test;kind of the field`.
+fn number(alloc: Global, row: &str) -> Result<String, Fail> {
+    let Some((word, kind)) = row.split_once(';') else {
+        return no_row(alloc);
+    };
+    match word {
+        "exists" => shown_test(alloc, kind, Test::Exists(true)),
+        "absent" => shown_test(alloc, kind, Test::Absent),
+        _ => {
+            let Ok(number) = word.parse::<i64>() else {
+                return no_row(alloc);
+            };
+            shown_test(alloc, kind, Test::Equals(number))
+        }
     }
-    Ok(())
 }
 
-/// The kind of a field, `=`, a network, `=`, and the tree that it gives.
-const NETWORKS: &str = "address=10.0.0.0/8=0~10.*
-address=192.168.0.0/15=(0~192.168.*|0~192.169.*|)
-address=10.1.2.3=0~10.1.2.3
-address=10.1.2.3/31=(0~10.1.2.2|0~10.1.2.3|)
-text=11.0.0.0/7=(0~10.*|0~11.*|)
-whole=10.0.0.0/8=0~10.*
-whole=10.1.2.3=never";
+/// The trees of such tests, `tree;test;kind of the field`.
+const NUMBERS: &str = "0#4624;4624;whole
+never;-9223372036854775808;whole
+0#-9223372036854775807;-9223372036854775807;whole
+0~7;7;text
+0~-9223372036854775808;-9223372036854775808;text
+0~7;7;address
+0+;exists;whole
+0-;absent;whole";
 
-#[test]
-fn networks_are_their_patterns(rt: HostRuntime) -> Result<(), Fail> {
-    let alloc = rt.alloc();
-    for line in NETWORKS.lines() {
-        let Some((kind, text, want)) = row(line) else {
-            panic!(rt; "{line}");
-        };
-        let network = Network::read(text, KEY)?;
-        let tree = shown_test(alloc, kind, Test::Inside(network))?;
-        assert_eq!(rt; tree.as_str(), want);
+fn op_of(word: &str) -> Option<Op> {
+    match word {
+        "<" => Some(Op::Lt),
+        "<=" => Some(Op::Lte),
+        ">" => Some(Op::Gt),
+        ">=" => Some(Op::Gte),
+        _ => None,
     }
-    Ok(())
 }
 
-#[test]
-fn networks_are_counted(rt: HostRuntime) -> Result<(), Fail> {
-    let alloc = rt.alloc();
-    let mut all = item(alloc, ["A", "B"].as_slice(), Joined::Any, ["c"].as_slice())?;
-    let mut tests = Tests::new(alloc);
-    tests.push(Test::Inside(Network::read("10.0.0.0/9", KEY)?))?;
-    all.tests.push(tests)?;
-    assert_eq!(rt; refused_leaves(alloc, all, 257)?, 258);
-    Ok(())
+/// The tree of a comparison, `sign;number;kind of the field`.
+fn compared(alloc: Global, row: &str) -> Result<String, Fail> {
+    let Some((word, number, kind)) = three(row) else {
+        return no_row(alloc);
+    };
+    let Some(op) = op_of(word) else {
+        return no_row(alloc);
+    };
+    let Ok(number) = number.parse::<i64>() else {
+        return no_row(alloc);
+    };
+    shown_test(alloc, kind, Test::Compare { op, number })
 }
 
-#[test]
-fn choices_are_counted(rt: HostRuntime) -> Result<(), Fail> {
-    let alloc = rt.alloc();
-    let mut all = item(alloc, ["A", "B"].as_slice(), Joined::Any, ["c"].as_slice())?;
-    all.tests.push(dashed(alloc, " -a /b -c")?)?;
-    assert_eq!(rt; refused_leaves(alloc, all, 251)?, 252);
-    Ok(())
+/// The trees of comparisons, `tree;sign;number;kind of the field`.
+const COMPARISONS: &str = "0<7;<;7;whole
+0<=-7;<=;-7;whole
+0>9223372036854775807;>;9223372036854775807;whole
+0>=0;>=;0;whole
+never;>=;0;text
+never;<;7;address";
+
+/// The tree of the regular expression `a+`, `letters of its flags;kind of the field`.
+fn expression(alloc: Global, row: &str) -> Result<String, Fail> {
+    let Some((letters, kind)) = row.split_once(';') else {
+        return no_row(alloc);
+    };
+    let flags = Flags {
+        i: letters.contains('i'),
+        m: letters.contains('m'),
+        s: letters.contains('s'),
+    };
+    let text = Text::copy(alloc, "a+")?;
+    shown_test(alloc, kind, Test::Finds { text, flags })
 }
 
-#[test]
-fn numbers(rt: HostRuntime) -> Result<(), Fail> {
-    let alloc = rt.alloc();
-    for (kind, number, want) in [
-        (FieldKind::Whole, 4624, "0#4624"),
-        (FieldKind::Whole, i64::MIN, "never"),
-        (FieldKind::Whole, i64::MIN + 1, "0#-9223372036854775807"),
-        (FieldKind::Text, 7, "0~7"),
-        (FieldKind::Text, i64::MIN, "0~-9223372036854775808"),
-        (FieldKind::Address, 7, "0~7"),
-    ] {
-        let tree = shown_test(alloc, kind, Test::Equals(number))?;
-        assert_eq!(rt; tree.as_str(), want);
-    }
-    let there = shown_test(alloc, FieldKind::Whole, Test::Exists(true))?;
-    assert_eq!(rt; there.as_str(), "0+");
-    let absent = shown_test(alloc, FieldKind::Whole, Test::Absent)?;
-    assert_eq!(rt; absent.as_str(), "0-");
-    Ok(())
-}
-
-#[test]
-fn comparisons(rt: HostRuntime) -> Result<(), Fail> {
-    let alloc = rt.alloc();
-    for (kind, op, number, want) in [
-        (FieldKind::Whole, Op::Lt, 7, "0<7"),
-        (FieldKind::Whole, Op::Lte, -7, "0<=-7"),
-        (FieldKind::Whole, Op::Gt, i64::MAX, "0>9223372036854775807"),
-        (FieldKind::Whole, Op::Gte, 0, "0>=0"),
-        (FieldKind::Text, Op::Gte, 0, "never"),
-        (FieldKind::Address, Op::Lt, 7, "never"),
-    ] {
-        let tree = shown_test(alloc, kind, Test::Compare { op, number })?;
-        assert_eq!(rt; tree.as_str(), want);
-    }
-    Ok(())
-}
-
-#[test]
-fn regular_expressions(rt: HostRuntime) -> Result<(), Fail> {
-    let alloc = rt.alloc();
-    for (kind, i, m, s, want) in [
-        (FieldKind::Text, false, false, false, "0/a+"),
-        (FieldKind::Address, true, false, false, "0/(?i)a+"),
-        (FieldKind::Whole, true, true, true, "0/(?ims)a+"),
-        (FieldKind::Whole, false, true, true, "0/(?ms)a+"),
-    ] {
-        let text = Text::copy(alloc, "a+")?;
-        let flags = Flags { i, m, s };
-        let tree = shown_test(alloc, kind, Test::Finds { text, flags })?;
-        assert_eq!(rt; tree.as_str(), want);
-    }
-    Ok(())
-}
+/// The trees of regular expressions, `tree;letters of the flags;kind of the field`.
+const EXPRESSIONS: &str = "0/a+;;text
+0/(?i)a+;i;address
+0/(?ims)a+;ims;whole
+0/(?ms)a+;ms;whole";
 
 /// Fields A and B of this kind.
 fn two_fields(alloc: Global, kind: FieldKind) -> Result<Schema, Fail> {
@@ -480,188 +475,141 @@ fn two_fields(alloc: Global, kind: FieldKind) -> Result<Schema, Fail> {
     schema_of(alloc, fields)
 }
 
-#[test]
-fn comparisons_of_two_names(rt: HostRuntime) -> Result<(), Fail> {
-    let alloc = rt.alloc();
-    let mut both = item(alloc, ["B", "A"].as_slice(), Joined::All, [].as_slice())?;
-    for (op, number) in [(Op::Gt, 1), (Op::Lte, 9)] {
-        both.tests.push(one(alloc, Test::Compare { op, number })?)?;
-    }
-    let tree = shown_under(alloc, &two_fields(alloc, FieldKind::Whole)?, both)?;
-    assert_eq!(rt; tree.as_str(), "((1>1&1<=9&)|(0>1&0<=9&)|)");
-    Ok(())
+/// The tree of fields B and A that are more than 1 and at most 9.
+fn shown_range(alloc: Global) -> Result<String, Fail> {
+    let above = one(
+        alloc,
+        Test::Compare {
+            op: Op::Gt,
+            number: 1,
+        },
+    )?;
+    let below = one(
+        alloc,
+        Test::Compare {
+            op: Op::Lte,
+            number: 9,
+        },
+    )?;
+    let mut both = item(alloc, "B,A", Joined::All, "")?;
+    both.tests.push(above)?;
+    both.tests.push(below)?;
+    let schema = two_fields(alloc, FieldKind::Whole)?;
+    shown_under(alloc, &schema, both)
 }
 
 /// A rule that isn't true where field A is the same as the one of this name.
 fn unlike(alloc: Global, name: &str) -> Result<Rule, Fail> {
-    let mut same = item(alloc, ["A"].as_slice(), Joined::Any, [].as_slice())?;
-    let name = Text::copy(alloc, name)?;
-    same.tests.push(one(alloc, Test::SameAs(name))?)?;
-    let mut detections = Detections::new(alloc);
-    detections.push(detection(alloc, same)?)?;
-    let mut conditions = Vec::new(alloc);
-    let not = Formula::Not(Box::new(alloc, Formula::Detection(0))?);
-    conditions.push(not)?;
-    rule(alloc, detections, conditions)
+    let tests = one(alloc, Test::SameAs(Text::copy(alloc, name)?))?;
+    let same = item_with(alloc, "A", "", tests)?;
+    let detections = one_detection(alloc, one_item(alloc, same, KEY)?)?;
+    rule(alloc, detections, "!0")
 }
 
-#[test]
-fn fields_that_are_the_same(rt: HostRuntime) -> Result<(), Fail> {
-    let alloc = rt.alloc();
-    for (kind, name, want) in [
-        (FieldKind::Text, "B", "!0^1"),
-        (FieldKind::Whole, "B", "!0^1"),
-        (FieldKind::Address, "B", "!0^1"),
-        (FieldKind::Text, "A", "!0^0"),
-    ] {
-        let tree = shown(alloc, &two_fields(alloc, kind)?, &unlike(alloc, name)?)?;
-        assert_eq!(rt; tree.as_str(), want);
-    }
-    Ok(())
+/// Its tree, `name;kind of both fields`.
+fn same(alloc: Global, row: &str) -> Result<String, Fail> {
+    let Some((name, kind)) = row.split_once(';') else {
+        return no_row(alloc);
+    };
+    let Some(kind) = kind_of(kind) else {
+        return no_row(alloc);
+    };
+    let schema = two_fields(alloc, kind)?;
+    let rule = unlike(alloc, name)?;
+    shown(alloc, &schema, &rule)
 }
 
-#[test]
-fn comparisons_count_once(rt: HostRuntime) -> Result<(), Fail> {
-    let alloc = rt.alloc();
-    let mut all = item(alloc, ["A", "B"].as_slice(), Joined::Any, ["c"].as_slice())?;
-    let mut tests = Tests::new(alloc);
-    tests.push(Test::Compare {
-        op: Op::Lt,
-        number: 1,
-    })?;
+/// The trees of such rules, `tree;name;kind of both fields`.
+const SAME: &str = "!0^1;B;text
+!0^1;B;whole
+!0^1;B;address
+!0^0;A;text";
+
+/// An item of two names with a pattern and a value of three tests.
+fn three_tests(alloc: Global) -> Result<Item, Fail> {
+    let mut tests = one(
+        alloc,
+        Test::Compare {
+            op: Op::Lt,
+            number: 1,
+        },
+    )?;
     tests.push(Test::SameAs(Text::copy(alloc, "B")?))?;
     tests.push(Test::Finds {
         text: Text::copy(alloc, "c")?,
         flags: NO_FLAGS,
     })?;
-    all.tests.push(tests)?;
-    assert_eq!(rt; refused_leaves(alloc, all, 7)?, 8);
-    Ok(())
+    item_with(alloc, "A,B", "c", tests)
 }
 
-#[test]
-fn keywords_by_kind(rt: HostRuntime) -> Result<(), Fail> {
-    let alloc = rt.alloc();
+/// Field A of texts, B of whole numbers and C of addresses; keywords search A and C.
+fn three_kinds(alloc: Global) -> Result<Schema, Fail> {
     let mut fields = FieldList::new(alloc);
     fields.push(field(alloc, "A", FieldKind::Text, true)?)?;
     fields.push(field(alloc, "B", FieldKind::Whole, false)?)?;
     fields.push(field(alloc, "C", FieldKind::Address, true)?)?;
-    let mut tests = Tests::new(alloc);
-    tests.push(Test::Equals(7))?;
-    let mut keyword = item(alloc, [].as_slice(), Joined::Any, ["7*"].as_slice())?;
-    keyword.tests.push(tests)?;
-    let tree = shown_under(alloc, &schema_of(alloc, fields)?, keyword)?;
-    assert_eq!(rt; tree.as_str(), "(0~7*|2~7*|0~7|2~7|)");
-    Ok(())
+    schema_of(alloc, fields)
 }
 
-#[test]
-fn lists_of_maps(rt: HostRuntime) -> Result<(), Fail> {
-    let alloc = rt.alloc();
-    let mut both = Alternative::new(alloc);
-    both.push(item(alloc, ["B"].as_slice(), Joined::Any, ["a"].as_slice())?)?;
-    both.push(item(alloc, ["C"].as_slice(), Joined::All, ["x", "y"].as_slice())?)?;
-    let mut one = Alternative::new(alloc);
-    one.push(item(alloc, ["A"].as_slice(), Joined::Any, ["c", "d"].as_slice())?)?;
+/// The tree of the keywords `7*` and 7 under it.
+fn shown_keywords(alloc: Global) -> Result<String, Fail> {
+    let keywords = item_with(alloc, "", "7*", one(alloc, Test::Equals(7))?)?;
+    let schema = three_kinds(alloc)?;
+    shown_under(alloc, &schema, keywords)
+}
+
+/// An item of B and an item of C that has to fit `x` and `y`.
+fn two_items(alloc: Global) -> Result<Alternative, Fail> {
+    let mut both = one_alternative(alloc, item(alloc, "B", Joined::Any, "a")?)?;
+    both.push(item(alloc, "C", Joined::All, "x,y")?)?;
+    Ok(both)
+}
+
+/// The tree of a rule of them, or of an item of A.
+fn shown_alternatives(alloc: Global) -> Result<String, Fail> {
     let mut alternatives = Alternatives::new(alloc);
-    alternatives.push(both)?;
-    alternatives.push(one)?;
-    let mut detections = Detections::new(alloc);
-    detections.push(Detection {
-        name: Text::copy(alloc, "d")?,
-        alternatives,
-        place: KEY,
-    })?;
-    let mut conditions = Vec::new(alloc);
-    conditions.push(Formula::Detection(0))?;
-    let rule = rule(alloc, detections, conditions)?;
-    let schema = schema(alloc, &[("A", true), ("B", false), ("C", true)])?;
-    assert_eq!(rt;
-        shown(alloc, &schema, &rule)?.as_str(),
-        "((1~a&2~x&2~y&)|0~c|0~d|)"
-    );
-    Ok(())
+    alternatives.push(two_items(alloc)?)?;
+    let other = item(alloc, "A", Joined::Any, "c,d")?;
+    alternatives.push(one_alternative(alloc, other)?)?;
+    let detections = one_detection(alloc, detection(alloc, alternatives, KEY)?)?;
+    let rule = rule(alloc, detections, "0")?;
+    let schema = schema(alloc, "+A B +C")?;
+    shown(alloc, &schema, &rule)
 }
 
 /// `1~a|1~b`, `0~c` and `2~x&2~y`.
-fn three(alloc: Global) -> Result<Detections, Fail> {
-    let mut detections = Detections::new(alloc);
-    for (name, joined, texts) in [
-        ("B", Joined::Any, ["a", "b"].as_slice()),
-        ("A", Joined::Any, ["c"].as_slice()),
-        ("C", Joined::All, ["x", "y"].as_slice()),
-    ] {
-        let one = item(alloc, [name].as_slice(), joined, texts)?;
-        detections.push(detection(alloc, one)?)?;
-    }
-    Ok(detections)
+fn three_detections(alloc: Global) -> Result<Detections, Fail> {
+    let mut all = Detections::new(alloc);
+    all.push(one_item(alloc, item(alloc, "B", Joined::Any, "a,b")?, KEY)?)?;
+    all.push(one_item(alloc, item(alloc, "A", Joined::Any, "c")?, KEY)?)?;
+    all.push(one_item(alloc, item(alloc, "C", Joined::All, "x,y")?, KEY)?)?;
+    Ok(all)
 }
 
-fn numbered(alloc: Global, numbers: &[u32]) -> Result<Vec<Formula>, Fail> {
-    let mut formulas = Vec::new(alloc);
-    for number in numbers {
-        formulas.push(Formula::Detection(*number))?;
-    }
-    Ok(formulas)
+/// The tree of these conditions over them.
+fn conditions_of_row(alloc: Global, conditions: &str) -> Result<String, Fail> {
+    let rule = rule(alloc, three_detections(alloc)?, conditions)?;
+    let schema = schema(alloc, "+A B +C")?;
+    shown(alloc, &schema, &rule)
 }
 
-fn taken(alloc: Global, numbers: &[u32]) -> Result<DetectionNumbers, Fail> {
-    let mut taken = DetectionNumbers::new(alloc);
-    for number in numbers {
-        taken.push(*number)?;
-    }
-    Ok(taken)
-}
-
-fn shown_conditions(alloc: Global, conditions: Vec<Formula>) -> Result<String, Fail> {
-    let rule = rule(alloc, three(alloc)?, conditions)?;
-    shown(
-        alloc,
-        &schema(alloc, &[("A", true), ("B", false), ("C", true)])?,
-        &rule,
-    )
-}
-
-fn shown_condition(alloc: Global, condition: Formula) -> Result<String, Fail> {
-    let mut conditions = Vec::new(alloc);
-    conditions.push(condition)?;
-    shown_conditions(alloc, conditions)
-}
-
-#[test]
-fn conditions(rt: HostRuntime) -> Result<(), Fail> {
-    let alloc = rt.alloc();
-    let one_of = Formula::OneOf(taken(alloc, [0, 1, 2].as_slice())?);
-    assert_eq!(rt;
-        shown_condition(alloc, one_of)?.as_str(),
-        "(1~a|1~b|0~c|(2~x&2~y&)|)"
-    );
-    let all_of = Formula::AllOf(taken(alloc, [0, 1, 2].as_slice())?);
-    assert_eq!(rt;
-        shown_condition(alloc, all_of)?.as_str(),
-        "((1~a|1~b|)&0~c&2~x&2~y&)"
-    );
-    let alone = Formula::And(numbered(alloc, [1].as_slice())?);
-    assert_eq!(rt; shown_condition(alloc, alone)?.as_str(), "0~c");
-    let not = Formula::Not(Box::new(alloc, Formula::Detection(0))?);
-    let not_not = Formula::Not(Box::new(alloc, not)?);
-    assert_eq!(rt; shown_condition(alloc, not_not)?.as_str(), "!!(1~a|1~b|)");
-    let two = numbered(alloc, [1, 0].as_slice())?;
-    assert_eq!(rt; shown_conditions(alloc, two)?.as_str(), "(0~c|1~a|1~b|)");
-    Ok(())
-}
+/// The trees of conditions, `tree;conditions`.
+const CONDITIONS: &str = "(1~a|1~b|0~c|(2~x&2~y&)|);one-0-1-2
+((1~a|1~b|)&0~c&2~x&2~y&);all-0-1-2
+0~c;and 1
+!!(1~a|1~b|);!!0
+(0~c|1~a|1~b|);1,0";
 
 /// How many leaves a rule of this item is refused for at its place, or 0 where it isn't.
 fn refused_leaves(alloc: Global, item: Item, limit: usize) -> Result<i128, Fail>
     requires low { 1 ≤ limit }
     requires high { limit ≤ 16384 }
 {
-    let mut detections = Detections::new(alloc);
-    detections.push(detection(alloc, item)?)?;
-    let rule = rule(alloc, detections, numbered(alloc, [0].as_slice())?)?;
+    let detections = one_detection(alloc, one_item(alloc, item, KEY)?)?;
+    let rule = rule(alloc, detections, "0")?;
+    let schema = schema(alloc, "A B")?;
     let mut limits = Limits::standard();
     limits.leaves = limit;
-    let schema = schema(alloc, &[("A", false), ("B", false)])?;
     let Err(Fault::Refused(refusal)) = lower(alloc, &limits, &rule, &schema) else {
         return Ok(0);
     };
@@ -675,8 +623,8 @@ fn refused_leaves(alloc: Global, item: Item, limit: usize) -> Result<i128, Fail>
 }
 
 /// An item of this many values.
-fn values(alloc: Global, count: u32) -> Result<Item, Fail> {
-    let mut all = item(alloc, ["A"].as_slice(), Joined::Any, [].as_slice())?;
+fn many_values(alloc: Global, count: u32) -> Result<Item, Fail> {
+    let mut all = item(alloc, "A", Joined::Any, "")?;
     for _ in 0..count {
         all.tests.push(fits(alloc, "a")?)?;
     }
@@ -684,9 +632,74 @@ fn values(alloc: Global, count: u32) -> Result<Item, Fail> {
 }
 
 #[test]
-fn too_many_tests(rt: HostRuntime) -> Result<(), Fail> {
-    let alloc = rt.alloc();
-    assert_eq!(rt; refused_leaves(alloc, values(alloc, 2000)?, 1999)?, 2000);
-    assert_eq!(rt; refused_leaves(alloc, values(alloc, 2000)?, 2000)?, 0);
+fn items_and_conditions(rt: HostRuntime) -> Result<(), Fail> {
+    assert_eq!(rt; wrong_row(rt.alloc(), Question::Item, ITEMS)?.as_str(), "");
+    assert_eq!(rt;
+        shown_range(rt.alloc())?.as_str(),
+        "((1>1&1<=9&)|(0>1&0<=9&)|)"
+    );
+    assert_eq!(rt;
+        shown_keywords(rt.alloc())?.as_str(),
+        "(0~7*|2~7*|0~7|2~7|)"
+    );
+    assert_eq!(rt;
+        shown_alternatives(rt.alloc())?.as_str(),
+        "((1~a&2~x&2~y&)|0~c|0~d|)"
+    );
+    assert_eq!(rt;
+        wrong_row(rt.alloc(), Question::Conditions, CONDITIONS)?.as_str(),
+        ""
+    );
+    Ok(())
+}
+
+#[test]
+fn tests_of_each_kind_of_field(rt: HostRuntime) -> Result<(), Fail> {
+    assert_eq!(rt; shown_four_tests(rt.alloc())?.as_str(), "(1+|1-|1-|1~-70|)");
+    assert_eq!(rt;
+        wrong_row(rt.alloc(), Question::Written, WHOLE)?.as_str(),
+        ""
+    );
+    assert_eq!(rt;
+        wrong_row(rt.alloc(), Question::Dashed, DASHED)?.as_str(),
+        ""
+    );
+    assert_eq!(rt;
+        wrong_row(rt.alloc(), Question::Network, NETWORKS)?.as_str(),
+        ""
+    );
+    assert_eq!(rt;
+        wrong_row(rt.alloc(), Question::Number, NUMBERS)?.as_str(),
+        ""
+    );
+    assert_eq!(rt;
+        wrong_row(rt.alloc(), Question::Compared, COMPARISONS)?.as_str(),
+        ""
+    );
+    assert_eq!(rt;
+        wrong_row(rt.alloc(), Question::Expression, EXPRESSIONS)?.as_str(),
+        ""
+    );
+    assert_eq!(rt; wrong_row(rt.alloc(), Question::Same, SAME)?.as_str(), "");
+    Ok(())
+}
+
+/// Each network, choice of dashes, comparison and regular expression counts, for each name.
+#[test]
+fn leaves_are_counted(rt: HostRuntime) -> Result<(), Fail> {
+    assert_eq!(rt;
+        refused_leaves(rt.alloc(), networks(rt.alloc())?, 257)?,
+        258
+    );
+    assert_eq!(rt; refused_leaves(rt.alloc(), choices(rt.alloc())?, 251)?, 252);
+    assert_eq!(rt; refused_leaves(rt.alloc(), three_tests(rt.alloc())?, 7)?, 8);
+    assert_eq!(rt;
+        refused_leaves(rt.alloc(), many_values(rt.alloc(), 2000)?, 1999)?,
+        2000
+    );
+    assert_eq!(rt;
+        refused_leaves(rt.alloc(), many_values(rt.alloc(), 2000)?, 2000)?,
+        0
+    );
     Ok(())
 }

@@ -1,83 +1,96 @@
+//! The regular expressions of a rule, built by a builder that fails at a call of this ordinal.
+
+use crate::tables::{
+    Asked, TOP, add, add_pairs, add_text, at, map_of_pairs, no_row, text, three, told_fault,
+    wrong_row,
+};
 use languages::CrateBuilder;
 use rule_building::{build_items, build_searches, find_unbuilt};
 use rule_items::Expression;
 use rule_model::Rule;
-use sig_base::{Fault, Limits, Place, Text};
+use sig_base::{Limits, Text};
 use std::alloc::Global;
 use std::test::Fail;
-use yaml_tree::{Entry, Node};
+use yaml_tree::Node;
 
-fn at(line: u32, column: u32) -> Place {
-    Place { line, column }
+/// What the rows of this module's tables are asked.
+#[derive(Clone, Copy)]
+enum Question {
+    Unbuilt,
+    Items,
+    Searches,
 }
 
-fn text(alloc: Global, place: Place, content: &str) -> Result<Node, Fail> {
-    Ok(Node::text(place, Text::copy(alloc, content)?))
+impl Asked for Question {
+    fn told(self, alloc: Global, row: &str) -> Result<String, Fail> {
+        match self {
+            Question::Unbuilt => unbuilt(alloc, row),
+            Question::Items => items_refusal(alloc, row),
+            Question::Searches => searches(alloc, row),
+        }
+    }
 }
 
-fn entry(alloc: Global, place: Place, key: &str, value: Node) -> Result<Entry, Fail> {
-    Ok(Entry {
-        key: Text::copy(alloc, key)?,
-        place,
-        value,
-    })
-}
-
-/// The map of one text at a key.
-fn pair(alloc: Global, line: u32, key: &str, content: &str) -> Result<Node, Fail> {
-    let value = text(alloc, at(line, 20), content)?;
-    let entries = vec![in alloc; entry(alloc, at(line, 3), key, value)?]?;
-    Ok(Node::map(at(line, 3), entries))
+/// Three texts in lines 5 to 7, of which this is the second.
+fn list(alloc: Global, content: &str) -> Result<Node, Fail> {
+    let mut values = Vec::new(alloc);
+    values.push(text(alloc, at(5, 9), "a")?)?;
+    values.push(text(alloc, at(6, 9), content)?)?;
+    values.push(text(alloc, at(7, 9), "c")?)?;
+    Ok(Node::list(at(5, 7), values))
 }
 
 /// The items `sel` of a rule: this key with three texts in lines 5 to 7, and then `U|re: d` in line 8.
 fn items(alloc: Global, key: &str, content: &str) -> Result<Node, Fail> {
-    let values = vec![in alloc;
-        text(alloc, at(5, 9), "a")?,
-        text(alloc, at(6, 9), content)?,
-        text(alloc, at(7, 9), "c")?,
-    ]?;
-    let list = Node::list(at(5, 7), values);
-    let last = text(alloc, at(8, 11), "d")?;
-    let entries = vec![in alloc;
-        entry(alloc, at(4, 5), key, list)?,
-        entry(alloc, at(8, 5), "U|re", last)?,
-    ]?;
+    let list = list(alloc, content)?;
+    let mut entries = Vec::new(alloc);
+    add(alloc, &mut entries, at(4, 5), key, list)?;
+    add_text(alloc, &mut entries, at(8, 5), "U|re", 11, "d")?;
     Ok(Node::map(at(4, 5), entries))
+}
+
+/// The items `sel` and the condition `sel` in line 9.
+fn detection(alloc: Global, key: &str, content: &str) -> Result<Node, Fail> {
+    let sel = items(alloc, key, content)?;
+    let mut entries = Vec::new(alloc);
+    add(alloc, &mut entries, at(3, 3), "sel", sel)?;
+    add_text(alloc, &mut entries, at(9, 3), "condition", 14, "sel")?;
+    Ok(Node::map(at(3, 3), entries))
 }
 
 /// A rule with these items.
 fn document(alloc: Global, key: &str, content: &str) -> Result<Node, Fail> {
-    let sel = items(alloc, key, content)?;
-    let condition = text(alloc, at(9, 14), "sel")?;
-    let detection = vec![in alloc;
-        entry(alloc, at(3, 3), "sel", sel)?,
-        entry(alloc, at(9, 3), "condition", condition)?,
-    ]?;
-    let title = text(alloc, at(1, 8), "t")?;
-    let entries = vec![in alloc;
-        entry(alloc, at(1, 1), "title", title)?,
-        entry(
-            alloc,
-            at(2, 1),
-            "logsource",
-            pair(alloc, 2, "product", "p")?
-        )?,
-        entry(alloc, at(3, 1), "detection", Node::map(at(3, 3), detection))?,
-    ]?;
-    Ok(Node::map(at(1, 1), entries))
+    let detection = detection(alloc, key, content)?;
+    let mut entries = Vec::new(alloc);
+    add_pairs(alloc, &mut entries, TOP, "title=t")?;
+    let source = map_of_pairs(alloc, at(2, 3), "product=p")?;
+    add(alloc, &mut entries, at(2, 1), "logsource", source)?;
+    add(alloc, &mut entries, at(3, 1), "detection", detection)?;
+    Ok(Node::map(TOP, entries))
 }
 
 /// A builder whose call of this ordinal fails.
 fn failing(alloc: Global, ordinal: u64) -> Result<CrateBuilder, Fail> {
-    Ok(CrateBuilder::new(alloc, vec![in alloc; ordinal]?))
+    let mut ordinals = Vec::new(alloc);
+    ordinals.push(ordinal)?;
+    Ok(CrateBuilder::new(alloc, ordinals))
 }
 
-/// The places of the values whose regular expressions aren't built.
-fn unbuilt(alloc: Global, ordinal: u64, key: &str, content: &str) -> Result<String, Fail> {
+/// The places of the values whose regular expressions aren't built: of the rule of an item, `ordinal~key~second text`.
+fn unbuilt(alloc: Global, row: &str) -> Result<String, Fail> {
+    let Some((ordinal, key, content)) = three(row) else {
+        return no_row(alloc);
+    };
+    let Ok(ordinal) = ordinal.parse::<u64>() else {
+        return no_row(alloc);
+    };
     let node = document(alloc, key, content)?;
+    unbuilt_places(alloc, ordinal, &node)
+}
+
+fn unbuilt_places(alloc: Global, ordinal: u64, node: &Node) -> Result<String, Fail> {
     let mut builder = failing(alloc, ordinal)?;
-    let places = find_unbuilt(alloc, &Limits::standard(), &node, &mut builder)?;
+    let places = find_unbuilt(alloc, &Limits::standard(), node, &mut builder)?;
     let mut shown = String::new(alloc);
     for place in &places {
         shown.push_str(&format!(in alloc; " {}:{}", place.line, place.column)?)?;
@@ -85,66 +98,70 @@ fn unbuilt(alloc: Global, ordinal: u64, key: &str, content: &str) -> Result<Stri
     Ok(shown)
 }
 
+/// What isn't built, `places~ordinal~key~second text`.
+const UNBUILT: &str = "~9~A|re~b
+ 6:9~2~A|re~b
+ 8:11~4~A|re~b
+ 6:9~9~A|re~(
+ 5:9 6:9~1~|re|i~(
+ 8:11~1~A|re|foo~(
+~9~A~(";
+
 #[test]
 fn unbuilt_places_are_found(rt: HostRuntime) -> Result<(), Fail> {
-    for (ordinal, key, content, want) in [
-        (9, "A|re", "b", ""),
-        (2, "A|re", "b", " 6:9"),
-        (4, "A|re", "b", " 8:11"),
-        (9, "A|re", "(", " 6:9"),
-        (1, "|re|i", "(", " 5:9 6:9"),
-        (1, "A|re|foo", "(", " 8:11"),
-        (9, "A", "(", ""),
-    ] {
-        assert_eq!(rt;
-            unbuilt(rt.alloc(), ordinal, key, content)?.as_str(),
-            want,
-            "{ordinal} {key} {content}"
-        );
-    }
+    assert_eq!(rt;
+        wrong_row(rt.alloc(), Question::Unbuilt, UNBUILT)?.as_str(),
+        ""
+    );
     Ok(())
 }
 
-/// The code and the place of what refuses it, or nothing.
-fn told(alloc: Global, fault: &Fault) -> Result<String, Fail> {
-    let Fault::Refused(refusal) = fault else {
-        return Ok(String::from_str(alloc, "memory")?);
+/// What refuses the rule of `A|re: b` whose items' regular expressions are built once more.
+fn items_refusal(alloc: Global, ordinal: &str) -> Result<String, Fail> {
+    let Ok(ordinal) = ordinal.parse::<u64>() else {
+        return no_row(alloc);
     };
-    let place = refusal.place;
-    Ok(format!(in alloc; "{} {}:{}", refusal.code.number(), place.line, place.column)?)
-}
-
-/// What refuses the rule whose items' regular expressions are built once more.
-fn refusal(alloc: Global, ordinal: u64) -> Result<String, Fail> {
     let node = document(alloc, "A|re", "b")?;
     let rule = Rule::read(alloc, &Limits::standard(), [].as_slice(), &node)?;
     let mut builder = failing(alloc, ordinal)?;
     match build_items(alloc, &rule, &mut builder) {
         Ok(()) => Ok(String::new(alloc)),
-        Err(fault) => told(alloc, &fault),
+        Err(fault) => told_fault(alloc, &fault),
     }
 }
+
+/// What refuses a rule, `what refuses it~ordinal`.
+const ITEMS: &str = "~5
+48 4:5~1
+48 4:5~3
+48 8:5~4";
 
 #[test]
 fn items_are_built(rt: HostRuntime) -> Result<(), Fail> {
-    for (ordinal, want) in [(5, ""), (1, "48 4:5"), (3, "48 4:5"), (4, "48 8:5")] {
-        assert_eq!(rt; refusal(rt.alloc(), ordinal)?.as_str(), want, "{ordinal}");
-    }
+    assert_eq!(rt; wrong_row(rt.alloc(), Question::Items, ITEMS)?.as_str(), "");
     Ok(())
 }
 
-/// The texts of what is built of these, each in a line of its own, or what refuses it.
-fn built(alloc: Global, ordinal: u64, texts: &[&str]) -> Result<String, Fail> {
+/// The texts, with `;` between them, each in a line of its own.
+fn expressions(alloc: Global, texts: &str) -> Result<Vec<Expression>, Fail> {
     let mut expressions = Vec::new(alloc);
+    if texts.is_empty() {
+        return Ok(expressions);
+    }
     let mut line = 1u32;
-    for content in texts {
+    for content in texts.split(';') {
         let text = Text::copy(alloc, content)?;
         let place = at(line, 1);
         expressions.push(Expression { place, text })?;
         line = line.saturating_add(1);
     }
+    Ok(expressions)
+}
+
+/// The texts of what is built of these, or what refuses it.
+fn built(alloc: Global, ordinal: u64, expressions: &[Expression]) -> Result<String, Fail> {
     let mut builder = failing(alloc, ordinal)?;
-    match build_searches(alloc, &mut builder, &expressions) {
+    match build_searches(alloc, &mut builder, expressions) {
         Ok(searches) => {
             let mut shown = String::new(alloc);
             for search in &searches {
@@ -152,23 +169,33 @@ fn built(alloc: Global, ordinal: u64, texts: &[&str]) -> Result<String, Fail> {
             }
             Ok(shown)
         }
-        Err(fault) => told(alloc, &fault),
+        Err(fault) => told_fault(alloc, &fault),
     }
 }
 
+/// .. `ordinal~texts`, with `;` between these.
+fn searches(alloc: Global, row: &str) -> Result<String, Fail> {
+    let Some((ordinal, texts)) = row.split_once('~') else {
+        return no_row(alloc);
+    };
+    let Ok(ordinal) = ordinal.parse::<u64>() else {
+        return no_row(alloc);
+    };
+    let expressions = expressions(alloc, texts)?;
+    built(alloc, ordinal, expressions.as_slice())
+}
+
+/// What is built, `texts or what refuses them~ordinal~texts`.
+const SEARCHES: &str = "ab+~9~a;b+
+48 2:1~2~a;b+
+48 3:1~9~a;b+;(
+~1~";
+
 #[test]
 fn searches_are_built(rt: HostRuntime) -> Result<(), Fail> {
-    for (ordinal, texts, want) in [
-        (9, ["a", "b+"].as_slice(), "ab+"),
-        (2, ["a", "b+"].as_slice(), "48 2:1"),
-        (9, ["a", "b+", "("].as_slice(), "48 3:1"),
-        (1, [].as_slice(), ""),
-    ] {
-        assert_eq!(rt;
-            built(rt.alloc(), ordinal, texts)?.as_str(),
-            want,
-            "{ordinal}"
-        );
-    }
+    assert_eq!(rt;
+        wrong_row(rt.alloc(), Question::Searches, SEARCHES)?.as_str(),
+        ""
+    );
     Ok(())
 }

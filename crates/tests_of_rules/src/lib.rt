@@ -11,3 +11,5 @@ mod heads;
 mod rules;
 #[cfg(test)]
 mod schemas;
+#[cfg(test)]
+mod tables;

@@ -1,122 +1,74 @@
+//! Rules whose lines' places are reckoned by hand. Pairs are `key=value`, with `;` between them, and a document is `pairs of the
+//! head~pairs of logsource~pairs of detection`.
+
+use crate::tables::{
+    Asked, TOP, add, add_pairs, at, map_of_pairs, no_row, text, three, told_fault, value, wrong_row,
+};
 use rule_items::Expression;
 use rule_model::{Rule, find_expressions};
-use sig_base::{Detail, Fault, Limits, Place, Refusal, Text};
+use sig_base::{Limits, Place};
 use std::alloc::Global;
 use std::test::Fail;
 use yaml_tree::{Entry, Node};
 
-const TOP: Place = Place { line: 1, column: 1 };
-
-fn at(line: u32, column: u32) -> Place {
-    Place { line, column }
+/// What the rows of this module's tables are asked.
+#[derive(Clone, Copy)]
+enum Question {
+    Said,
+    Document,
+    Plain,
+    Condition,
+    Conditions,
+    Lone,
+    Unbuilt,
+    Expressions,
 }
 
-/// A null for `~`, an empty list for `[]`, an empty map for `{}`, and else a text.
-fn value(alloc: Global, place: Place, text: &str) -> Result<Node, Fail> {
-    if text == "~" {
-        return Ok(Node::null(place));
+impl Asked for Question {
+    fn told(self, alloc: Global, row: &str) -> Result<String, Fail> {
+        match self {
+            Question::Said => said_twice(alloc, row),
+            Question::Document => document_refusal(alloc, row),
+            Question::Plain => plain_refusal(alloc, row),
+            Question::Condition => with_condition(alloc, row),
+            Question::Conditions => with_conditions(alloc, row),
+            Question::Lone => lone_refusal(alloc, row),
+            Question::Unbuilt => unbuilt_refusal(alloc, row),
+            Question::Expressions => found(alloc, row),
+        }
     }
-    if text == "[]" {
-        return Ok(Node::list(place, Vec::new(alloc)));
-    }
-    if text == "{}" {
-        return Ok(Node::map(place, Vec::new(alloc)));
-    }
-    Ok(Node::text(place, Text::copy(alloc, text)?))
 }
 
-fn add(
-    alloc: Global,
-    entries: &mut Vec<Entry>,
-    key: &str,
-    place: Place,
-    value: Node,
-) -> Result<(), Fail> {
-    let key = Text::copy(alloc, key)?;
-    entries.push(Entry { key, place, value })?;
-    Ok(())
-}
-
-/// Adds a line `key: value` for each pair, from this line on.
-fn add_pairs(
-    alloc: Global,
-    entries: &mut Vec<Entry>,
-    line: u32,
-    column: u32,
-    pairs: &[(&str, &str)],
-) -> Result<u32, Fail> {
-    let mut at_line = line;
-    for (key, text) in pairs {
-        let width = if key.len() < 100 {
-            key.len() as u32
-        } else {
-            100
-        };
-        let value = value(
-            alloc,
-            at(at_line, column.saturating_add(width).saturating_add(2)),
-            text,
-        )?;
-        add(alloc, entries, key, at(at_line, column), value)?;
-        at_line = at_line.saturating_add(1);
-    }
-    Ok(at_line)
-}
-
-/// The map at a key, each pair on a line of its own two columns further.
+/// Adds the map at a key of this line, each pair on a line of its own two columns further, and answers the line behind it.
 fn add_map(
     alloc: Global,
     entries: &mut Vec<Entry>,
     line: u32,
     key: &str,
-    pairs: &[(&str, &str)],
+    pairs: &str,
 ) -> Result<u32, Fail> {
     let mut inner = Vec::new(alloc);
-    let first = line.saturating_add(1);
-    let next = add_pairs(alloc, &mut inner, first, 3, pairs)?;
-    add(
-        alloc,
-        entries,
-        key,
-        at(line, 1),
-        Node::map(at(first, 3), inner),
-    )?;
+    let first = at(line.saturating_add(1), 3);
+    let next = add_pairs(alloc, &mut inner, first, pairs)?;
+    add(alloc, entries, at(line, 1), key, Node::map(first, inner))?;
     Ok(next)
 }
 
 /// The lines of the head, `logsource:` with its lines, and `detection:` with its lines.
-fn document(
-    alloc: Global,
-    head: &[(&str, &str)],
-    source: &[(&str, &str)],
-    detection: &[(&str, &str)],
-) -> Result<Node, Fail> {
+fn document(alloc: Global, head: &str, source: &str, detection: &str) -> Result<Node, Fail> {
     let mut entries = Vec::new(alloc);
-    let line = add_pairs(alloc, &mut entries, 1, 1, head)?;
+    let line = add_pairs(alloc, &mut entries, TOP, head)?;
     let line = add_map(alloc, &mut entries, line, "logsource", source)?;
     add_map(alloc, &mut entries, line, "detection", detection)?;
     Ok(Node::map(TOP, entries))
 }
 
-/// The number, the place and the detail of what refuses a document, or nothing.
+/// What refuses a document, or nothing.
 fn shown(alloc: Global, limits: &Limits, node: &Node) -> Result<String, Fail> {
     match Rule::read(alloc, limits, [].as_slice(), node) {
         Ok(_) => Ok(String::new(alloc)),
-        Err(Fault::Memory) => Ok(String::from_str(alloc, "memory")?),
-        Err(Fault::Refused(refusal)) => Ok(told(alloc, &refusal)?),
+        Err(fault) => told_fault(alloc, &fault),
     }
-}
-
-fn told(alloc: Global, refusal: &Refusal) -> Result<String, Fail> {
-    let code = refusal.code.number();
-    let line = refusal.place.line;
-    let column = refusal.place.column;
-    let mut text = format!(in alloc; "{code} {line} {column}")?;
-    if let Detail::Text(name) = &refusal.detail {
-        text.push_str(" ")?;
-        text.push_str(name.as_str())?;
-    }
-    Ok(text)
 }
 
 /// The title, how many entries the head keeps, the product, and how many detections and conditions there are.
@@ -132,257 +84,235 @@ fn said(alloc: Global, rule: &Rule) -> Result<String, Fail> {
     Ok(format!(in alloc; "{title} {kept} {product} {detections} {conditions}")?)
 }
 
+fn bare_said(alloc: Global, node: &Node) -> Result<String, Fail> {
+    let bare = Rule::read_bare(alloc, &Limits::standard(), [].as_slice(), node)?;
+    said(alloc, &bare)
+}
+
+fn copy_said(alloc: Global, node: &Node) -> Result<String, Fail> {
+    let copy = Rule::read(alloc, &Limits::standard(), [].as_slice(), node)?.copy(alloc)?;
+    said(alloc, &copy)
+}
+
+/// What a document's rule says that is read bare, and then what the copy of the whole one does.
+fn said_twice(alloc: Global, row: &str) -> Result<String, Fail> {
+    let Some((head, source, detection)) = three(row) else {
+        return no_row(alloc);
+    };
+    let node = document(alloc, head, source, detection)?;
+    let bare = bare_said(alloc, &node)?;
+    let copy = copy_said(alloc, &node)?;
+    Ok(format!(in alloc; "{bare}, {copy}")?)
+}
+
+/// What a rule says bare and as a copy, `bare, copy~document`.
+const SAID: &str =
+    "t 0 p 2 1, t 4 p 2 1~author=a;title=t;tags=[]~product=p~s=x;condition=not s;r=y";
+
 #[test]
 fn rules_are_read_and_copied(rt: HostRuntime) -> Result<(), Fail> {
-    let alloc = rt.alloc();
-    let node = document(
-        alloc,
-        [("author", "a"), ("title", "t"), ("tags", "[]")].as_slice(),
-        [("product", "p")].as_slice(),
-        [("s", "x"), ("condition", "not s"), ("r", "y")].as_slice(),
-    )?;
-    let bare = Rule::read_bare(alloc, &Limits::standard(), [].as_slice(), &node)?;
-    assert_eq!(rt; said(alloc, &bare)?.as_str(), "t 0 p 2 1");
-    let rule = Rule::read(alloc, &Limits::standard(), [].as_slice(), &node)?.copy(alloc)?;
-    assert_eq!(rt; said(alloc, &rule)?.as_str(), "t 4 p 2 1");
+    assert_eq!(rt; wrong_row(rt.alloc(), Question::Said, SAID)?.as_str(), "");
     Ok(())
 }
 
-/// What refuses a rule with this title, this log source and this detection `s` of the condition `s s`.
-fn parts_refusal(
-    alloc: Global,
-    title: &str,
-    source: &[(&str, &str)],
-    value: &str,
-) -> Result<String, Fail> {
-    let node = document(
-        alloc,
-        [("title", title)].as_slice(),
-        source,
-        [("condition", "s s"), ("s", value)].as_slice(),
-    )?;
+fn document_refusal(alloc: Global, row: &str) -> Result<String, Fail> {
+    let Some((head, source, detection)) = three(row) else {
+        return no_row(alloc);
+    };
+    let node = document(alloc, head, source, detection)?;
     shown(alloc, &Limits::standard(), &node)
 }
 
+/// What refuses a rule, `what refuses it~document`.
+const PARTS: &str = "72 1:8~title=~~condition=s s;s=null
+70 3:3~title=t~~condition=s s;s=null
+77 6:6~title=t~product=p~condition=s s;s=null
+60 5:14~title=t~product=p~condition=s s;s=x";
+
 #[test]
 fn parts_are_judged_in_order(rt: HostRuntime) -> Result<(), Fail> {
-    let alloc = rt.alloc();
     assert_eq!(rt;
-        parts_refusal(alloc, "", [].as_slice(), "~")?.as_str(),
-        "72 1 8"
-    );
-    assert_eq!(rt;
-        parts_refusal(alloc, "t", [].as_slice(), "~")?.as_str(),
-        "70 3 3"
-    );
-    let product = [("product", "p")];
-    assert_eq!(rt;
-        parts_refusal(alloc, "t", product.as_slice(), "~")?.as_str(),
-        "77 6 6"
-    );
-    assert_eq!(rt;
-        parts_refusal(alloc, "t", product.as_slice(), "x")?.as_str(),
-        "60 5 14"
+        wrong_row(rt.alloc(), Question::Document, PARTS)?.as_str(),
+        ""
     );
     Ok(())
 }
+
+/// What refuses the map of these pairs as a rule.
+fn plain_refusal(alloc: Global, pairs: &str) -> Result<String, Fail> {
+    let node = map_of_pairs(alloc, TOP, pairs)?;
+    shown(alloc, &Limits::standard(), &node)
+}
+
+/// What refuses the text `title` as a rule.
+fn text_refusal(alloc: Global) -> Result<String, Fail> {
+    let node = text(alloc, at(3, 2), "title")?;
+    shown(alloc, &Limits::standard(), &node)
+}
+
+/// What refuses a rule, `what refuses it~pairs`.
+const PLAIN: &str = "70 1:1~title=t
+71 2:12~title=t;logsource=x
+70 1:1~title=t;detection=x";
 
 #[test]
 fn what_is_no_map_is_refused(rt: HostRuntime) -> Result<(), Fail> {
-    let alloc = rt.alloc();
-    let limits = Limits::standard();
-    let top = value(alloc, at(3, 2), "title")?;
-    assert_eq!(rt; shown(alloc, &limits, &top)?.as_str(), "71 3 2");
-    for (key, want) in [
-        ("title", "70 1 1"),
-        ("logsource", "71 2 12"),
-        ("detection", "70 1 1"),
-    ] {
-        let mut entries = Vec::new(alloc);
-        let pairs = [("title", "t"), (key, "x")];
-        if key == "title" {
-            add_pairs(alloc, &mut entries, 1, 1, [("title", "t")].as_slice())?;
-        } else {
-            add_pairs(alloc, &mut entries, 1, 1, pairs.as_slice())?;
-        }
-        let node = Node::map(TOP, entries);
-        assert_eq!(rt; shown(alloc, &limits, &node)?.as_str(), want, "{key}");
-    }
+    assert_eq!(rt; text_refusal(rt.alloc())?.as_str(), "71 3:2");
+    assert_eq!(rt; wrong_row(rt.alloc(), Question::Plain, PLAIN)?.as_str(), "");
     Ok(())
 }
 
+/// What refuses a rule of the detections `sel` and `other_1` with this condition in line 7, whose words are two at most.
 fn with_condition(alloc: Global, condition: &str) -> Result<String, Fail> {
     let mut limits = Limits::standard();
     limits.condition_words = 2;
-    let node = document(
-        alloc,
-        [("title", "t")].as_slice(),
-        [("category", "c")].as_slice(),
-        [("sel", "x"), ("other_1", "y"), ("condition", condition)].as_slice(),
-    )?;
+    let detection = format!(in alloc; "sel=x;other_1=y;condition={condition}")?;
+    let node = document(alloc, "title=t", "category=c", detection.as_str())?;
     shown(alloc, &limits, &node)
 }
 
+/// What refuses a rule, `what refuses it~its condition`.
+const CONDITIONS: &str = "~sel
+~not (sel or other_1)
+~1 of other*
+71 7:14~null
+71 7:14~{}
+78 7:14~[]
+61 7:14~sel | count() > 5
+61 7:14~not not not |
+62 7:14~not not not sel
+62 7:14~not not not
+60 7:14~sel sel
+60 7:14~
+60 7:14~missing sel
+63 7:14 missing~sel and missing
+64 7:14~1 of a* or missing
+63 7:14 condition~condition";
+
 #[test]
 fn conditions_are_refused(rt: HostRuntime) -> Result<(), Fail> {
-    let alloc = rt.alloc();
-    for (condition, want) in [
-        ("sel", ""),
-        ("not (sel or other_1)", ""),
-        ("1 of other*", ""),
-        ("~", "71 7 14"),
-        ("{}", "71 7 14"),
-        ("[]", "78 7 14"),
-        ("sel | count() > 5", "61 7 14"),
-        ("not not not |", "61 7 14"),
-        ("not not not sel", "62 7 14"),
-        ("not not not", "62 7 14"),
-        ("sel sel", "60 7 14"),
-        ("", "60 7 14"),
-        ("missing sel", "60 7 14"),
-        ("sel and missing", "63 7 14 missing"),
-        ("1 of a* or missing", "64 7 14"),
-        ("condition", "63 7 14 condition"),
-    ] {
-        assert_eq!(rt;
-            with_condition(alloc, condition)?.as_str(),
-            want,
-            "{condition}"
-        );
-    }
+    assert_eq!(rt;
+        wrong_row(rt.alloc(), Question::Condition, CONDITIONS)?.as_str(),
+        ""
+    );
     Ok(())
 }
 
-/// What refuses a rule with these conditions, which are on lines of their own from line 5 on.
-fn with_conditions(alloc: Global, conditions: &[&str]) -> Result<String, Fail> {
-    let mut parts = Vec::new(alloc);
+/// Adds the conditions, with `;` between them, each on a line of its own from line 5 on, and answers the line behind them.
+fn add_conditions(alloc: Global, parts: &mut Vec<Node>, conditions: &str) -> Result<u32, Fail> {
     let mut line = 5u32;
-    for condition in conditions {
+    for condition in conditions.split(';') {
         parts.push(value(alloc, at(line, 7), condition)?)?;
         line = line.saturating_add(1);
     }
-    let mut detection = Vec::new(alloc);
-    add(
-        alloc,
-        &mut detection,
-        "condition",
-        at(4, 3),
-        Node::list(at(5, 5), parts),
-    )?;
-    add_pairs(alloc, &mut detection, line, 3, [("sel", "x")].as_slice())?;
+    Ok(line)
+}
+
+/// A rule of the title `t` and the category `c` with this map as its detections from line 4 on.
+fn with_detection(alloc: Global, detection: Node) -> Result<Node, Fail> {
     let mut entries = Vec::new(alloc);
-    add_pairs(alloc, &mut entries, 1, 1, [("title", "t")].as_slice())?;
-    add_map(
-        alloc,
-        &mut entries,
-        2,
-        "logsource",
-        [("category", "c")].as_slice(),
-    )?;
-    add(
-        alloc,
-        &mut entries,
-        "detection",
-        at(4, 1),
-        Node::map(at(4, 3), detection),
-    )?;
-    let node = Node::map(TOP, entries);
+    let line = add_pairs(alloc, &mut entries, TOP, "title=t")?;
+    add_map(alloc, &mut entries, line, "logsource", "category=c")?;
+    add(alloc, &mut entries, at(4, 1), "detection", detection)?;
+    Ok(Node::map(TOP, entries))
+}
+
+/// A rule with these conditions, and with the detection `sel` behind them.
+fn rule_with_conditions(alloc: Global, conditions: &str) -> Result<Node, Fail> {
+    let mut parts = Vec::new(alloc);
+    let line = add_conditions(alloc, &mut parts, conditions)?;
+    let list = Node::list(at(5, 5), parts);
+    let mut detection = Vec::new(alloc);
+    add(alloc, &mut detection, at(4, 3), "condition", list)?;
+    add_pairs(alloc, &mut detection, at(line, 3), "sel=x")?;
+    with_detection(alloc, Node::map(at(4, 3), detection))
+}
+
+/// How many conditions a rule with these has, or what refuses it.
+fn with_conditions(alloc: Global, conditions: &str) -> Result<String, Fail> {
+    let node = rule_with_conditions(alloc, conditions)?;
     match Rule::read(alloc, &Limits::standard(), [].as_slice(), &node) {
         Ok(rule) => Ok(format!(in alloc; "{}", rule.conditions.len())?),
-        Err(Fault::Memory) => Ok(String::from_str(alloc, "memory")?),
-        Err(Fault::Refused(refusal)) => Ok(told(alloc, &refusal)?),
+        Err(fault) => told_fault(alloc, &fault),
     }
 }
+
+/// How many conditions there are, or what refuses them, `told~conditions` with `;` between these.
+const SEVERAL: &str = "2~sel;not sel
+63 6:7 missing~sel;missing;sel sel
+60 5:7~sel sel;missing
+71 6:7~sel;[]";
 
 #[test]
 fn conditions_are_judged_in_order(rt: HostRuntime) -> Result<(), Fail> {
-    let alloc = rt.alloc();
-    for (conditions, want) in [
-        (["sel", "not sel"].as_slice(), "2"),
-        (["sel", "missing", "sel sel"].as_slice(), "63 6 7 missing"),
-        (["sel sel", "missing"].as_slice(), "60 5 7"),
-        (["sel", "[]"].as_slice(), "71 6 7"),
-    ] {
-        assert_eq!(rt; with_conditions(alloc, conditions)?.as_str(), want);
-    }
+    assert_eq!(rt;
+        wrong_row(rt.alloc(), Question::Conditions, SEVERAL)?.as_str(),
+        ""
+    );
     Ok(())
 }
 
-/// What refuses this head's document as a rule that is no correlation, or nothing.
-fn lone_refusal(alloc: Global, head: &[(&str, &str)]) -> Result<String, Fail> {
-    let node = document(
-        alloc,
-        head,
-        [("product", "p")].as_slice(),
-        [("s", "x"), ("condition", "s")].as_slice(),
-    )?;
-    match Rule::read_lone(alloc, &Limits::standard(), [].as_slice(), &node) {
+/// What refuses a document as a rule that is no correlation where no regular expression is built at these places, or nothing.
+fn refused_alone(alloc: Global, unbuilt: &[Place], node: &Node) -> Result<String, Fail> {
+    match Rule::read_lone(alloc, &Limits::standard(), unbuilt, node) {
         Ok(_) => Ok(String::new(alloc)),
-        Err(Fault::Memory) => Ok(String::from_str(alloc, "memory")?),
-        Err(Fault::Refused(refusal)) => Ok(told(alloc, &refusal)?),
+        Err(fault) => told_fault(alloc, &fault),
     }
 }
 
+/// .. this head's document.
+fn lone_refusal(alloc: Global, head: &str) -> Result<String, Fail> {
+    let node = document(alloc, head, "product=p", "s=x;condition=s")?;
+    refused_alone(alloc, [].as_slice(), &node)
+}
+
+/// What refuses a rule, `what refuses it~pairs of its head`.
+const LONE: &str = "~title=t
+146 1:1~correlation={}
+146 1:1~title=t;correlation=null";
+
 #[test]
 fn correlations_are_refused_before_all_else(rt: HostRuntime) -> Result<(), Fail> {
-    let alloc = rt.alloc();
-    let rule = [("title", "t")];
-    assert_eq!(rt; lone_refusal(alloc, rule.as_slice())?.as_str(), "");
-    let untitled = [("correlation", "{}")];
-    assert_eq!(rt;
-        lone_refusal(alloc, untitled.as_slice())?.as_str(),
-        "146 1 1"
-    );
-    let titled = [("title", "t"), ("correlation", "~")];
-    assert_eq!(rt; lone_refusal(alloc, titled.as_slice())?.as_str(), "146 1 1");
+    assert_eq!(rt; wrong_row(rt.alloc(), Question::Lone, LONE)?.as_str(), "");
     Ok(())
 }
 
 /// A rule whose detection `sel` has the item `f|re|i: a` at line 5, column 5, with these pairs behind it.
-fn with_expression(alloc: Global, pairs: &[(&str, &str)]) -> Result<Node, Fail> {
-    let mut items = Vec::new(alloc);
-    add_pairs(alloc, &mut items, 5, 5, [("f|re|i", "a")].as_slice())?;
+fn with_expression(alloc: Global, pairs: &str) -> Result<Node, Fail> {
+    let items = map_of_pairs(alloc, at(5, 5), "f|re|i=a")?;
     let mut detection = Vec::new(alloc);
-    let value = Node::map(at(5, 5), items);
-    add(alloc, &mut detection, "sel", at(4, 3), value)?;
-    add_pairs(alloc, &mut detection, 6, 3, pairs)?;
-    let mut entries = Vec::new(alloc);
-    add_pairs(alloc, &mut entries, 1, 1, [("title", "t")].as_slice())?;
-    let source = [("category", "c")];
-    add_map(alloc, &mut entries, 2, "logsource", source.as_slice())?;
-    let value = Node::map(at(4, 3), detection);
-    add(alloc, &mut entries, "detection", at(4, 1), value)?;
-    Ok(Node::map(TOP, entries))
+    add(alloc, &mut detection, at(4, 3), "sel", items)?;
+    add_pairs(alloc, &mut detection, at(6, 3), pairs)?;
+    with_detection(alloc, Node::map(at(4, 3), detection))
 }
 
-/// What refuses it where no regular expression is built in this column of line 5.
-fn unbuilt_refusal(alloc: Global, column: u32, pairs: &[(&str, &str)]) -> Result<String, Fail> {
+/// What refuses it where no regular expression is built in a column of line 5, `column~pairs`.
+fn unbuilt_refusal(alloc: Global, row: &str) -> Result<String, Fail> {
+    let Some((column, pairs)) = row.split_once('~') else {
+        return no_row(alloc);
+    };
+    let Ok(column) = column.parse::<u32>() else {
+        return no_row(alloc);
+    };
     let node = with_expression(alloc, pairs)?;
     let unbuilt = [at(5, column)];
-    match Rule::read_lone(alloc, &Limits::standard(), unbuilt.as_slice(), &node) {
-        Ok(_) => Ok(String::new(alloc)),
-        Err(Fault::Memory) => Ok(String::from_str(alloc, "memory")?),
-        Err(Fault::Refused(refusal)) => Ok(told(alloc, &refusal)?),
-    }
+    refused_alone(alloc, unbuilt.as_slice(), &node)
 }
+
+/// What refuses a rule, `what refuses it~column~pairs`.
+const UNBUILT: &str = "~5~condition=sel
+48 5:13~13~condition=sel
+70 4:3~5~
+48 5:13~13~
+48 5:13~13~condition=sel sel";
 
 /// A regular expression that isn't built is refused with the detections, and so before a missing condition.
 #[test]
 fn what_is_not_built_is_refused(rt: HostRuntime) -> Result<(), Fail> {
-    let alloc = rt.alloc();
-    for (column, pairs, want) in [
-        (5, [("condition", "sel")].as_slice(), ""),
-        (13, [("condition", "sel")].as_slice(), "48 5 13"),
-        (5, [].as_slice(), "70 4 3"),
-        (13, [].as_slice(), "48 5 13"),
-        (13, [("condition", "sel sel")].as_slice(), "48 5 13"),
-    ] {
-        assert_eq!(rt;
-            unbuilt_refusal(alloc, column, pairs)?.as_str(),
-            want,
-            "{column}"
-        );
-    }
+    assert_eq!(rt;
+        wrong_row(rt.alloc(), Question::Unbuilt, UNBUILT)?.as_str(),
+        ""
+    );
     Ok(())
 }
 
@@ -396,24 +326,41 @@ fn expressions_shown(alloc: Global, expressions: &[Expression]) -> Result<String
     Ok(shown)
 }
 
+fn found_in_document(alloc: Global, node: &Node) -> Result<String, Fail> {
+    let found = find_expressions(alloc, &Limits::standard(), node)?;
+    expressions_shown(alloc, found.as_slice())
+}
+
+fn found_in_rule(alloc: Global, node: &Node) -> Result<String, Fail> {
+    let rule = Rule::read(alloc, &Limits::standard(), [].as_slice(), node)?;
+    let found = rule.expressions(alloc)?;
+    expressions_shown(alloc, found.as_slice())
+}
+
+/// The regular expressions of the rule of one in a `document`, in a `rule`, and in a `null`, each behind its place.
+fn found(alloc: Global, row: &str) -> Result<String, Fail> {
+    if row == "null" {
+        return found_in_document(alloc, &Node::null(TOP));
+    }
+    let node = with_expression(alloc, "condition=sel")?;
+    match row {
+        "document" => found_in_document(alloc, &node),
+        "rule" => found_in_rule(alloc, &node),
+        _ => no_row(alloc),
+    }
+}
+
+/// What is found, `place text~where`.
+const FOUND: &str = "5:13 (?i)a~document
+5:5 (?i)a~rule
+~null";
+
 /// In a document they stand at their values, and in a rule at their items.
 #[test]
 fn regular_expressions_are_found(rt: HostRuntime) -> Result<(), Fail> {
-    let alloc = rt.alloc();
-    let limits = Limits::standard();
-    let node = with_expression(alloc, [("condition", "sel")].as_slice())?;
-    let found = find_expressions(alloc, &limits, &node)?;
     assert_eq!(rt;
-        expressions_shown(alloc, found.as_slice())?.as_str(),
-        "5:13 (?i)a"
+        wrong_row(rt.alloc(), Question::Expressions, FOUND)?.as_str(),
+        ""
     );
-    let rule = Rule::read(alloc, &limits, [].as_slice(), &node)?;
-    let found = rule.expressions(alloc)?;
-    assert_eq!(rt;
-        expressions_shown(alloc, found.as_slice())?.as_str(),
-        "5:5 (?i)a"
-    );
-    let found = find_expressions(alloc, &limits, &Node::null(TOP))?;
-    assert_eq!(rt; expressions_shown(alloc, found.as_slice())?.as_str(), "");
     Ok(())
 }

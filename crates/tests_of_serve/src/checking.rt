@@ -1,82 +1,45 @@
 //! What `check` answers rules and correlations.
 
-use crate::worlds::{check, run_over, still};
+use crate::scenes::{Scene, wrong_row};
 use sig_base::Limits;
 use std::test::Fail;
 
+const CHECK: Scene = Scene {
+    world: "",
+    words: "check c.yml",
+    files: "c.yml=①",
+    events: "",
+};
+
 /// A rule and a correlation, each of which is told with the place of its top node.
 const BURST: &str =
-    "title: T\nname: logon\nlogsource:\n  product: windows\ndetection:\n  sel:\n    Code: 1\n  condition: sel\n---\ntitle: Burst\ncorrelation:\n  type: event_count\n  rules: [logon]\n  group-by: [User]\n  timespan: 60s\n  condition:\n    gte: 3\n";
+    "title: T¶name: logon¶logsource:¶  product: windows¶detection:¶  sel:¶    Code: 1¶  condition: sel¶---¶title: Burst¶correlation:¶  type: event_count¶  rules: [logon]¶  group-by: [User]¶  timespan: 60s¶  condition:¶    gte: 3¶~0|c.yml:1:1: ok¶c.yml:10:1: ok¶|";
 
 #[test]
 fn accepts_rules_and_correlations(rt: HostRuntime) -> Result<(), Fail> {
-    let files: [(&str, &[u8]); 1] = [("c.yml", BURST.as_bytes())];
-    check(
-        &rt,
-        &run_over(
-            rt.alloc(),
-            &["check", "c.yml"],
-            &Limits::standard(),
-            still(&files),
-        )?,
-        0,
-        "c.yml:1:1: ok\nc.yml:10:1: ok\n",
-        "",
+    assert_eq!(rt;
+        wrong_row(rt.alloc(), &Limits::standard(), CHECK, BURST)?.as_str(),
+        ""
     );
     Ok(())
 }
+
+const CORRELATIONS: &str =
+    "title: C¶correlation:¶  type: temporal¶  rules: [nowhere, never]¶  timespan: 1h¶~0|c.yml:1:1: ok¶|
+correlation:¶  type: temporal¶  rules: a¶  timespan: 1h¶title: C¶detection:¶  s:¶    A|re: '('¶  condition: none¶~0|c.yml:1:1: ok¶|
+title: C¶correlation: x¶~1||c.yml:2:14: 140 CorrelationShape¶
+title: C¶correlation:¶  rules: a¶  timespan: 1h¶~1||c.yml:3:3: 140 CorrelationShape¶
+title: C¶correlation:¶  type: temporal¶  rules: a¶  timespan: 1y¶~1||c.yml:5:13: 142 BadTimespan¶
+title: C¶correlation:¶  type: event_count¶  rules: [a, a]¶  timespan: 1y¶  condition:¶    gte: 3¶~1||c.yml:4:14: 140 CorrelationShape¶
+title: 1¶correlation:¶  type: temporal¶  timespan: 1y¶~1||c.yml:1:8: 72 BadTitle¶";
 
 /// A document with the key `correlation` is judged as a correlation and not as a rule, also where it has a rule's keys: of these its
 /// regular expressions decide nothing. The rules that it names aren't looked for.
 #[test]
 fn judges_correlations_as_such(rt: HostRuntime) -> Result<(), Fail> {
-    let cases: [(&str, &str, &str); 7] = [
-        (
-            "title: C\ncorrelation:\n  type: temporal\n  rules: [nowhere, never]\n  timespan: 1h\n",
-            "c.yml:1:1: ok\n",
-            "",
-        ),
-        (
-            "correlation:\n  type: temporal\n  rules: a\n  timespan: 1h\ntitle: C\ndetection:\n  s:\n    A|re: '('\n  condition: none\n",
-            "c.yml:1:1: ok\n",
-            "",
-        ),
-        (
-            "title: C\ncorrelation: x\n",
-            "",
-            "c.yml:2:14: 140 CorrelationShape\n",
-        ),
-        (
-            "title: C\ncorrelation:\n  rules: a\n  timespan: 1h\n",
-            "",
-            "c.yml:3:3: 140 CorrelationShape\n",
-        ),
-        (
-            "title: C\ncorrelation:\n  type: temporal\n  rules: a\n  timespan: 1y\n",
-            "",
-            "c.yml:5:13: 142 BadTimespan\n",
-        ),
-        (
-            "title: C\ncorrelation:\n  type: event_count\n  rules: [a, a]\n  timespan: 1y\n  condition:\n    gte: 3\n",
-            "",
-            "c.yml:4:14: 140 CorrelationShape\n",
-        ),
-        (
-            "title: 1\ncorrelation:\n  type: temporal\n  timespan: 1y\n",
-            "",
-            "c.yml:1:8: 72 BadTitle\n",
-        ),
-    ];
-    for (file, out, err) in cases {
-        let files: [(&str, &[u8]); 1] = [("c.yml", file.as_bytes())];
-        let code = if err.is_empty() { 0 } else { 1 };
-        let ran = run_over(
-            rt.alloc(),
-            &["check", "c.yml"],
-            &Limits::standard(),
-            still(&files),
-        )?;
-        check(&rt, &ran, code, out, err);
-    }
+    assert_eq!(rt;
+        wrong_row(rt.alloc(), &Limits::standard(), CHECK, CORRELATIONS)?.as_str(),
+        ""
+    );
     Ok(())
 }

@@ -1,22 +1,11 @@
 //! `correlate`.
 
-use crate::worlds::{check, front, run_over, still};
+use crate::scenes::{Scene, told, wrong_row};
 use sig_base::Limits;
 use std::test::Fail;
 
-const CORRELATE: [&str; 4] = ["correlate", "--schema", "s.json", "c.yml"];
-
 pub const SCHEMA: &str =
     "{\"fields\":[{\"name\":\"Code\",\"kind\":\"whole\"},{\"name\":\"User\",\"kind\":\"text\"}],\"time\":{\"at\":[\"t\"],\"form\":\"seconds\"}}";
-
-const UNTIMED: &str =
-    "{\"fields\":[{\"name\":\"Code\",\"kind\":\"whole\"},{\"name\":\"User\",\"kind\":\"text\"}]}";
-
-const RULE: &str =
-    "title: T\nname: logon\nlogsource:\n  product: windows\ndetection:\n  sel:\n    Code: 1\n  condition: sel\n";
-
-const BURST: &str =
-    "title: Burst\ncorrelation:\n  type: event_count\n  rules: [logon]\n  group-by: [User]\n  timespan: 60s\n  condition:\n    gte: 3\n";
 
 pub const BOTH: &str =
     "title: T\nname: logon\nlogsource:\n  product: windows\ndetection:\n  sel:\n    Code: 1\n  condition: sel\n---\ntitle: Burst\ncorrelation:\n  type: event_count\n  rules: [logon]\n  group-by: [User]\n  timespan: 60s\n  condition:\n    gte: 3\n";
@@ -25,303 +14,180 @@ pub const BOTH: &str =
 pub const EVENTS: &str =
     "{\"Code\":1,\"User\":\"a\",\"t\":0}\n{\"Code\":1,\"User\":\"a\",\"t\":10}\n{\"Code\":1,\"User\":\"a\",\"t\":60}\n{\"Code\":1,\"User\":\"a\",\"t\":60}\n{\"Code\":1,\"User\":\"a\",\"t\":61}\n{\"Code\":1,\"User\":\"a\",\"t\":59}\n";
 
-const FIRST: &str =
-    "{\"correlation\":\"Burst\",\"line\":4,\"from\":2,\"count\":3,\"group\":[\"a\"]}\n";
-
 pub const REPORTS: &str =
     "{\"correlation\":\"Burst\",\"line\":4,\"from\":2,\"count\":3,\"group\":[\"a\"]}\n{\"correlation\":\"Burst\",\"line\":5,\"from\":2,\"count\":4,\"group\":[\"a\"]}\n";
 
 pub const EARLY: &str = "events:6: 145 OutOfOrder 59000000000 61000000000\n";
 
-const UNREAD: &str = "sigma: cannot read events\n";
+/// A rule and a burst of what it matches.
+const BURST: Scene = Scene {
+    world: "①",
+    words: "correlate --schema s.json c.yml",
+    files: r#"s.json={"fields":[{"name":"Code","kind":"whole"},{"name":"User","kind":"text"}],"time":{"at":["t"],"form":"seconds"}}§c.yml=title: T¶name: logon¶logsource:¶  product: windows¶detection:¶  sel:¶    Code: 1¶  condition: sel¶---¶title: Burst¶correlation:¶  type: event_count¶  rules: [logon]¶  group-by: [User]¶  timespan: 60s¶  condition:¶    gte: 3¶"#,
+    events: r#"{"Code":1,"User":"a","t":0}¶{"Code":1,"User":"a","t":10}¶{"Code":1,"User":"a","t":60}¶{"Code":1,"User":"a","t":60}¶{"Code":1,"User":"a","t":61}¶{"Code":1,"User":"a","t":59}¶"#,
+};
+
+const READS: &str =
+    r#"read=1~1|{"correlation":"Burst","line":4,"from":2,"count":3,"group":["a"]}¶{"correlation":"Burst","line":5,"from":2,"count":4,"group":["a"]}¶|events:6: 145 OutOfOrder 59000000000 61000000000¶
+read=7~1|{"correlation":"Burst","line":4,"from":2,"count":3,"group":["a"]}¶{"correlation":"Burst","line":5,"from":2,"count":4,"group":["a"]}¶|events:6: 145 OutOfOrder 59000000000 61000000000¶
+read=4096~1|{"correlation":"Burst","line":4,"from":2,"count":3,"group":["a"]}¶{"correlation":"Burst","line":5,"from":2,"count":4,"group":["a"]}¶|events:6: 145 OutOfOrder 59000000000 61000000000¶"#;
 
 #[test]
 fn reports_a_burst(rt: HostRuntime) -> Result<(), Fail> {
-    let files: [(&str, &[u8]); 2] = [("s.json", SCHEMA.as_bytes()), ("c.yml", BOTH.as_bytes())];
-    let limits = Limits::standard();
-    for read in [1, 7, 4096] {
-        let mut world = still(&files);
-        world.events = EVENTS;
-        world.read = read;
-        check(
-            &rt,
-            &run_over(rt.alloc(), &CORRELATE, &limits, world)?,
-            1,
-            REPORTS,
-            EARLY,
-        );
-    }
+    assert_eq!(rt;
+        wrong_row(rt.alloc(), &Limits::standard(), BURST, READS)?.as_str(),
+        ""
+    );
     Ok(())
 }
+
+const UNTIMED: Scene = Scene {
+    world: "unread=1",
+    words: "correlate --schema s.json c.yml",
+    files: r#"s.json={"fields":[{"name":"Code","kind":"whole"},{"name":"User","kind":"text"}]}"#,
+    events: r#"{"Code":1,"User":"a","t":0}¶{"Code":1,"User":"a","t":10}¶{"Code":1,"User":"a","t":60}¶{"Code":1,"User":"a","t":60}¶{"Code":1,"User":"a","t":61}¶{"Code":1,"User":"a","t":59}¶"#,
+};
+
+const MOMENTLESS: Scene = Scene {
+    world: "",
+    words: "correlate --schema s.json c.yml",
+    files: r#"s.json={"fields":[{"name":"Code","kind":"whole"},{"name":"User","kind":"text"}],"time":{"at":["t"],"form":"seconds"}}§c.yml=title: T¶name: logon¶logsource:¶  product: windows¶detection:¶  sel:¶    Code: 1¶  condition: sel¶---¶title: Burst¶correlation:¶  type: event_count¶  rules: [logon]¶  group-by: [User]¶  timespan: 60s¶  condition:¶    gte: 3¶"#,
+    events: r#"{"Code":1,"User":"a"}"#,
+};
 
 /// A schema without a time is refused alone, also where the rule files aren't there; an event without a moment is.
 #[test]
 fn asks_for_moments(rt: HostRuntime) -> Result<(), Fail> {
     let limits = Limits::standard();
-    let untimed: [(&str, &[u8]); 1] = [("s.json", UNTIMED.as_bytes())];
-    let mut world = still(&untimed);
-    world.events = EVENTS;
-    world.unread = 1;
-    check(
-        &rt,
-        &run_over(rt.alloc(), &CORRELATE, &limits, world)?,
-        1,
-        "",
-        "s.json:1:1: 24 SchemaNoTime\n",
+    assert_eq!(rt;
+        told(rt.alloc(), &limits, UNTIMED, "", "")?.as_str(),
+        "1||s.json:1:1: 24 SchemaNoTime¶"
     );
-    let files: [(&str, &[u8]); 2] = [("s.json", SCHEMA.as_bytes()), ("c.yml", BOTH.as_bytes())];
-    let mut world = still(&files);
-    world.events = "{\"Code\":1,\"User\":\"a\"}";
-    check(
-        &rt,
-        &run_over(rt.alloc(), &CORRELATE, &limits, world)?,
-        1,
-        "",
-        "events:1: 29 NoMoment\n",
+    assert_eq!(rt;
+        told(rt.alloc(), &limits, MOMENTLESS, "", "")?.as_str(),
+        "1||events:1: 29 NoMoment¶"
     );
     Ok(())
 }
 
-/// Two rules that match the same events, and a correlation of them; `~` stands for what is tried.
-const ORDERED: &str =
-    "title: A\nname: one\nlogsource:\n  product: w\ndetection:\n  s:\n    Code: 1\n  condition: s\n---\ntitle: A\nname: two\nlogsource:\n  product: w\ndetection:\n  s:\n    Code: 1\n  condition: s\n---\ntitle: Both\ncorrelation:\n  type: temporal_ordered\n~";
+/// Two rules that match the same events, and a correlation of them.
+const ORDERED: Scene = Scene {
+    world: "",
+    words: "correlate --schema s.json c.yml",
+    files: r#"s.json={"fields":[{"name":"Code","kind":"whole"},{"name":"User","kind":"text"}],"time":{"at":["t"],"form":"seconds"}}§c.yml=title: A¶name: one¶logsource:¶  product: w¶detection:¶  s:¶    Code: 1¶  condition: s¶---¶title: A¶name: two¶logsource:¶  product: w¶detection:¶  s:¶    Code: 1¶  condition: s¶---¶title: Both¶correlation:¶  type: temporal_ordered¶①"#,
+    events: r#"{"Code":1,"User":"a","t":5}¶"#,
+};
+
+const ORDERS: &str =
+    r#"  rules: [one, two]¶  group-by: User¶  timespan: 1m¶~0|{"correlation":"Both","line":1,"from":1,"count":2,"group":["a"]}¶|
+  rules: [one, two]¶  group-by: User¶  timespan: 1y¶~1||c.yml:24:13: 142 BadTimespan¶
+  rules: [one, three]¶  group-by: User¶  timespan: 1m¶~1||c.yml:19:1: 141 UnknownRule¶
+  rules: [one, two]¶  group-by: Host¶  timespan: 1m¶~1||c.yml:19:1: 144 UnknownGroupField¶"#;
 
 #[test]
 fn reports_an_order(rt: HostRuntime) -> Result<(), Fail> {
-    let cases: [(&str, &str, &str); 4] = [
-        (
-            "  rules: [one, two]\n  group-by: User\n  timespan: 1m\n",
-            "{\"correlation\":\"Both\",\"line\":1,\"from\":1,\"count\":2,\"group\":[\"a\"]}\n",
-            "",
-        ),
-        (
-            "  rules: [one, two]\n  group-by: User\n  timespan: 1y\n",
-            "",
-            "c.yml:24:13: 142 BadTimespan\n",
-        ),
-        (
-            "  rules: [one, three]\n  group-by: User\n  timespan: 1m\n",
-            "",
-            "c.yml:19:1: 141 UnknownRule\n",
-        ),
-        (
-            "  rules: [one, two]\n  group-by: Host\n  timespan: 1m\n",
-            "",
-            "c.yml:19:1: 144 UnknownGroupField\n",
-        ),
-    ];
-    for (lines, out, err) in cases {
-        let rules = ORDERED.replace(rt.alloc(), "~", lines)?;
-        let files: [(&str, &[u8]); 2] = [
-            ("s.json", SCHEMA.as_bytes()),
-            ("c.yml", rules.as_bytes()),
-        ];
-        let mut world = still(&files);
-        world.events = "{\"Code\":1,\"User\":\"a\",\"t\":5}\n";
-        check(
-            &rt,
-            &run_over(rt.alloc(), &CORRELATE, &Limits::standard(), world)?,
-            if err.is_empty() { 0 } else { 1 },
-            out,
-            err,
-        );
-    }
+    assert_eq!(rt;
+        wrong_row(rt.alloc(), &Limits::standard(), ORDERED, ORDERS)?.as_str(),
+        ""
+    );
     Ok(())
 }
+
+const FILES: Scene = Scene {
+    world: "",
+    words: "correlate --schema=s.json c.yml bad.yml tab.yml -- r.yml more.yml",
+    files: r#"s.json={"fields":[{"name":"Code","kind":"whole"},{"name":"User","kind":"text"}],"time":{"at":["t"],"form":"seconds"}}§c.yml=title: Burst¶correlation:¶  type: event_count¶  rules: [logon]¶  group-by: [User]¶  timespan: 60s¶  condition:¶    gte: 3¶§bad.yml=title: T¶name: off¶logsource:¶  product: w¶detection:¶  sel:¶    Host: 1¶  condition: sel¶§tab.yml=a:¶»b: 1¶§r.yml=title: T¶name: logon¶logsource:¶  product: windows¶detection:¶  sel:¶    Code: 1¶  condition: sel¶§more.yml=title: More¶correlation:¶  type: event_count¶  rules: off¶  timespan: 1h¶  condition:¶    gt: 0¶"#,
+    events: r#"{"Code":1,"User":"a","t":0}¶{"Code":1,"User":"a","t":10}¶{"Code":1,"User":"a","t":60}¶{"Code":1,"User":"a","t":60}¶{"Code":1,"User":"a","t":61}¶{"Code":1,"User":"a","t":59}¶"#,
+};
 
 /// Rules and correlations of several files: each file with its diagnostics, then the correlations that aren't bound, then the events. A file
 /// and a rule that are refused end nothing, and what names the rule isn't bound.
 #[test]
 fn reads_all_files_first(rt: HostRuntime) -> Result<(), Fail> {
-    let words: [&str; 8] = [
-        "correlate",
-        "--schema=s.json",
-        "c.yml",
-        "bad.yml",
-        "tab.yml",
-        "--",
-        "r.yml",
-        "more.yml",
-    ];
-    let files: [(&str, &[u8]); 6] = [
-        ("s.json", SCHEMA.as_bytes()),
-        ("c.yml", BURST.as_bytes()),
-        (
-            "bad.yml",
-            b"title: T\nname: off\nlogsource:\n  product: w\ndetection:\n  sel:\n    Host: 1\n  condition: sel\n",
-        ),
-        ("tab.yml", b"a:\n\tb: 1\n"),
-        ("r.yml", RULE.as_bytes()),
-        (
-            "more.yml",
-            b"title: More\ncorrelation:\n  type: event_count\n  rules: off\n  timespan: 1h\n  condition:\n    gt: 0\n",
-        ),
-    ];
-    let mut world = still(&files);
-    world.events = EVENTS;
-    check(
-        &rt,
-        &run_over(rt.alloc(), &words, &Limits::standard(), world)?,
-        1,
-        REPORTS,
-        "bad.yml:7:5: 81 UnknownField\ntab.yml:2:1: 8 Tab\nmore.yml:1:1: 141 UnknownRule\nevents:6: 145 OutOfOrder 59000000000 61000000000\n",
+    assert_eq!(rt;
+        told(rt.alloc(), &Limits::standard(), FILES, "", "")?.as_str(),
+        r#"1|{"correlation":"Burst","line":4,"from":2,"count":3,"group":["a"]}¶{"correlation":"Burst","line":5,"from":2,"count":4,"group":["a"]}¶|bad.yml:7:5: 81 UnknownField¶tab.yml:2:1: 8 Tab¶more.yml:1:1: 141 UnknownRule¶events:6: 145 OutOfOrder 59000000000 61000000000¶"#
     );
     Ok(())
 }
 
+const PIPED: Scene = Scene {
+    world: "",
+    words: "correlate --pipeline=p.yml --schema=s.json c.yml r.yml",
+    files: r#"s.json={"fields":[{"name":"Code","kind":"whole"},{"name":"User","kind":"text"}],"time":{"at":["t"],"form":"seconds"}}§p.yml=①§r.yml=title: T¶name: logon¶logsource:¶  product: windows¶detection:¶  sel:¶    EventID: 1¶  condition: sel¶§c.yml=title: Burst¶correlation:¶  type: event_count¶  rules: [logon]¶  group-by: [User]¶  timespan: 60s¶  condition:¶    gte: 3¶"#,
+    events: r#"{"Code":1,"User":"a","t":0}¶{"Code":1,"User":"a","t":10}¶{"Code":1,"User":"a","t":60}¶{"Code":1,"User":"a","t":60}¶{"Code":1,"User":"a","t":61}¶{"Code":1,"User":"a","t":59}¶"#,
+};
+
+const PIPELINES: &str =
+    r#"transformations:¶  - type: field_name_mapping¶    mapping:¶      EventID: Code¶      User: Host¶~1|{"correlation":"Burst","line":4,"from":2,"count":3,"group":["a"]}¶{"correlation":"Burst","line":5,"from":2,"count":4,"group":["a"]}¶|events:6: 145 OutOfOrder 59000000000 61000000000¶
+transformations:¶  - type: set_state¶~1||p.yml:2:11: 91 UnknownStep set_state¶"#;
+
 /// Pipelines make the rules that are run, and change nothing of correlations. Pipelines that are refused end the command.
 #[test]
 fn correlates_under_pipelines(rt: HostRuntime) -> Result<(), Fail> {
-    let words: [&str; 5] = [
-        "correlate",
-        "--pipeline=p.yml",
-        "--schema=s.json",
-        "c.yml",
-        "r.yml",
-    ];
-    let rule = RULE.replace(rt.alloc(), "Code", "EventID")?;
-    let cases: [(&str, u8, &str, &str); 2] = [
-        (
-            "transformations:\n  - type: field_name_mapping\n    mapping:\n      EventID: Code\n      User: Host\n",
-            1,
-            REPORTS,
-            EARLY,
-        ),
-        (
-            "transformations:\n  - type: set_state\n",
-            1,
-            "",
-            "p.yml:2:11: 91 UnknownStep set_state\n",
-        ),
-    ];
-    for (pipelines, code, out, err) in cases {
-        let files: [(&str, &[u8]); 4] = [
-            ("s.json", SCHEMA.as_bytes()),
-            ("p.yml", pipelines.as_bytes()),
-            ("r.yml", rule.as_bytes()),
-            ("c.yml", BURST.as_bytes()),
-        ];
-        let mut world = still(&files);
-        world.events = EVENTS;
-        check(
-            &rt,
-            &run_over(rt.alloc(), &words, &Limits::standard(), world)?,
-            code,
-            out,
-            err,
-        );
-    }
+    assert_eq!(rt;
+        wrong_row(rt.alloc(), &Limits::standard(), PIPED, PIPELINES)?.as_str(),
+        ""
+    );
     Ok(())
 }
+
+const UNREAD: &str = r#"read=115 shelf=1 unread=0~3||sigma: cannot read s.json¶
+read=115 shelf=2 unread=0~3||sigma: cannot read c.yml¶
+read=115 shelf=0 unread=1~3||sigma: cannot read events¶
+read=115 shelf=0 unread=2~3|{"correlation":"Burst","line":4,"from":2,"count":3,"group":["a"]}¶|sigma: cannot read events¶
+read=115 shelf=0 unread=3~3|{"correlation":"Burst","line":4,"from":2,"count":3,"group":["a"]}¶{"correlation":"Burst","line":5,"from":2,"count":4,"group":["a"]}¶|events:6: 145 OutOfOrder 59000000000 61000000000¶sigma: cannot read events¶"#;
 
 /// Each file and each read of the events fails in turn. A read takes the first four lines, and what is behind them.
 #[test]
 fn tells_of_inputs_that_cannot_be_read(rt: HostRuntime) -> Result<(), Fail> {
-    let files: [(&str, &[u8]); 2] = [("s.json", SCHEMA.as_bytes()), ("c.yml", BOTH.as_bytes())];
-    let limits = Limits::standard();
-    let cases: [(u64, u64, &str, &str); 5] = [
-        (1, 0, "", "sigma: cannot read s.json\n"),
-        (2, 0, "", "sigma: cannot read c.yml\n"),
-        (0, 1, "", UNREAD),
-        (0, 2, FIRST, UNREAD),
-        (
-            0,
-            3,
-            REPORTS,
-            "events:6: 145 OutOfOrder 59000000000 61000000000\nsigma: cannot read events\n",
-        ),
-    ];
-    for (shelf, unread, out, err) in cases {
-        let mut world = still(&files);
-        world.events = EVENTS;
-        world.read = 115;
-        world.shelf = shelf;
-        world.unread = unread;
-        check(
-            &rt,
-            &run_over(rt.alloc(), &CORRELATE, &limits, world)?,
-            3,
-            out,
-            err,
-        );
-    }
+    assert_eq!(rt;
+        wrong_row(rt.alloc(), &Limits::standard(), BURST, UNREAD)?.as_str(),
+        ""
+    );
     Ok(())
 }
+
+const KEPT: &str = r#"piece=20 out=1~4||
+piece=20 out=2~4|{"correlation":"Burs|
+piece=20 out=3~4|{"correlation":"Burst","line":4,"from":2|
+piece=20 out=4~4|{"correlation":"Burst","line":4,"from":2,"count":3,"group":[|
+piece=20 out=5~4|{"correlation":"Burst","line":4,"from":2,"count":3,"group":["a"]}¶|
+piece=20 out=6~4|{"correlation":"Burst","line":4,"from":2,"count":3,"group":["a"]}¶{"correlation":"Burs|
+piece=20 out=7~4|{"correlation":"Burst","line":4,"from":2,"count":3,"group":["a"]}¶{"correlation":"Burst","line":5,"from":2|
+piece=20 out=8~4|{"correlation":"Burst","line":4,"from":2,"count":3,"group":["a"]}¶{"correlation":"Burst","line":5,"from":2,"count":4,"group":[|
+piece=20 err=1~4|{"correlation":"Burst","line":4,"from":2,"count":3,"group":["a"]}¶{"correlation":"Burst","line":5,"from":2,"count":4,"group":["a"]}¶|
+piece=20 err=2~4|{"correlation":"Burst","line":4,"from":2,"count":3,"group":["a"]}¶{"correlation":"Burst","line":5,"from":2,"count":4,"group":["a"]}¶|events:6: 145 OutOfO
+piece=20 err=3~4|{"correlation":"Burst","line":4,"from":2,"count":3,"group":["a"]}¶{"correlation":"Burst","line":5,"from":2,"count":4,"group":["a"]}¶|events:6: 145 OutOfOrder 59000000000 610"#;
 
 /// Each write of the output and of the error output fails in turn, in pieces of 20 bytes.
 #[test]
 fn keeps_reports_before_a_fault(rt: HostRuntime) -> Result<(), Fail> {
-    let files: [(&str, &[u8]); 2] = [("s.json", SCHEMA.as_bytes()), ("c.yml", BOTH.as_bytes())];
-    let limits = Limits::standard();
-    let outs: [(u64, usize); 8] = [
-        (1, 0),
-        (2, 20),
-        (3, 40),
-        (4, 60),
-        (5, 66),
-        (6, 86),
-        (7, 106),
-        (8, 126),
-    ];
-    for (call, kept) in outs {
-        let mut world = still(&files);
-        world.events = EVENTS;
-        world.piece = 20;
-        world.out = call;
-        let run = run_over(rt.alloc(), &CORRELATE, &limits, world)?;
-        assert_eq!(rt; run.out.as_slice(), front(REPORTS, kept));
-        assert_eq!(rt; run.err.as_slice(), b"".as_slice());
-        assert_eq!(rt; run.status.code(), 4);
-    }
-    for (call, kept) in [(1, 0), (2, 20), (3, 40)] {
-        let mut world = still(&files);
-        world.events = EVENTS;
-        world.piece = 20;
-        world.err = call;
-        let run = run_over(rt.alloc(), &CORRELATE, &limits, world)?;
-        assert_eq!(rt; run.out.as_slice(), REPORTS.as_bytes());
-        assert_eq!(rt; run.err.as_slice(), front(EARLY, kept));
-        assert_eq!(rt; run.status.code(), 4);
-    }
+    assert_eq!(rt;
+        wrong_row(rt.alloc(), &Limits::standard(), BURST, KEPT)?.as_str(),
+        ""
+    );
     Ok(())
 }
+
+const EXPRESSION: Scene = Scene {
+    world: "unbuilt=①",
+    words: "correlate --schema s.json c.yml b.yml",
+    files: r#"s.json={"fields":[{"name":"Code","kind":"whole"},{"name":"User","kind":"text"}],"time":{"at":["t"],"form":"seconds"}}§c.yml=title: T¶name: logon¶logsource:¶  product: windows¶detection:¶  sel:¶    User|re: 'a'¶  condition: sel¶§b.yml=title: Burst¶correlation:¶  type: event_count¶  rules: [logon]¶  group-by: [User]¶  timespan: 60s¶  condition:¶    gte: 3¶"#,
+    events: r#"{"Code":1,"User":"a","t":0}¶{"Code":1,"User":"a","t":10}¶{"Code":1,"User":"a","t":60}¶{"Code":1,"User":"a","t":60}¶{"Code":1,"User":"a","t":61}¶{"Code":1,"User":"a","t":59}¶"#,
+};
+
+const UNBUILT: &str =
+    r#"0~1|{"correlation":"Burst","line":4,"from":2,"count":3,"group":["a"]}¶{"correlation":"Burst","line":5,"from":2,"count":4,"group":["a"]}¶|events:6: 145 OutOfOrder 59000000000 61000000000¶
+1~1||c.yml:7:14: 48 RegexRefused¶b.yml:1:1: 141 UnknownRule¶events:6: 145 OutOfOrder 59000000000 61000000000¶
+2~1||c.yml:7:5: 48 RegexRefused¶b.yml:1:1: 141 UnknownRule¶events:6: 145 OutOfOrder 59000000000 61000000000¶"#;
 
 /// A regular expression that the builder refuses: as a value it refuses its document, and else its item.
 #[test]
 fn refuses_expressions(rt: HostRuntime) -> Result<(), Fail> {
-    let rule = RULE.replace(rt.alloc(), "Code: 1", "User|re: 'a'")?;
-    let files: [(&str, &[u8]); 3] = [
-        ("s.json", SCHEMA.as_bytes()),
-        ("c.yml", rule.as_bytes()),
-        ("b.yml", BURST.as_bytes()),
-    ];
-    let words: [&str; 5] = ["correlate", "--schema", "s.json", "c.yml", "b.yml"];
-    let cases: [(u64, u8, &str, &str); 3] = [
-        (0, 1, REPORTS, EARLY),
-        (
-            1,
-            1,
-            "",
-            "c.yml:7:14: 48 RegexRefused\nb.yml:1:1: 141 UnknownRule\nevents:6: 145 OutOfOrder 59000000000 61000000000\n",
-        ),
-        (
-            2,
-            1,
-            "",
-            "c.yml:7:5: 48 RegexRefused\nb.yml:1:1: 141 UnknownRule\nevents:6: 145 OutOfOrder 59000000000 61000000000\n",
-        ),
-    ];
-    for (unbuilt, code, out, err) in cases {
-        let mut world = still(&files);
-        world.events = EVENTS;
-        world.unbuilt = unbuilt;
-        check(
-            &rt,
-            &run_over(rt.alloc(), &words, &Limits::standard(), world)?,
-            code,
-            out,
-            err,
-        );
-    }
+    assert_eq!(rt;
+        wrong_row(rt.alloc(), &Limits::standard(), EXPRESSION, UNBUILT)?.as_str(),
+        ""
+    );
     Ok(())
 }

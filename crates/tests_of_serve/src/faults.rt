@@ -1,88 +1,58 @@
 //! What stands after a fault.
 
-use crate::worlds::{FOUR, FOUR_LINES, check, front, run_over, still};
+use crate::scenes::{Scene, wrong_row};
 use sig_base::Limits;
 use std::test::Fail;
 
-/// How many bytes stand where each call fails in turn, in pieces of 10 bytes: four lines of 20, 17, 26 and 25 bytes.
-const KEPT: [(u64, usize); 10] = [
-    (1, 0),
-    (2, 10),
-    (3, 20),
-    (4, 30),
-    (5, 37),
-    (6, 47),
-    (7, 57),
-    (8, 63),
-    (9, 73),
-    (10, 83),
-];
+/// Four documents, each of which is refused.
+const FOUR: Scene = Scene {
+    world: "piece=10 err=①",
+    words: "check b.yml",
+    files: r#"b.yml=title: "cut¶---¶a:¶»b: 1¶---¶a: 1¶a: 2¶---¶a: &x 1¶"#,
+    events: "",
+};
+
+/// What stands where each call fails in turn, in pieces of 10 bytes: four lines of 20, 17, 26 and 25 bytes.
+const KEPT: &str = "1~4||
+2~4||b.yml:1:1:
+3~4||b.yml:1:1: 4 Syntax¶
+4~4||b.yml:1:1: 4 Syntax¶b.yml:4:1:
+5~4||b.yml:1:1: 4 Syntax¶b.yml:4:1: 8 Tab¶
+6~4||b.yml:1:1: 4 Syntax¶b.yml:4:1: 8 Tab¶b.yml:7:1:
+7~4||b.yml:1:1: 4 Syntax¶b.yml:4:1: 8 Tab¶b.yml:7:1: 5 Duplica
+8~4||b.yml:1:1: 4 Syntax¶b.yml:4:1: 8 Tab¶b.yml:7:1: 5 DuplicateKey¶
+9~4||b.yml:1:1: 4 Syntax¶b.yml:4:1: 8 Tab¶b.yml:7:1: 5 DuplicateKey¶b.yml:9:4:
+10~4||b.yml:1:1: 4 Syntax¶b.yml:4:1: 8 Tab¶b.yml:7:1: 5 DuplicateKey¶b.yml:9:4: 3 Unsuppo
+11~1||b.yml:1:1: 4 Syntax¶b.yml:4:1: 8 Tab¶b.yml:7:1: 5 DuplicateKey¶b.yml:9:4: 3 Unsupported¶";
 
 #[test]
 fn keeps_lines_before_a_fault(rt: HostRuntime) -> Result<(), Fail> {
-    let limits = Limits::standard();
-    let files: [(&str, &[u8]); 1] = [("b.yml", FOUR.as_bytes())];
-    for (call, kept) in KEPT {
-        let mut world = still(&files);
-        world.piece = 10;
-        world.err = call;
-        let run = run_over(rt.alloc(), &["check", "b.yml"], &limits, world)?;
-        assert_eq!(rt; run.out.as_slice(), b"".as_slice());
-        assert_eq!(rt; run.err.as_slice(), front(FOUR_LINES, kept));
-        assert_eq!(rt; run.status.code(), 4);
-    }
-    let mut world = still(&files);
-    world.piece = 10;
-    world.err = 11;
-    check(
-        &rt,
-        &run_over(rt.alloc(), &["check", "b.yml"], &limits, world)?,
-        1,
-        "",
-        FOUR_LINES,
+    assert_eq!(rt;
+        wrong_row(rt.alloc(), &Limits::standard(), FOUR, KEPT)?.as_str(),
+        ""
     );
     Ok(())
 }
 
+const TAB: Scene = Scene {
+    world: "①",
+    words: "②",
+    files: "t=»a",
+    events: "",
+};
+
+/// The world, the words, and what is told.
+const UNREAD: &str = "shelf=1~check t t~3||sigma: cannot read t¶
+shelf=2~check t t~3||t:1:1: 8 Tab¶sigma: cannot read t¶
+shelf=2 piece=10 err=4~check t t~4||t:1:1: 8 Tab¶sigma: can
+shelf=2 piece=10 err=2~check~4||sigma: bad";
+
 /// A shelf that fails, with its diagnostic written or cut off, and words that aren't accepted.
 #[test]
 fn tells_of_a_file_that_cannot_be_read(rt: HostRuntime) -> Result<(), Fail> {
-    let limits = Limits::standard();
-    let words: [&str; 3] = ["check", "t", "t"];
-    let files: [(&str, &[u8]); 1] = [("t", b"\ta")];
-    let mut world = still(&files);
-    world.shelf = 1;
-    check(
-        &rt,
-        &run_over(rt.alloc(), &words, &limits, world)?,
-        3,
-        "",
-        "sigma: cannot read t\n",
-    );
-    world.shelf = 2;
-    check(
-        &rt,
-        &run_over(rt.alloc(), &words, &limits, world)?,
-        3,
-        "",
-        "t:1:1: 8 Tab\nsigma: cannot read t\n",
-    );
-    world.piece = 10;
-    world.err = 4;
-    check(
-        &rt,
-        &run_over(rt.alloc(), &words, &limits, world)?,
-        4,
-        "",
-        "t:1:1: 8 Tab\nsigma: can",
-    );
-    world.err = 2;
-    check(
-        &rt,
-        &run_over(rt.alloc(), &["check"], &limits, world)?,
-        4,
-        "",
-        "sigma: bad",
+    assert_eq!(rt;
+        wrong_row(rt.alloc(), &Limits::standard(), TAB, UNREAD)?.as_str(),
+        ""
     );
     Ok(())
 }

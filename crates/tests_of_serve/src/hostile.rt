@@ -1,13 +1,9 @@
 //! Inputs that are deep, long or many.
 
-use crate::worlds::{check, run_over, still};
+use crate::scenes::{Scene, columns, output_of, told};
 use sig_base::Limits;
 use std::alloc::Global;
 use std::test::Fail;
-
-/// An event of 200 lists, one inside the other, under a key that no field names, and one that is selected.
-const DEEP: &str =
-    "{\"x\":[[[[[[[[[[[[[[[[[[[[[[[[[[[[[[[[[[[[[[[[[[[[[[[[[[[[[[[[[[[[[[[[[[[[[[[[[[[[[[[[[[[[[[[[[[[[[[[[[[[[[[[[[[[[[[[[[[[[[[[[[[[[[[[[[[[[[[[[[[[[[[[[[[[[[[[[[[[[[[[[[[[[[[[[[[[[[[[[[[[[[[[[[[[[[[[[[[[[[[[[]]]]]]]]]]]]]]]]]]]]]]]]]]]]]]]]]]]]]]]]]]]]]]]]]]]]]]]]]]]]]]]]]]]]]]]]]]]]]]]]]]]]]]]]]]]]]]]]]]]]]]]]]]]]]]]]]]]]]]]]]]]]]]]]]]]]]]]]]]]]]]]]]]]]]]]]]]]]]]]]]]]]]]]]]]]]]]]]]]]]]]]]]]]]]]]]]]]]]]]]}\n{\"A\":\"x\"}\n";
 
 /// A text so many times.
 fn repeated(alloc: Global, text: &str, count: usize) -> Result<String, Fail> {
@@ -18,69 +14,129 @@ fn repeated(alloc: Global, text: &str, count: usize) -> Result<String, Fail> {
     Ok(all)
 }
 
-/// The rule with this item and this condition.
-fn rule_of(alloc: Global, item: &str, condition: &str) -> Result<String, Fail> {
+/// A field and so many texts.
+fn list_of(alloc: Global, field: &str, texts: usize) -> Result<String, Fail> {
+    Ok(format!(in alloc; "{field}:{}", repeated(alloc, "\n      - x", texts)?)?)
+}
+
+/// A rule's item and its condition.
+const RULE: Scene = Scene {
+    world: "",
+    words: "check r.yml;convert --backend=sqlite r.yml;run r.yml",
+    files: "r.yml=title: T¶logsource:¶  category: c¶detection:¶  s:¶    ①¶  condition: ②¶",
+    events: "",
+};
+
+/// Lists in a value that are nested 40 deep.
+fn nested(alloc: Global) -> Result<String, Fail> {
     Ok(format!(in alloc;
-        "title: T\nlogsource:\n  category: c\ndetection:\n  s:\n    {item}\n  condition: {condition}\n"
+        "A: {}x{}",
+        repeated(alloc, "[", 40)?,
+        repeated(alloc, "]", 40)?
     )?)
+}
+
+/// The condition behind 257 words `not`.
+fn denied(alloc: Global) -> Result<String, Fail> {
+    Ok(format!(in alloc; "{}s", repeated(alloc, "not ", 257)?)?)
 }
 
 /// Lists in a value that are nested 40 deep, a list of 4,097 texts, and 257 words `not`.
 #[test]
 fn refuses_rules_past_limits(rt: HostRuntime) -> Result<(), Fail> {
     let alloc = rt.alloc();
-    let nested = format!(in alloc;
-        "A: {}x{}",
-        repeated(alloc, "[", 40)?,
-        repeated(alloc, "]", 40)?
-    )?;
-    let long = format!(in alloc; "A:{}", repeated(alloc, "\n      - x", 4097)?)?;
-    let denied = format!(in alloc; "{}s", repeated(alloc, "not ", 257)?)?;
-    let cases: [(&str, &str, &str); 3] = [
-        (nested.as_str(), "s", "r.yml:6:37: 6 TooDeep\n"),
-        (long.as_str(), "s", "r.yml:6:5: 79 TooManyValues\n"),
-        ("A: x", denied.as_str(), "r.yml:7:14: 62 ConditionDepth\n"),
-    ];
-    for (item, condition, err) in cases {
-        let rule = rule_of(alloc, item, condition)?;
-        let files: [(&str, &[u8]); 1] = [("r.yml", rule.as_bytes())];
-        for words in [
-            ["check", "r.yml"].as_slice(),
-            ["convert", "--backend=sqlite", "r.yml"].as_slice(),
-            ["run", "r.yml"].as_slice(),
-        ] {
-            let ran = run_over(alloc, words, &Limits::standard(), still(&files))?;
-            check(&rt, &ran, 1, "", err);
-        }
-    }
+    let limits = Limits::standard();
+    assert_eq!(rt;
+        told(alloc, &limits, RULE, &nested(alloc)?, "s")?.as_str(),
+        "1||r.yml:6:37: 6 TooDeep¶;1||r.yml:6:37: 6 TooDeep¶;1||r.yml:6:37: 6 TooDeep¶"
+    );
+    assert_eq!(rt;
+        told(alloc, &limits, RULE, &list_of(alloc, "A", 4097)?, "s")?.as_str(),
+        "1||r.yml:6:5: 79 TooManyValues¶;1||r.yml:6:5: 79 TooManyValues¶;1||r.yml:6:5: 79 TooManyValues¶"
+    );
+    assert_eq!(rt;
+        told(alloc, &limits, RULE, "A: x", &denied(alloc)?)?.as_str(),
+        "1||r.yml:7:14: 62 ConditionDepth¶;1||r.yml:7:14: 62 ConditionDepth¶;1||r.yml:7:14: 62 ConditionDepth¶"
+    );
     Ok(())
+}
+
+/// A rule's item, and a world.
+const SQLITE: Scene = Scene {
+    world: "②",
+    words: "convert --backend=sqlite r.yml",
+    files: "r.yml=title: T¶logsource:¶  category: c¶detection:¶  s:¶    ①¶  condition: s¶",
+    events: "",
+};
+
+const LUCENE: Scene = Scene {
+    world: "②",
+    words: "convert --backend=lucene r.yml",
+    files: "r.yml=title: T¶logsource:¶  category: c¶detection:¶  s:¶    ①¶  condition: s¶",
+    events: "",
+};
+
+/// A query, over an event of 200 lists, one inside the other, under a key that no field names, and one that is selected.
+const ASK: Scene = Scene {
+    world: "",
+    words: "query --backend=sqlite --schema=s.json q",
+    files: r#"s.json={"fields":[{"name":"A","kind":"text"}]}§q=①"#,
+    events: r#"{"x":[[[[[[[[[[[[[[[[[[[[[[[[[[[[[[[[[[[[[[[[[[[[[[[[[[[[[[[[[[[[[[[[[[[[[[[[[[[[[[[[[[[[[[[[[[[[[[[[[[[[[[[[[[[[[[[[[[[[[[[[[[[[[[[[[[[[[[[[[[[[[[[[[[[[[[[[[[[[[[[[[[[[[[[[[[[[[[[[[[[[[[[[[[[[[[[[[[[[[[[[]]]]]]]]]]]]]]]]]]]]]]]]]]]]]]]]]]]]]]]]]]]]]]]]]]]]]]]]]]]]]]]]]]]]]]]]]]]]]]]]]]]]]]]]]]]]]]]]]]]]]]]]]]]]]]]]]]]]]]]]]]]]]]]]]]]]]]]]]]]]]]]]]]]]]]]]]]]]]]]]]]]]]]]]]]]]]]]]]]]]]]]]]]]]]]]]]]]]]]]]}¶{"A":"x"}¶"#,
+};
+
+/// Queries of SQL of a depth of at most 71.
+fn depth_71() -> Limits {
+    let mut limits = Limits::standard();
+    limits.sql_depth = 71;
+    limits
+}
+
+/// Queries of SQL of a depth of at most 72.
+fn depth_72() -> Limits {
+    let mut limits = Limits::standard();
+    limits.sql_depth = 72;
+    limits
+}
+
+/// Queries of SQL of a depth of at most 70.
+fn depth_70() -> Limits {
+    let mut limits = Limits::standard();
+    limits.sql_depth = 70;
+    limits
+}
+
+/// Queries of SQL of a depth of at most 69.
+fn depth_69() -> Limits {
+    let mut limits = Limits::standard();
+    limits.sql_depth = 69;
+    limits
 }
 
 /// 4,096 texts have a query of depth 72, which selects as the rule does.
 #[test]
 fn converts_the_longest_list(rt: HostRuntime) -> Result<(), Fail> {
     let alloc = rt.alloc();
-    let item = format!(in alloc; "A:{}", repeated(alloc, "\n      - x", 4096)?)?;
-    let rule = rule_of(alloc, item.as_str(), "s")?;
-    let files: [(&str, &[u8]); 1] = [("r.yml", rule.as_bytes())];
-    let words = ["convert", "--backend=sqlite", "r.yml"];
-    let mut limits = Limits::standard();
-    limits.sql_depth = 71;
-    let ran = run_over(alloc, &words, &limits, still(&files))?;
-    check(&rt, &ran, 1, "", "r.yml:1:1: 112 QueryTooDeep 72 71\n");
-    limits.sql_depth = 72;
-    let mut world = still(&files);
-    world.room = 1 << 18;
-    let ran = run_over(alloc, &words, &limits, world)?;
-    assert_eq!(rt; ran.status.code(), 0);
-    let schema = b"{\"fields\":[{\"name\":\"A\",\"kind\":\"text\"}]}".as_slice();
-    let files: [(&str, &[u8]); 2] = [("s.json", schema), ("q", ran.out.as_slice())];
-    let words = ["query", "--backend=sqlite", "--schema=s.json", "q"];
-    let mut world = still(&files);
-    world.events = DEEP;
-    let ran = run_over(alloc, &words, &limits, world)?;
-    check(&rt, &ran, 1, "{\"A\":\"x\"}\n", "events:1: 25 EventJson\n");
+    let item = list_of(alloc, "A", 4096)?;
+    assert_eq!(rt;
+        told(alloc, &depth_71(), SQLITE, &item, "")?.as_str(),
+        "1||r.yml:1:1: 112 QueryTooDeep 72 71¶"
+    );
+    let written = told(alloc, &depth_72(), SQLITE, &item, "room=262144")?;
+    assert_eq!(rt; written.as_str().starts_with("0|"), true);
+    let query = output_of(&written).unwrap_or("");
+    assert_eq!(rt;
+        told(alloc, &depth_72(), ASK, query, "")?.as_str(),
+        r#"1|{"A":"x"}¶|events:1: 25 EventJson¶"#
+    );
     Ok(())
+}
+
+/// Queries of SQL of a depth of at most 69, of at most 1,999 leaves.
+fn few_leaves() -> Limits {
+    let mut limits = Limits::standard();
+    limits.sql_depth = 69;
+    limits.leaves = 1999;
+    limits
 }
 
 /// 2,000 texts have a query of SQL of depth 70, and more clauses than one of Lucene may have; where a rule may have a test fewer, it's too large
@@ -88,60 +144,65 @@ fn converts_the_longest_list(rt: HostRuntime) -> Result<(), Fail> {
 #[test]
 fn counts_two_thousand_texts(rt: HostRuntime) -> Result<(), Fail> {
     let alloc = rt.alloc();
-    let item = format!(in alloc; "Image:{}", repeated(alloc, "\n      - x", 2000)?)?;
-    let rule = rule_of(alloc, item.as_str(), "s")?;
-    let files: [(&str, &[u8]); 1] = [("r.yml", rule.as_bytes())];
-    let sqlite: [&str; 3] = ["convert", "--backend=sqlite", "r.yml"];
-    let lucene: [&str; 3] = ["convert", "--backend=lucene", "r.yml"];
-    let mut limits = Limits::standard();
-    let ran = run_over(alloc, &lucene, &limits, still(&files))?;
-    check(
-        &rt,
-        &ran,
-        1,
-        "",
-        "r.yml:1:1: 113 TooManyClauses 2000 1024\n",
+    let item = list_of(alloc, "Image", 2000)?;
+    assert_eq!(rt;
+        told(alloc, &Limits::standard(), LUCENE, &item, "")?.as_str(),
+        "1||r.yml:1:1: 113 TooManyClauses 2000 1024¶"
     );
-    limits.sql_depth = 70;
-    let mut world = still(&files);
-    world.room = 1 << 18;
-    let ran = run_over(alloc, &sqlite, &limits, world)?;
-    assert_eq!(rt; ran.status.code(), 0);
-    limits.sql_depth = 69;
-    let ran = run_over(alloc, &sqlite, &limits, still(&files))?;
-    check(&rt, &ran, 1, "", "r.yml:1:1: 112 QueryTooDeep 70 69\n");
-    limits.leaves = 1999;
-    for words in [&sqlite, &lucene] {
-        let ran = run_over(alloc, words, &limits, still(&files))?;
-        check(&rt, &ran, 1, "", "r.yml:1:1: 110 TooManyLeaves 2000 1999\n");
-    }
+    let written = told(alloc, &depth_70(), SQLITE, &item, "room=262144")?;
+    assert_eq!(rt; written.as_str().starts_with("0|"), true);
+    assert_eq!(rt;
+        told(alloc, &depth_69(), SQLITE, &item, "")?.as_str(),
+        "1||r.yml:1:1: 112 QueryTooDeep 70 69¶"
+    );
+    let many = "1||r.yml:1:1: 110 TooManyLeaves 2000 1999¶";
+    assert_eq!(rt;
+        told(alloc, &few_leaves(), SQLITE, &item, "")?.as_str(),
+        many
+    );
+    assert_eq!(rt;
+        told(alloc, &few_leaves(), LUCENE, &item, "")?.as_str(),
+        many
+    );
     Ok(())
+}
+
+const NOTS: Scene = Scene {
+    world: "",
+    words: "query --backend=sqlite --schema=s.json q",
+    files: r#"s.json={"fields":[{"name":"A","kind":"text"}]}§q=SELECT * FROM "events" WHERE ①②"#,
+    events: r#"{"A":"x"}¶{"A":"y"}¶"#,
+};
+
+/// How many words NOT, a test behind them, and what is told.
+const COUNTS: &str = r#"997~"A" = 'x'~0|{"A":"y"}¶|
+998~"A" = 'x'~0|{"A":"x"}¶|
+999~"A" = 'x'~1||q:1:1: 124 SqlDepth¶
+1000~"A" = 'x'~1||q:1:1: 124 SqlDepth¶
+1000~"A" IS NULL~1||q:1:1: 124 SqlDepth¶
+1000~~1||q:1:4030: 120 SqlSyntax¶
+1001~~1||q:1:1: 124 SqlDepth¶"#;
+
+/// The first row of a table that isn't told so.
+fn wrong_count(alloc: Global, table: &'static str) -> Result<String, Fail> {
+    for row in table.lines() {
+        let Some((count, test, want)) = columns(row) else {
+            return Ok(format!(in alloc; "no row: {row}")?);
+        };
+        let Ok(count) = count.parse::<usize>() else {
+            return Ok(format!(in alloc; "no row: {row}")?);
+        };
+        let words = repeated(alloc, "NOT ", count)?;
+        if told(alloc, &Limits::standard(), NOTS, &words, test)?.as_str() != want {
+            return Ok(String::from_str(alloc, row)?);
+        }
+    }
+    Ok(String::new(alloc))
 }
 
 /// 998 words NOT before a test of depth 2 are read. With one more the expression is too deep, and 1,001 are refused as such.
 #[test]
 fn reads_so_many_words_not(rt: HostRuntime) -> Result<(), Fail> {
-    let alloc = rt.alloc();
-    let schema = b"{\"fields\":[{\"name\":\"A\",\"kind\":\"text\"}]}".as_slice();
-    let words = ["query", "--backend=sqlite", "--schema=s.json", "q"];
-    for (count, test, code, out, err) in [
-        (997, "\"A\" = 'x'", 0, "{\"A\":\"y\"}\n", ""),
-        (998, "\"A\" = 'x'", 0, "{\"A\":\"x\"}\n", ""),
-        (999, "\"A\" = 'x'", 1, "", "q:1:1: 124 SqlDepth\n"),
-        (1000, "\"A\" = 'x'", 1, "", "q:1:1: 124 SqlDepth\n"),
-        (1000, "\"A\" IS NULL", 1, "", "q:1:1: 124 SqlDepth\n"),
-        (1000, "", 1, "", "q:1:4030: 120 SqlSyntax\n"),
-        (1001, "", 1, "", "q:1:1: 124 SqlDepth\n"),
-    ] {
-        let query = format!(in alloc;
-            "SELECT * FROM \"events\" WHERE {}{test}",
-            repeated(alloc, "NOT ", count)?
-        )?;
-        let files: [(&str, &[u8]); 2] = [("s.json", schema), ("q", query.as_bytes())];
-        let mut world = still(&files);
-        world.events = "{\"A\":\"x\"}\n{\"A\":\"y\"}\n";
-        let ran = run_over(alloc, &words, &Limits::standard(), world)?;
-        check(&rt, &ran, code, out, err);
-    }
+    assert_eq!(rt; wrong_count(rt.alloc(), COUNTS)?.as_str(), "");
     Ok(())
 }

@@ -34,6 +34,8 @@ mod rules;
 #[cfg(test)]
 mod running;
 #[cfg(test)]
+mod scenes;
+#[cfg(test)]
 mod schemas;
 #[cfg(test)]
 mod selecting;

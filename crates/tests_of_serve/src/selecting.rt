@@ -1,338 +1,268 @@
 //! `run`: the events that a rule matches.
 
-use crate::worlds::{FOUR, Ran, check, front, run_over, still};
+use crate::scenes::{Scene, told, wrong_row};
 use sig_base::Limits;
-use std::alloc::Global;
 use std::test::Fail;
 
-const HEAD: &str =
-    "title: T\nlogsource:\n  category: process_creation\ndetection:\n  selection:\n    ";
+/// The lines of a rule, and the events.
+const SELECTED: Scene = Scene {
+    world: "",
+    words: "run r.yml",
+    files: "r.yml=title: T¶logsource:¶  category: process_creation¶detection:¶  selection:¶    ①¶",
+    events: "②",
+};
 
-const RULE: &str =
-    "title: T\nlogsource:\n  category: process_creation\ndetection:\n  selection:\n    Image: cmd.exe\n  condition: selection\n";
-
-const IMAGE: &str = "{\"fields\":[{\"name\":\"Image\",\"kind\":\"text\"}]}";
-
-const NESTED: &str = "{\"fields\":[{\"name\":\"Image\",\"kind\":\"text\",\"at\":[\"p\",\"i\"]}]}";
-
-/// Three lines of which the second is no event and the last has no line feed.
-const THREE: &str = "{\"Image\":\"CMD.EXE\"}\n7\n{\"Image\":\"cmd.exe\"}";
-
-/// Two lines that are selected.
-const TWO: &str = "{\"Image\":\"CMD.EXE\"}\n{\"Image\":\"cmd.exe\"}\n";
-
-const EVENTS: &str =
-    "{\"Image\":\"CMD.EXE\"}\n{\"Image\":\n{\"Image\":9223372036854775808}\n{\"Image\":\"a\\u0000\"}\n{\"Image\":\"x\"}\n";
-
-/// Runs the rule `r.yml` over events.
-fn run_rule(alloc: Global, limits: &Limits, rule: &str, events: &'static str) -> Result<Ran, Fail> {
-    let files: [(&str, &[u8]); 1] = [("r.yml", rule.as_bytes())];
-    let mut world = still(&files);
-    world.events = events;
-    run_over(alloc, &["run", "r.yml"], limits, world)
-}
+const SELECTIONS: &str =
+    r#"Field: ''¶  condition: selection~{"Field":""}¶{"Field":null}¶{}¶~0|{"Field":""}¶|
+Field:¶  condition: selection~{"Field":""}¶{"Field":null}¶¶{}¶~0|{"Field":null}¶{}¶|
+Image: cmd.exe¶  condition: not selection~{"Image":"CMD.exe"}¶{}~0|{}¶|
+a: 1¶  y:¶    b: 2¶  condition: selection or not y~{"b":"2"}¶{"a":1,"b":2}¶ »«¶{ }~0|{"a":1,"b":2}¶{ }¶|
+a: 1¶  y:¶    b: 2¶  condition: [selection, y]~{"b":2}¶{"a":1}¶{"a":2,"b":1}¶~0|{"b":2}¶{"a":1}¶|"#;
 
 /// A value that is empty, no value, and a rule that asks for none; texts without regard to case; no value under `not`.
 #[test]
 fn selects_events(rt: HostRuntime) -> Result<(), Fail> {
-    let cases: [(&'static str, &'static str, &'static str); 5] = [
-        (
-            "Field: ''\n  condition: selection",
-            "{\"Field\":\"\"}\n{\"Field\":null}\n{}\n",
-            "{\"Field\":\"\"}\n",
-        ),
-        (
-            "Field:\n  condition: selection",
-            "{\"Field\":\"\"}\n{\"Field\":null}\n\n{}\n",
-            "{\"Field\":null}\n{}\n",
-        ),
-        (
-            "Image: cmd.exe\n  condition: not selection",
-            "{\"Image\":\"CMD.exe\"}\n{}",
-            "{}\n",
-        ),
-        (
-            "a: 1\n  y:\n    b: 2\n  condition: selection or not y",
-            "{\"b\":\"2\"}\n{\"a\":1,\"b\":2}\n \t\r\n{ }",
-            "{\"a\":1,\"b\":2}\n{ }\n",
-        ),
-        (
-            "a: 1\n  y:\n    b: 2\n  condition: [selection, y]",
-            "{\"b\":2}\n{\"a\":1}\n{\"a\":2,\"b\":1}\n",
-            "{\"b\":2}\n{\"a\":1}\n",
-        ),
-    ];
-    for (lines, events, out) in cases {
-        let rule = format!(in rt.alloc(); "{HEAD}{lines}\n")?;
-        let run = run_rule(rt.alloc(), &Limits::standard(), rule.as_str(), events)?;
-        check(&rt, &run, 0, out, "");
-    }
+    assert_eq!(rt;
+        wrong_row(rt.alloc(), &Limits::standard(), SELECTED, SELECTIONS)?.as_str(),
+        ""
+    );
     Ok(())
+}
+
+const LINES: Scene = Scene {
+    world: "",
+    words: "run r.yml",
+    files: "r.yml=title: T¶logsource:¶  category: process_creation¶detection:¶  selection:¶    Image: cmd.exe¶  condition: selection¶",
+    events: r#"{"Image":"CMD.EXE"}¶{"Image":¶{"Image":9223372036854775808}¶{"Image":"a\u0000"}¶{"Image":"x"}¶"#,
+};
+
+const LONG: Scene = Scene {
+    world: "",
+    words: "run r.yml",
+    files: "r.yml=title: T¶logsource:¶  category: process_creation¶detection:¶  selection:¶    Image: cmd.exe¶  condition: selection¶",
+    events: r#"{}¶{"Image":1}¶{}¶"#,
+};
+
+/// Events of at most 30 bytes.
+fn few_bytes() -> Limits {
+    let mut limits = Limits::standard();
+    limits.events_bytes = 30;
+    limits
+}
+
+/// Events of at most 30 bytes, and lines of at most 8.
+fn short_lines() -> Limits {
+    let mut limits = Limits::standard();
+    limits.events_bytes = 30;
+    limits.line_bytes = 8;
+    limits
 }
 
 /// Lines that are no event of the schema have their line each, and the others are answered.
 #[test]
 fn refuses_lines(rt: HostRuntime) -> Result<(), Fail> {
-    let mut limits = Limits::standard();
-    check(
-        &rt,
-        &run_rule(rt.alloc(), &limits, RULE, EVENTS)?,
-        1,
-        "{\"Image\":\"CMD.EXE\"}\n",
-        "events:2: 25 EventJson\nevents:3: 27 EventRange\nevents:4: 28 EventNul\n",
+    let alloc = rt.alloc();
+    assert_eq!(rt;
+        told(alloc, &Limits::standard(), LINES, "", "")?.as_str(),
+        r#"1|{"Image":"CMD.EXE"}¶|events:2: 25 EventJson¶events:3: 27 EventRange¶events:4: 28 EventNul¶"#
     );
-    limits.events_bytes = 30;
-    check(
-        &rt,
-        &run_rule(rt.alloc(), &limits, RULE, EVENTS)?,
-        1,
-        "{\"Image\":\"CMD.EXE\"}\n",
-        "events:2: 25 EventJson\nevents:3: 31 TooMuch\n",
+    assert_eq!(rt;
+        told(alloc, &few_bytes(), LINES, "", "")?.as_str(),
+        r#"1|{"Image":"CMD.EXE"}¶|events:2: 25 EventJson¶events:3: 31 TooMuch¶"#
     );
-    limits.line_bytes = 8;
-    check(
-        &rt,
-        &run_rule(rt.alloc(), &limits, RULE, "{}\n{\"Image\":1}\n{}\n")?,
-        1,
-        "",
-        "events:2: 30 LineTooLong\n",
+    assert_eq!(rt;
+        told(alloc, &short_lines(), LONG, "", "")?.as_str(),
+        "1||events:2: 30 LineTooLong¶"
     );
     Ok(())
 }
 
+const UNREAD: Scene = Scene {
+    world: "unread=1",
+    words: "run r.yml",
+    files: "r.yml=①",
+    events: r#"{"Image":"CMD.EXE"}¶{"Image":¶{"Image":9223372036854775808}¶{"Image":"a\u0000"}¶{"Image":"x"}¶"#,
+};
+
+/// The file of the rule, and what is told.
+const NOT_RUN: &str =
+    r#"title: "cut¶---¶a:¶»b: 1¶---¶a: 1¶a: 2¶---¶a: &x 1¶~1||r.yml:4:1: 84 NotOneRule¶
+# none¶~1||r.yml:1:1: 84 NotOneRule¶
+a: "b¶~1||r.yml:1:1: 4 Syntax¶
+a: b¶---¶a: b¶~1||r.yml:3:1: 84 NotOneRule¶
+title: T¶correlation:¶  type: event_count¶~1||r.yml:1:1: 146 CorrelationHere¶
+title: T¶~1||r.yml:1:1: 70 MissingKey¶
+title: T¶logsource:¶  product: p¶detection:¶  s: [x]¶  condition: s¶~1||r.yml:5:7: 83 NoSearchField¶
+title: T¶logsource:¶  product: p¶detection:¶  k: [x]¶  s:¶    User: a¶    user: b¶  condition: s¶~1||r.yml:8:5: 80 KindConflict¶"#;
+
 /// What no rule is read of ends the run, and no event is read: the first read would fail.
 #[test]
 fn refuses_what_is_not_run(rt: HostRuntime) -> Result<(), Fail> {
-    let cases: [(&str, &str); 8] = [
-        (FOUR, "r.yml:4:1: 84 NotOneRule\n"),
-        ("# none\n", "r.yml:1:1: 84 NotOneRule\n"),
-        ("a: \"b\n", "r.yml:1:1: 4 Syntax\n"),
-        ("a: b\n---\na: b\n", "r.yml:3:1: 84 NotOneRule\n"),
-        (
-            "title: T\ncorrelation:\n  type: event_count\n",
-            "r.yml:1:1: 146 CorrelationHere\n",
-        ),
-        ("title: T\n", "r.yml:1:1: 70 MissingKey\n"),
-        (
-            "title: T\nlogsource:\n  product: p\ndetection:\n  s: [x]\n  condition: s\n",
-            "r.yml:5:7: 83 NoSearchField\n",
-        ),
-        (
-            "title: T\nlogsource:\n  product: p\ndetection:\n  k: [x]\n  s:\n    User: a\n    user: b\n  condition: s\n",
-            "r.yml:8:5: 80 KindConflict\n",
-        ),
-    ];
-    for (rule, err) in cases {
-        let files: [(&str, &[u8]); 1] = [("r.yml", rule.as_bytes())];
-        let mut world = still(&files);
-        world.events = EVENTS;
-        world.unread = 1;
-        let run = run_over(rt.alloc(), &["run", "r.yml"], &Limits::standard(), world)?;
-        check(&rt, &run, 1, "", err);
-    }
+    assert_eq!(rt;
+        wrong_row(rt.alloc(), &Limits::standard(), UNREAD, NOT_RUN)?.as_str(),
+        ""
+    );
     Ok(())
+}
+
+const WHOLE: Scene = Scene {
+    world: "unread=1",
+    words: "run r.yml",
+    files: "r.yml=①",
+    events: r#"{"Image":"CMD.EXE"}¶{"Image":"cmd.exe"}¶"#,
+};
+
+const REFUSED: &str = r#"a: "b¶---¶c: "ÿ~1||r.yml:3:5: 1 NotUtf8¶
+a: "b¶---¶c: "de¶~1||r.yml:1:1: 2 TooLarge¶
+"¶---¶"¶---¶"¶~1||r.yml:5:1: 7 TooManyDocuments¶"#;
+
+/// At most 16 bytes and two documents.
+fn small() -> Limits {
+    let mut limits = Limits::standard();
+    limits.file_bytes = 16;
+    limits.documents = 2;
+    limits
 }
 
 /// Files that are refused as a whole have that line alone, and no event is read.
 #[test]
 fn refuses_whole_files(rt: HostRuntime) -> Result<(), Fail> {
-    let mut limits = Limits::standard();
-    limits.file_bytes = 16;
-    limits.documents = 2;
-    let cases: [(&[u8], &str); 3] = [
-        (b"a: \"b\n---\nc: \"\xFF", "r.yml:3:5: 1 NotUtf8\n"),
-        (b"a: \"b\n---\nc: \"de\n", "r.yml:1:1: 2 TooLarge\n"),
-        (b"\"\n---\n\"\n---\n\"\n", "r.yml:5:1: 7 TooManyDocuments\n"),
-    ];
-    for (bytes, err) in cases {
-        let files: [(&str, &[u8]); 1] = [("r.yml", bytes)];
-        let mut world = still(&files);
-        world.events = TWO;
-        world.unread = 1;
-        let run = run_over(rt.alloc(), &["run", "r.yml"], &limits, world)?;
-        check(&rt, &run, 1, "", err);
-    }
-    Ok(())
-}
-
-/// Behind a schema that is refused nothing is read: neither the rule nor the events, which couldn't be.
-#[test]
-fn reads_nothing_behind_a_refused_schema(rt: HostRuntime) -> Result<(), Fail> {
-    for (shelf, unread) in [(2, 0), (0, 1), (2, 1)] {
-        let files: [(&str, &[u8]); 2] = [("s.json", b"{"), ("r.yml", RULE.as_bytes())];
-        let mut world = still(&files);
-        world.events = TWO;
-        world.shelf = shelf;
-        world.unread = unread;
-        let words = ["run", "--schema", "s.json", "r.yml"];
-        let run = run_over(rt.alloc(), &words, &Limits::standard(), world)?;
-        check(&rt, &run, 1, "", "s.json:1:1: 20 SchemaJson\n");
-    }
-    Ok(())
-}
-
-/// Runs the rule over events under this schema.
-fn run_under(alloc: Global, schema: &str, events: &'static str) -> Result<Ran, Fail> {
-    let files: [(&str, &[u8]); 2] = [("s.json", schema.as_bytes()), ("r.yml", RULE.as_bytes())];
-    let mut world = still(&files);
-    world.events = events;
-    let words = ["run", "--schema", "s.json", "r.yml"];
-    run_over(alloc, &words, &Limits::standard(), world)
-}
-
-/// The events are read through the schema that is named.
-#[test]
-fn runs_under_a_schema(rt: HostRuntime) -> Result<(), Fail> {
-    let cases: [(&'static str, &'static str, u8, &'static str, &'static str); 4] = [
-        (
-            IMAGE,
-            "{\"Image\":\"CMD.EXE\"}\n{}\n{\"Image\":\"x\"}\n{\"Image\":\"cmd.exe\"}\n",
-            0,
-            "{\"Image\":\"CMD.EXE\"}\n{\"Image\":\"cmd.exe\"}\n",
-            "",
-        ),
-        (
-            NESTED,
-            "{\"Image\":\"cmd.exe\"}\n{\"p\":{\"i\":\"cmd.exe\"}}\n",
-            0,
-            "{\"p\":{\"i\":\"cmd.exe\"}}\n",
-            "",
-        ),
-        (
-            "{\"fields\":[{\"name\":\"User\",\"kind\":\"text\"}]}",
-            "{}\n",
-            1,
-            "",
-            "r.yml:6:5: 81 UnknownField\n",
-        ),
-        ("{", "{}\n", 1, "", "s.json:1:1: 20 SchemaJson\n"),
-    ];
-    for (schema, events, code, out, err) in cases {
-        check(&rt, &run_under(rt.alloc(), schema, events)?, code, out, err);
-    }
-    Ok(())
-}
-
-/// A keyword over the fields that it searches, a number, and a field of several values.
-#[test]
-fn runs_over_fields_of_each_kind(rt: HostRuntime) -> Result<(), Fail> {
-    let schema =
-        b"{\"fields\":[{\"name\":\"Image\",\"kind\":\"text\",\"search\":true},{\"name\":\"Id\",\"kind\":\"whole\"},{\"name\":\"Tags\",\"kind\":\"text\",\"many\":true}]}".as_slice();
-    let rule =
-        b"title: T\nlogsource:\n  product: p\ndetection:\n  w: ['*who*']\n  n:\n    Id: 7\n  m:\n    Tags: b\n  condition: w or n or m\n".as_slice();
-    let files: [(&str, &[u8]); 2] = [("s.json", schema), ("r.yml", rule)];
-    let mut world = still(&files);
-    world.events =
-        "{\"Image\":\"c:whoami\"}\n{\"Id\":7}\n{\"Id\":\"7\"}\n{\"Id\":8}\n{\"Tags\":[\"a\",\"B\"]}\n{\"Tags\":[\"a\",\"who\"]}\n{\"Id\":\"x\"}\n";
-    let words = ["run", "--schema", "s.json", "r.yml"];
-    let run = run_over(rt.alloc(), &words, &Limits::standard(), world)?;
-    check(
-        &rt,
-        &run,
-        1,
-        "{\"Image\":\"c:whoami\"}\n{\"Id\":7}\n{\"Id\":\"7\"}\n{\"Tags\":[\"a\",\"B\"]}\n",
-        "events:7: 26 EventKind\n",
+    assert_eq!(rt;
+        wrong_row(rt.alloc(), &small(), WHOLE, REFUSED)?.as_str(),
+        ""
     );
     Ok(())
 }
 
-/// Runs the rule over the three lines in pieces of 8 bytes; this read of them fails (0: none).
-fn run_three(alloc: Global, unread: u64) -> Result<Ran, Fail> {
-    let files: [(&str, &[u8]); 1] = [("r.yml", RULE.as_bytes())];
-    let mut world = still(&files);
-    world.events = THREE;
-    world.read = 8;
-    world.unread = unread;
-    run_over(alloc, &["run", "r.yml"], &Limits::standard(), world)
+const NO_SCHEMA: Scene = Scene {
+    world: "①",
+    words: "run --schema s.json r.yml",
+    files: "s.json={§r.yml=title: T¶logsource:¶  category: process_creation¶detection:¶  selection:¶    Image: cmd.exe¶  condition: selection¶",
+    events: r#"{"Image":"CMD.EXE"}¶{"Image":"cmd.exe"}¶"#,
+};
+
+const BEHIND_SCHEMA: &str = "shelf=2~1||s.json:1:1: 20 SchemaJson¶
+unread=1~1||s.json:1:1: 20 SchemaJson¶
+shelf=2 unread=1~1||s.json:1:1: 20 SchemaJson¶";
+
+/// Behind a schema that is refused nothing is read: neither the rule nor the events, which couldn't be.
+#[test]
+fn reads_nothing_behind_a_refused_schema(rt: HostRuntime) -> Result<(), Fail> {
+    assert_eq!(rt;
+        wrong_row(rt.alloc(), &Limits::standard(), NO_SCHEMA, BEHIND_SCHEMA)?.as_str(),
+        ""
+    );
+    Ok(())
 }
+
+const UNDER: Scene = Scene {
+    world: "",
+    words: "run --schema s.json r.yml",
+    files: "s.json=①§r.yml=title: T¶logsource:¶  category: process_creation¶detection:¶  selection:¶    Image: cmd.exe¶  condition: selection¶",
+    events: "②",
+};
+
+/// The schema, the events, and what is told.
+const SCHEMAS: &str =
+    r#"{"fields":[{"name":"Image","kind":"text"}]}~{"Image":"CMD.EXE"}¶{}¶{"Image":"x"}¶{"Image":"cmd.exe"}¶~0|{"Image":"CMD.EXE"}¶{"Image":"cmd.exe"}¶|
+{"fields":[{"name":"Image","kind":"text","at":["p","i"]}]}~{"Image":"cmd.exe"}¶{"p":{"i":"cmd.exe"}}¶~0|{"p":{"i":"cmd.exe"}}¶|
+{"fields":[{"name":"User","kind":"text"}]}~{}¶~1||r.yml:6:5: 81 UnknownField¶
+{~{}¶~1||s.json:1:1: 20 SchemaJson¶"#;
+
+/// The events are read through the schema that is named.
+#[test]
+fn runs_under_a_schema(rt: HostRuntime) -> Result<(), Fail> {
+    assert_eq!(rt;
+        wrong_row(rt.alloc(), &Limits::standard(), UNDER, SCHEMAS)?.as_str(),
+        ""
+    );
+    Ok(())
+}
+
+const KINDS: Scene = Scene {
+    world: "",
+    words: "run --schema s.json r.yml",
+    files: r#"s.json={"fields":[{"name":"Image","kind":"text","search":true},{"name":"Id","kind":"whole"},{"name":"Tags","kind":"text","many":true}]}§r.yml=title: T¶logsource:¶  product: p¶detection:¶  w: ['*who*']¶  n:¶    Id: 7¶  m:¶    Tags: b¶  condition: w or n or m¶"#,
+    events: r#"{"Image":"c:whoami"}¶{"Id":7}¶{"Id":"7"}¶{"Id":8}¶{"Tags":["a","B"]}¶{"Tags":["a","who"]}¶{"Id":"x"}¶"#,
+};
+
+/// A keyword over the fields that it searches, a number, and a field of several values.
+#[test]
+fn runs_over_fields_of_each_kind(rt: HostRuntime) -> Result<(), Fail> {
+    assert_eq!(rt;
+        told(rt.alloc(), &Limits::standard(), KINDS, "", "")?.as_str(),
+        r#"1|{"Image":"c:whoami"}¶{"Id":7}¶{"Id":"7"}¶{"Tags":["a","B"]}¶|events:7: 26 EventKind¶"#
+    );
+    Ok(())
+}
+
+/// Three lines of which the second is no event and the last has no line feed.
+const READS: Scene = Scene {
+    world: "①",
+    words: "run r.yml",
+    files: "r.yml=title: T¶logsource:¶  category: process_creation¶detection:¶  selection:¶    Image: cmd.exe¶  condition: selection¶",
+    events: r#"{"Image":"CMD.EXE"}¶7¶{"Image":"cmd.exe"}"#,
+};
+
+const READ: &str = r#"read=8 unread=1~3||sigma: cannot read events¶
+read=8 unread=2~3||sigma: cannot read events¶
+read=8 unread=3~3||sigma: cannot read events¶
+read=8 unread=4~3|{"Image":"CMD.EXE"}¶|events:2: 25 EventJson¶sigma: cannot read events¶
+read=8 unread=5~3|{"Image":"CMD.EXE"}¶|events:2: 25 EventJson¶sigma: cannot read events¶
+read=8 unread=6~3|{"Image":"CMD.EXE"}¶|events:2: 25 EventJson¶sigma: cannot read events¶
+read=8 unread=7~3|{"Image":"CMD.EXE"}¶|events:2: 25 EventJson¶sigma: cannot read events¶
+read=8 unread=8~1|{"Image":"CMD.EXE"}¶{"Image":"cmd.exe"}¶|events:2: 25 EventJson¶
+read=8 unread=0~1|{"Image":"CMD.EXE"}¶{"Image":"cmd.exe"}¶|events:2: 25 EventJson¶"#;
 
 /// Some read of the events fails: what stands belongs to the lines whose line feed had come.
 #[test]
 fn stands_before_a_read_that_fails(rt: HostRuntime) -> Result<(), Fail> {
-    let cases: [(u64, u8, &str, &str); 9] = [
-        (1, 3, "", "sigma: cannot read events\n"),
-        (2, 3, "", "sigma: cannot read events\n"),
-        (3, 3, "", "sigma: cannot read events\n"),
-        (
-            4,
-            3,
-            "{\"Image\":\"CMD.EXE\"}\n",
-            "events:2: 25 EventJson\nsigma: cannot read events\n",
-        ),
-        (
-            5,
-            3,
-            "{\"Image\":\"CMD.EXE\"}\n",
-            "events:2: 25 EventJson\nsigma: cannot read events\n",
-        ),
-        (
-            6,
-            3,
-            "{\"Image\":\"CMD.EXE\"}\n",
-            "events:2: 25 EventJson\nsigma: cannot read events\n",
-        ),
-        (
-            7,
-            3,
-            "{\"Image\":\"CMD.EXE\"}\n",
-            "events:2: 25 EventJson\nsigma: cannot read events\n",
-        ),
-        (
-            8,
-            1,
-            "{\"Image\":\"CMD.EXE\"}\n{\"Image\":\"cmd.exe\"}\n",
-            "events:2: 25 EventJson\n",
-        ),
-        (
-            0,
-            1,
-            "{\"Image\":\"CMD.EXE\"}\n{\"Image\":\"cmd.exe\"}\n",
-            "events:2: 25 EventJson\n",
-        ),
-    ];
-    for (unread, code, out, err) in cases {
-        check(&rt, &run_three(rt.alloc(), unread)?, code, out, err);
-    }
+    assert_eq!(rt;
+        wrong_row(rt.alloc(), &Limits::standard(), READS, READ)?.as_str(),
+        ""
+    );
     Ok(())
 }
 
-/// Runs the rule over the two lines with writes of 10 bytes; this write of the output fails.
-fn run_two(alloc: Global, call: u64) -> Result<Ran, Fail> {
-    let files: [(&str, &[u8]); 1] = [("r.yml", RULE.as_bytes())];
-    let mut world = still(&files);
-    world.events = TWO;
-    world.piece = 10;
-    world.out = call;
-    run_over(alloc, &["run", "r.yml"], &Limits::standard(), world)
-}
+/// Two lines that are selected.
+const WRITES: Scene = Scene {
+    world: "piece=10 out=①",
+    words: "run r.yml",
+    files: "r.yml=title: T¶logsource:¶  category: process_creation¶detection:¶  selection:¶    Image: cmd.exe¶  condition: selection¶",
+    events: r#"{"Image":"CMD.EXE"}¶{"Image":"cmd.exe"}¶"#,
+};
+
+const WRITTEN: &str = r#"1~4||
+2~4|{"Image":"|
+3~4|{"Image":"CMD.EXE"}¶|
+4~4|{"Image":"CMD.EXE"}¶{"Image":"|"#;
 
 /// A write that fails ends the run: what stands is a front.
 #[test]
 fn stands_before_a_write_that_fails(rt: HostRuntime) -> Result<(), Fail> {
-    for (call, kept) in [(1, 0), (2, 10), (3, 20), (4, 30)] {
-        let run = run_two(rt.alloc(), call)?;
-        assert_eq!(rt; run.out.as_slice(), front(TWO, kept));
-        assert_eq!(rt; run.status.code(), 4);
-    }
+    assert_eq!(rt;
+        wrong_row(rt.alloc(), &Limits::standard(), WRITES, WRITTEN)?.as_str(),
+        ""
+    );
     Ok(())
 }
+
+const UNTOLD: Scene = Scene {
+    world: "read=8 unread=4 piece=10 err=①",
+    words: "run r.yml",
+    files: "r.yml=title: T¶logsource:¶  category: process_creation¶detection:¶  selection:¶    Image: cmd.exe¶  condition: selection¶",
+    events: r#"{"Image":"CMD.EXE"}¶7¶{"Image":"cmd.exe"}"#,
+};
+
+const CUT: &str = r#"4~4|{"Image":"CMD.EXE"}¶|events:2: 25 EventJson¶
+5~4|{"Image":"CMD.EXE"}¶|events:2: 25 EventJson¶sigma: can"#;
 
 /// A read of the events fails and then the diagnostic about it: all before it stands.
 #[test]
 fn stands_before_events_that_cannot_be_told_of(rt: HostRuntime) -> Result<(), Fail> {
-    for (call, err) in [
-        (4, "events:2: 25 EventJson\n"),
-        (5, "events:2: 25 EventJson\nsigma: can"),
-    ] {
-        let files: [(&str, &[u8]); 1] = [("r.yml", RULE.as_bytes())];
-        let mut world = still(&files);
-        world.events = THREE;
-        world.read = 8;
-        world.unread = 4;
-        world.piece = 10;
-        world.err = call;
-        let run = run_over(rt.alloc(), &["run", "r.yml"], &Limits::standard(), world)?;
-        check(&rt, &run, 4, "{\"Image\":\"CMD.EXE\"}\n", err);
-    }
+    assert_eq!(rt;
+        wrong_row(rt.alloc(), &Limits::standard(), UNTOLD, CUT)?.as_str(),
+        ""
+    );
     Ok(())
 }

@@ -4,22 +4,12 @@ use languages::CrateBuilder;
 use sig_base::{Bytes, Limits, MemoryShelf, MemorySink, MemorySource, Text};
 use sigma_serve::{Status, serve};
 use std::alloc::Global;
-use std::process::Abort;
 use std::test::Fail;
 
-/// Four documents, each of which is refused: a quote that isn't closed, a tab in the indentation, a key that
-/// stands twice, and an anchor.
-pub const FOUR: &str = "title: \"cut\n---\na:\n\tb: 1\n---\na: 1\na: 2\n---\na: &x 1\n";
-
-pub const FOUR_LINES: &str =
-    "b.yml:1:1: 4 Syntax\nb.yml:4:1: 8 Tab\nb.yml:7:1: 5 DuplicateKey\nb.yml:9:4: 3 Unsupported\n";
-
-/// The files and the events, which call of the shelf, of the events, of the output, of the error output and of the builder fails
-/// (0: none), how many bytes one read and one write take, and for how many each output has room.
+/// Which call of the shelf, of the events, of the output, of the error output and of the builder fails (0: none), how many bytes one read
+/// and one write take, and for how many each output has room.
 #[derive(Clone, Copy)]
-pub struct World<'a> {
-    pub files: &'a [(&'a str, &'a [u8])],
-    pub events: &'static str,
+pub struct World {
     pub shelf: u64,
     pub unread: u64,
     pub out: u64,
@@ -45,10 +35,63 @@ pub fn words_of(alloc: Global, words: &[&str]) -> Result<Vec<Text>, Fail> {
     Ok(all)
 }
 
-fn files_of(alloc: Global, files: &[(&str, &[u8])]) -> Result<Vec<(Text, Bytes)>, Fail> {
+/// A word, with a blank for each `␣`, and without the `∅` that stands for a word that is empty.
+fn word_in(alloc: Global, text: &str) -> Result<Text, Fail> {
+    let word = text.replace(alloc, "␣", " ")?;
+    let word = word.as_str().replace(alloc, "∅", "")?;
+    Ok(Text::copy(alloc, word.as_str())?)
+}
+
+/// The words of a text, with blanks between; none where it's empty.
+fn words_in(alloc: Global, text: &str) -> Result<Vec<Text>, Fail> {
     let mut all = Vec::new(alloc);
-    for (name, bytes) in files {
-        all.push((Text::copy(alloc, name)?, Bytes::copy(alloc, bytes)?))?;
+    if text.is_empty() {
+        return Ok(all);
+    }
+    for word in text.split(' ') {
+        all.push(word_in(alloc, word)?)?;
+    }
+    Ok(all)
+}
+
+/// A text with a tab for each `»` and a carriage return for each `«`. It answers a copy: what `replace` answers itself takes the prover longer.
+fn spaced(alloc: Global, text: &str) -> Result<String, Fail> {
+    let tabs = text.replace(alloc, "»", "\t")?;
+    let ends = tabs.as_str().replace(alloc, "«", "\r")?;
+    Ok(String::from_str(alloc, ends.as_str())?)
+}
+
+/// A text with a line feed for each `¶`, and these signs.
+fn written(alloc: Global, text: &str) -> Result<String, Fail> {
+    let lines = text.replace(alloc, "¶", "\n")?;
+    spaced(alloc, lines.as_str())
+}
+
+/// The bytes of a text that is written with these signs, with the byte 255 for each `ÿ`.
+fn bytes_in(alloc: Global, text: &str) -> Result<Bytes, Fail> {
+    let mut all = Vec::new(alloc);
+    let mut parts = text.split('ÿ');
+    if let Some(part) = parts.next() {
+        all.extend_from_slice(written(alloc, part)?.as_bytes())?;
+    }
+    for part in parts {
+        all.push(255)?;
+        all.extend_from_slice(written(alloc, part)?.as_bytes())?;
+    }
+    Ok(Bytes::from_vec(all))
+}
+
+/// The files of a text, each `name=bytes`, with `§` between; none where it's empty.
+fn files_in(alloc: Global, text: &str) -> Result<Vec<(Text, Bytes)>, Fail> {
+    let mut all = Vec::new(alloc);
+    if text.is_empty() {
+        return Ok(all);
+    }
+    for file in text.split('§') {
+        let Some((name, bytes)) = file.split_once('=') else {
+            return Err(Fail::new("no file"));
+        };
+        all.push((Text::copy(alloc, name)?, bytes_in(alloc, bytes)?))?;
     }
     Ok(all)
 }
@@ -61,7 +104,7 @@ fn ordinals(alloc: Global, call: u64) -> Result<Vec<u64>, Fail> {
     Ok(all)
 }
 
-fn sink_of(alloc: Global, world: World<'_>, call: u64) -> Result<MemorySink, Fail> {
+fn sink_of(alloc: Global, world: World, call: u64) -> Result<MemorySink, Fail> {
     Ok(MemorySink::new(
         alloc,
         world.room,
@@ -70,49 +113,53 @@ fn sink_of(alloc: Global, world: World<'_>, call: u64) -> Result<MemorySink, Fai
     )?)
 }
 
-/// Runs the words over the files of a world.
-pub fn run_over(
+fn shelf_of(alloc: Global, files: &str, call: u64) -> Result<MemoryShelf, Fail> {
+    let files = files_in(alloc, files)?;
+    Ok(MemoryShelf::new(alloc, files, ordinals(alloc, call)?))
+}
+
+fn source_of(alloc: Global, events: &str, read: usize, call: u64) -> Result<MemorySource, Fail> {
+    let events = bytes_in(alloc, events)?;
+    Ok(MemorySource::new(events, read.max(1), ordinals(alloc, call)?))
+}
+
+fn ran_of(alloc: Global, status: Status, out: &[u8], err: &[u8]) -> Result<Ran, Fail> {
+    let out = Vec::from_slice(alloc, out)?;
+    let err = Vec::from_slice(alloc, err)?;
+    Ok(Ran { status, out, err })
+}
+
+/// Runs words over files and events, which are texts with signs, in a world.
+pub fn run_in(
     alloc: Global,
-    words: &[&str],
     limits: &Limits,
-    world: World<'_>,
+    world: World,
+    words: &str,
+    files: &str,
+    events: &str,
 ) -> Result<Ran, Fail> {
-    let words = words_of(alloc, words)?;
-    let mut shelf = MemoryShelf::new(
-        alloc,
-        files_of(alloc, world.files)?,
-        ordinals(alloc, world.shelf)?,
-    );
-    let mut events = MemorySource::new(
-        Bytes::copy(alloc, world.events.as_bytes())?,
-        world.read.max(1),
-        ordinals(alloc, world.unread)?,
-    );
+    let mut builder = CrateBuilder::new(alloc, ordinals(alloc, world.unbuilt)?);
+    let words = words_in(alloc, words)?;
+    let mut shelf = shelf_of(alloc, files, world.shelf)?;
+    let mut source = source_of(alloc, events, world.read, world.unread)?;
     let mut out = sink_of(alloc, world, world.out)?;
     let mut err = sink_of(alloc, world, world.err)?;
-    let mut builder = CrateBuilder::new(alloc, ordinals(alloc, world.unbuilt)?);
     let status = serve(
         alloc,
         words.as_slice(),
         limits,
         &mut shelf,
-        &mut events,
+        &mut source,
         &mut out,
         &mut err,
         &mut builder,
     );
-    Ok(Ran {
-        status,
-        out: Vec::from_slice(alloc, out.taken())?,
-        err: Vec::from_slice(alloc, err.taken())?,
-    })
+    ran_of(alloc, status, out.taken(), err.taken())
 }
 
 /// A world in which nothing fails.
-pub fn still<'a>(files: &'a [(&'a str, &'a [u8])]) -> World<'a> {
+pub fn still() -> World {
     World {
-        files,
-        events: "",
         shelf: 0,
         unread: 0,
         out: 0,
@@ -122,17 +169,4 @@ pub fn still<'a>(files: &'a [(&'a str, &'a [u8])]) -> World<'a> {
         piece: 4096,
         room: 4096,
     }
-}
-
-/// Asserts the exit code, the output and the error output of a run.
-pub fn check(rt: &impl Abort, ran: &Ran, code: u8, out: &str, err: &str) {
-    assert_eq!(rt; ran.out.as_slice(), out.as_bytes());
-    assert_eq!(rt; ran.err.as_slice(), err.as_bytes());
-    assert_eq!(rt; ran.status.code(), code);
-}
-
-/// The first `count` bytes of a text of ASCII.
-pub fn front<'a>(text: &'a str, count: usize) -> &'a [u8] {
-    let bytes = text.as_bytes();
-    bytes.split_at(count.min(bytes.len())).0
 }

@@ -14,6 +14,8 @@ mod patterns;
 #[cfg(test)]
 mod reading;
 #[cfg(test)]
+mod trees;
+#[cfg(test)]
 mod values;
 #[cfg(test)]
 mod writing;

@@ -1,44 +1,59 @@
 //! Which texts LIKE and GLOB patterns take, by hand.
 
 use sql_patterns::{is_glob, is_like};
+use std::alloc::Global;
 use std::test::Fail;
 
-#[test]
-fn like_takes_runs_and_single_characters_in_any_case(rt: HostRuntime) -> Result<(), Fail> {
-    for (pattern, text, want) in [
-        ("cmd%", "CMD.exe", true),
-        ("%\\%\\_x%", "a%_Xb", true),
-        ("%\\%\\_x%", "a%yx", false),
-        ("a%b%c", "AxxBByC", true),
-        ("a%b%c", "acb", false),
-        ("_", "é", true),
-        ("_", "", false),
-        ("É", "é", false),
-        ("%", "", true),
-        ("\\\\", "\\", true),
-    ] {
-        assert_eq!(rt;
-            is_like(pattern, Some('\\'), text),
-            want,
-            "{text} LIKE {pattern}"
-        );
+/// Whether a text is taken, written in front of a pattern.
+const LIKE: &str = r"yes~CMD.exe~cmd%
+yes~a%_Xb~%\%\_x%
+no~a%yx~%\%\_x%
+yes~AxxBByC~a%b%c
+no~acb~a%b%c
+yes~é~_
+no~~_
+no~é~É
+yes~~%
+yes~\~\\";
+
+const GLOB: &str = r"no~cmd.exe~CMD*
+yes~a*b~*[*]?
+no~a*~*[*]?
+yes~[%~[[]%
+no~x~[?]
+yes~C:\x.exe~*.exe
+yes~]~]";
+
+fn shown(taken: bool) -> &'static str {
+    if taken { "yes" } else { "no" }
+}
+
+/// The first row of a table, `yes or no~text~pattern`, that isn't so of LIKE with a backslash, or of GLOB.
+fn wrong_row(alloc: Global, glob: bool, table: &'static str) -> Result<String, Fail> {
+    for row in table.lines() {
+        let Some((want, rest)) = row.split_once('~') else {
+            return Ok(format!(in alloc; "no row: {row}")?);
+        };
+        let Some((text, pattern)) = rest.split_once('~') else {
+            return Ok(String::from_str(alloc, row)?);
+        };
+        let taken = if glob {
+            is_glob(pattern, text)
+        } else {
+            is_like(pattern, Some('\\'), text)
+        };
+        if shown(taken) != want {
+            return Ok(String::from_str(alloc, row)?);
+        }
     }
-    assert!(rt; is_like("a\\", None, "A\\"));
-    Ok(())
+    Ok(String::new(alloc))
 }
 
 #[test]
-fn glob_takes_runs_and_single_characters_by_case(rt: HostRuntime) -> Result<(), Fail> {
-    for (pattern, text, want) in [
-        ("CMD*", "cmd.exe", false),
-        ("*[*]?", "a*b", true),
-        ("*[*]?", "a*", false),
-        ("[[]%", "[%", true),
-        ("[?]", "x", false),
-        ("*.exe", "C:\\x.exe", true),
-        ("]", "]", true),
-    ] {
-        assert_eq!(rt; is_glob(pattern, text), want, "{text} GLOB {pattern}");
-    }
+fn patterns_take_runs_and_single_characters(rt: HostRuntime) -> Result<(), Fail> {
+    let alloc = rt.alloc();
+    assert_eq!(rt; wrong_row(alloc, false, LIKE)?.as_str(), "");
+    assert!(rt; is_like("a\\", None, "A\\"));
+    assert_eq!(rt; wrong_row(alloc, true, GLOB)?.as_str(), "");
     Ok(())
 }

@@ -112,11 +112,11 @@ fn of_condition(
 }
 
 /// Whether each line `condition ~ answer` of a table is answered so; else the first condition that isn't, with its answer.
-fn first_wrong(alloc: Global, table: &str, failing: u64) -> Result<String, Fail> {
+fn first_wrong(alloc: Global, table: &'static str, failing: u64) -> Result<String, Fail> {
     let limits = Limits::standard();
     for line in table.lines() {
         let Some((condition, want)) = line.split_once(" ~ ") else {
-            return Ok(String::from_str(alloc, line)?);
+            return Ok(format!(in alloc; "no row: {line}")?);
         };
         let shown = of_condition(alloc, &limits, condition, failing)?;
         if shown.as_str() != want {
@@ -247,34 +247,51 @@ fn nested(
     of_condition(alloc, limits, all.as_str(), 0)
 }
 
+/// The first row of a table, `what is answered~how many times~a word~a text`, that isn't answered so.
+fn wrong_nest(alloc: Global, limits: &Limits, table: &'static str) -> Result<String, Fail> {
+    for row in table.lines() {
+        let Some((want, rest)) = row.split_once('~') else {
+            return Ok(format!(in alloc; "no row: {row}")?);
+        };
+        let Some((count, rest)) = rest.split_once('~') else {
+            return Ok(String::from_str(alloc, row)?);
+        };
+        let Some((word, text)) = rest.split_once('~') else {
+            return Ok(String::from_str(alloc, row)?);
+        };
+        let Ok(count) = count.parse::<usize>() else {
+            return Ok(String::from_str(alloc, row)?);
+        };
+        if nested(alloc, limits, count, word, text)?.as_str() != want {
+            return Ok(String::from_str(alloc, row)?);
+        }
+    }
+    Ok(String::new(alloc))
+}
+
+/// Within a depth of 20.
+const NESTS: &str = r#"------------------0~18~NOT ~0
+124 at 1:1~19~NOT ~"Image" IS NULL
+121 at 1:114~21~NOT ~x
+124 at 1:1~21~NOT ~'a'
+120 at 1:110~20~NOT ~'a'
+124 at 1:1~21~(~
+120 at 1:50~20~(~
+(and 1 1 1 1 1 1 1 1 1 1 1 1 1 1 1 1 1 1 1 1)~19~1 AND ~1
+124 at 1:1~20~1 AND ~1
+124 at 1:1~20~1 AND ~"Other" = 'a'"#;
+
+/// Within the standard limits.
+const DEEP_NESTS: &str = r#"124 at 1:1~1000~NOT ~"Image" IS NULL
+124 at 1:1~999~NOT ~"Image" IS NULL"#;
+
 #[test]
 fn nesting_is_bounded(rt: HostRuntime) -> Result<(), Fail> {
     let alloc = rt.alloc();
     let mut limits = Limits::standard();
-    assert_eq!(rt;
-        nested(alloc, &limits, 1000, "NOT ", "\"Image\" IS NULL")?.as_str(),
-        "124 at 1:1"
-    );
+    assert_eq!(rt; wrong_nest(alloc, &limits, DEEP_NESTS)?.as_str(), "");
     limits.sql_depth = 20;
-    for (count, word, text, want) in [
-        (18, "NOT ", "0", "------------------0"),
-        (19, "NOT ", "\"Image\" IS NULL", "124 at 1:1"),
-        (21, "NOT ", "x", "121 at 1:114"),
-        (21, "NOT ", "'a'", "124 at 1:1"),
-        (20, "NOT ", "'a'", "120 at 1:110"),
-        (21, "(", "", "124 at 1:1"),
-        (20, "(", "", "120 at 1:50"),
-        (
-            19,
-            "1 AND ",
-            "1",
-            "(and 1 1 1 1 1 1 1 1 1 1 1 1 1 1 1 1 1 1 1 1)",
-        ),
-        (20, "1 AND ", "1", "124 at 1:1"),
-        (20, "1 AND ", "\"Other\" = 'a'", "124 at 1:1"),
-    ] {
-        assert_eq!(rt; nested(alloc, &limits, count, word, text)?.as_str(), want);
-    }
+    assert_eq!(rt; wrong_nest(alloc, &limits, NESTS)?.as_str(), "");
     Ok(())
 }
 
@@ -289,22 +306,26 @@ fn is_read_in_parentheses(alloc: Global, count: usize) -> Result<bool, Fail> {
     Ok(shown.as_str() == "1")
 }
 
+/// How many bytes are shown of 998 NOTs before a test.
+fn shown_of_nots(alloc: Global) -> Result<usize, Fail> {
+    let shown = nested(alloc, &Limits::standard(), 998, "NOT ", "\"Image\" IS NULL")?;
+    Ok(shown.len())
+}
+
 #[test]
 fn what_the_limits_allow_is_read(rt: HostRuntime) -> Result<(), Fail> {
     let alloc = rt.alloc();
-    let limits = Limits::standard();
     assert!(rt; is_read_in_parentheses(alloc, 1000)?);
     assert!(rt; !is_read_in_parentheses(alloc, 1001)?);
-    let nots = nested(alloc, &limits, 998, "NOT ", "\"Image\" IS NULL")?;
-    assert_eq!(rt; nots.len(), 999);
-    let refused = nested(alloc, &limits, 999, "NOT ", "\"Image\" IS NULL")?;
-    assert_eq!(rt; refused.as_str(), "124 at 1:1");
+    assert_eq!(rt; shown_of_nots(alloc)?, 999);
     Ok(())
 }
 
-/// Whether so many parentheses side by side are read under a limit.
-fn is_read_side_by_side(alloc: Global, limits: &Limits, count: usize) -> Result<bool, Fail> {
-    let shown = nested(alloc, limits, count, "(1) OR ", "(1)")?;
+/// Whether 20 parentheses side by side are read within a depth of 25.
+fn is_read_side_by_side(alloc: Global) -> Result<bool, Fail> {
+    let mut limits = Limits::standard();
+    limits.sql_depth = 25;
+    let shown = nested(alloc, &limits, 20, "(1) OR ", "(1)")?;
     Ok(shown.as_str().starts_with("(or 1 1 "))
 }
 
@@ -322,59 +343,75 @@ fn of_groups(alloc: Global, count: usize) -> Result<String, Fail> {
     of_condition(alloc, &Limits::standard(), all.as_str(), 0)
 }
 
-#[test]
-fn what_stands_side_by_side_is_not_nested(rt: HostRuntime) -> Result<(), Fail> {
-    let alloc = rt.alloc();
-    let mut limits = Limits::standard();
-    limits.sql_depth = 25;
-    assert!(rt; is_read_side_by_side(alloc, &limits, 20)?);
-    assert_eq!(rt; of_groups(alloc, 10)?.as_str(), "t");
-    assert_eq!(rt; of_groups(alloc, 251)?.as_str(), "47 at 1:45");
+/// What is answered to a test on a text of so many letters.
+fn of_letters(alloc: Global, count: usize) -> Result<String, Fail> {
     let mut long = String::from_str(alloc, "\"Image\" = '")?;
-    for _turn in 0..50_000 {
+    for _turn in 0..count {
         long.push('a')?;
     }
     long.push('\'')?;
-    assert_eq!(rt;
-        of_condition(alloc, &limits, long.as_str(), 0)?.as_str(),
-        "t"
-    );
+    of_condition(alloc, &Limits::standard(), long.as_str(), 0)
+}
+
+#[test]
+fn what_stands_side_by_side_is_not_nested(rt: HostRuntime) -> Result<(), Fail> {
+    let alloc = rt.alloc();
+    assert!(rt; is_read_side_by_side(alloc)?);
+    assert_eq!(rt; of_groups(alloc, 10)?.as_str(), "t");
+    assert_eq!(rt; of_groups(alloc, 251)?.as_str(), "47 at 1:45");
+    assert_eq!(rt; of_letters(alloc, 50_000)?.as_str(), "t");
     Ok(())
 }
+
+/// A text of a table, with the pictures of a line feed, a tab, a carriage return, a form feed and NUL as what they show.
+fn with_controls(alloc: Global, text: &str) -> Result<String, Fail> {
+    let mut out = String::new(alloc);
+    for c in text.chars() {
+        out.push(match c {
+            '␊' => '\n',
+            '␉' => '\t',
+            '␍' => '\r',
+            '␌' => '\x0c',
+            '␀' => '\0',
+            other => other,
+        })?;
+    }
+    Ok(out)
+}
+
+/// The first row of a table, `what is answered~a whole text`, that isn't answered so.
+fn wrong_text(alloc: Global, table: &'static str) -> Result<String, Fail> {
+    let limits = Limits::standard();
+    for row in table.lines() {
+        let Some((want, text)) = row.split_once('~') else {
+            return Ok(format!(in alloc; "no row: {row}")?);
+        };
+        let text = with_controls(alloc, text)?;
+        if answer(alloc, &limits, text.as_str().as_bytes(), 0)?.as_str() != want {
+            return Ok(String::from_str(alloc, row)?);
+        }
+    }
+    Ok(String::new(alloc))
+}
+
+const TEXTS: &str = r#"120 at 1:1~
+120 at 3:6~SELECT *␊FROM "events"␊WHERE
+122 at 1:15~SELECT * FROM "other" WHERE "Image" = 'a'
+1~select * from "EVENTS" where 1 ;␊
+1~SELECT␉*␍FROM␌"events"␊WHERE 1
+121 at 2:7~SELECT * FROM "events"␊WHERE x
+122 at 2:7~SELECT * FROM "events"␊WHERE "x" = 'a'
+121 at 1:40~SELECT * FROM "events" WHERE "Image" = 'a␀b'
+120 at 1:40~SELECT * FROM "events" WHERE "Image" = 'a␀b
+122 at 1:30~SELECT * FROM "events" WHERE "Im␀age" = 'a'
+120 at 1:32~SELECT * FROM "events" WHERE 1;;
+121 at 1:8~SELECT Image FROM "events" WHERE 1"#;
 
 #[test]
 fn whole_texts_are_refused(rt: HostRuntime) -> Result<(), Fail> {
     let alloc = rt.alloc();
-    let all: [(&[u8], &str); 13] = [
-        (b"", "120 at 1:1"),
-        (b"SELECT \xff", "1 at 1:8"),
-        (b"SELECT *\nFROM \"events\"\nWHERE", "120 at 3:6"),
-        (
-            b"SELECT * FROM \"other\" WHERE \"Image\" = 'a'",
-            "122 at 1:15",
-        ),
-        (b"select * from \"EVENTS\" where 1 ;\n", "1"),
-        (b"SELECT\t*\rFROM\x0c\"events\"\nWHERE 1", "1"),
-        (b"SELECT * FROM \"events\"\nWHERE x", "121 at 2:7"),
-        (b"SELECT * FROM \"events\"\nWHERE \"x\" = 'a'", "122 at 2:7"),
-        (
-            b"SELECT * FROM \"events\" WHERE \"Image\" = 'a\0b'",
-            "121 at 1:40",
-        ),
-        (
-            b"SELECT * FROM \"events\" WHERE \"Image\" = 'a\0b",
-            "120 at 1:40",
-        ),
-        (
-            b"SELECT * FROM \"events\" WHERE \"Im\0age\" = 'a'",
-            "122 at 1:30",
-        ),
-        (b"SELECT * FROM \"events\" WHERE 1;;", "120 at 1:32"),
-        (b"SELECT Image FROM \"events\" WHERE 1", "121 at 1:8"),
-    ];
-    let limits = Limits::standard();
-    for (bytes, want) in all {
-        assert_eq!(rt; answer(alloc, &limits, bytes, 0)?.as_str(), want);
-    }
+    assert_eq!(rt; wrong_text(alloc, TEXTS)?.as_str(), "");
+    let no_text = answer(alloc, &Limits::standard(), b"SELECT \xff", 0)?;
+    assert_eq!(rt; no_text.as_str(), "1 at 1:8");
     Ok(())
 }

@@ -69,9 +69,12 @@ fn operand(alloc: Global, text: &str) -> Result<Operand, Fail> {
     if let Some(rest) = text.strip_prefix('@') {
         return Ok(Operand::Column(place(rest)));
     }
-    match value(alloc, text)? {
-        Value::Text(text) => Ok(Operand::Text(text)),
-        Value::Whole(number) => Ok(Operand::Whole(number)),
+    if let Some(rest) = text.strip_prefix('\'') {
+        return Ok(Operand::Text(Text::copy(alloc, rest)?));
+    }
+    match text.parse::<i64>() {
+        Ok(number) => Ok(Operand::Whole(number)),
+        Err(_) => Ok(Operand::Text(Text::copy(alloc, text)?)),
     }
 }
 
@@ -203,10 +206,10 @@ fn said(alloc: Global, condition: Expr, values: &str) -> Result<&'static str, Fa
 }
 
 /// The first row of a table of what is said, the event and the test that isn't so.
-fn wrong_test(alloc: Global, rows: &str) -> Result<String, Fail> {
+fn wrong_test(alloc: Global, rows: &'static str) -> Result<String, Fail> {
     for row in rows.lines() {
         let Some((want, rest)) = row.split_once('~') else {
-            return Ok(String::from_str(alloc, row)?);
+            return Ok(format!(in alloc; "no row: {row}")?);
         };
         let Some((values, words)) = rest.split_once('~') else {
             return Ok(String::from_str(alloc, row)?);
@@ -404,10 +407,10 @@ fn expression(alloc: Global, letters: &str) -> Result<Expr, Fail> {
 }
 
 /// The first row of a table of what is said, the first column's text and the expression that isn't so.
-fn wrong_expression(alloc: Global, rows: &str) -> Result<String, Fail> {
+fn wrong_expression(alloc: Global, rows: &'static str) -> Result<String, Fail> {
     for row in rows.lines() {
         let Some((want, rest)) = row.split_once('~') else {
-            return Ok(String::from_str(alloc, row)?);
+            return Ok(format!(in alloc; "no row: {row}")?);
         };
         let Some((values, letters)) = rest.split_once('~') else {
             return Ok(String::from_str(alloc, row)?);

@@ -1,5 +1,6 @@
 //! Rows of the table of chains, reckoned by hand.
 
+use crate::tables::{Asked, answer, wrong_row};
 use modifier_chains::{Chain, ChainForm, Flags, Joined, Op};
 use sig_base::{Detail, Fault, Place, Refusal, Text};
 use std::alloc::Global;
@@ -7,110 +8,110 @@ use std::test::Fail;
 
 const KEY: Place = Place { line: 6, column: 5 };
 
-/// Chains, and what is answered at a field and at a keyword: the number of a refusal with its word, or the kind of the
-/// chain and how values are joined.
-const ROWS: &str = "~bare any~texts any
-contains~texts any~texts any
-all~nulls all~texts all
-cased~nulls any~texts any
-cased|all~nulls all~texts all
-contains|startswith~41~41
-contains|all|startswith~41~41
-cased|cased~41~41
-all|contains|all~41~41
-cased|all|endswith~texts all~texts all
-near|near~40 near~40 near
-contains|startswith|near|far~40 near~40 near
-cased|~40 ~40 
-Contains~40 Contains~40 Contains
-exists~exists any~41
-exists|all~41~41
-cased|exists~41~41
-exists|exists~41~41
-exists|near~40 near~40 near
-cidr~networks any~41
-cidr|all~networks all~41
-all|cidr~41~41
-cidr|cidr~41~41
-cidr|contains~41~41
-cased|cidr~41~41
-cidr|all|all~41~41
-exists|cidr~41~41
-CIDR~40 CIDR~40 CIDR
-lt~below any~41
-lte|all~at most all~41
-gt~above any~41
-gte~at least any~41
-all|gt~41~41
-gt|lt~41~41
-gt|gt~41~41
-gt|all|all~41~41
-gte|contains~41~41
-cased|lt~41~41
-neq~40 neq~40 neq
-fieldref~reference any~41
-fieldref|all~41~41
-cased|fieldref~41~41
-fieldref|contains~41~41
-fieldref|fieldref~41~41
-gt|fieldref~41~41
-windash~texts any~texts any
-windash|contains|all~texts all~texts all
-contains|windash~texts any~texts any
-windash|cased|windash~41~41
-expand~texts any~texts any
-expand|contains|all~texts all~texts all
-contains|windash|expand|cased~texts any~texts any
-expand|contains|expand~41~41
-base64~texts any~texts any
-base64offset|contains~texts any~texts any
-contains|base64offset~41~41
-base64|base64offset~41~41
-base64|base64~41~41
-base64|windash~41~41
-base64|expand~41~41
-expand|wide|base64offset~41~41
-windash|cased|base64~41~41
-wide~41~41
-wide|base64~texts any~texts any
-utf16le|base64offset|contains~texts any~texts any
-utf16be|base64~texts any~texts any
-utf16|base64~texts any~texts any
-wide|cased|base64~41~41
-cased|wide|base64|all|contains~texts all~texts all
-base64|wide~41~41
-wide|utf16|base64~41~41
-startswith|wide|base64~41~41
-wide|contains~41~41
-base64|exists~41~41
-base64|endswith|cased~texts any~texts any
-re~expression any~expression any
-re|i~expression i any~expression i any
-re|m~expression m any~expression m any
-re|s~expression s any~expression s any
-re|s|m|i|all~expression ims all~expression ims all
-re|all|i~expression i all~expression i all
-re|s|m~expression ms any~expression ms any
-re|s|i~expression is any~expression is any
-re|m|all|i~expression im all~expression im all
-re|i|i~41~41
-re|s|all|s~41~41
-re|all|all~41~41
-re|re~41~41
-i~41~41
-i|re~41~41
-all|re~41~41
-re|contains~41~41
-re|cased~41~41
-cased|re~41~41
-re|base64~41~41
-re|i|windash~41~41
-re|expand~41~41
-expand|exists~41~41
-cidr|i~41~41
-gt|m~41~41
-re|I~40 I~40 I
-re|x~40 x~40 x";
+/// What is answered at a field and at a keyword, `at a field, at a keyword~words`: the number of a refusal with its word, or the
+/// kind of the chain and how values are joined.
+const ROWS: &str = "bare any, texts any~
+texts any, texts any~contains
+nulls all, texts all~all
+nulls any, texts any~cased
+nulls all, texts all~cased|all
+41, 41~contains|startswith
+41, 41~contains|all|startswith
+41, 41~cased|cased
+41, 41~all|contains|all
+texts all, texts all~cased|all|endswith
+40 near, 40 near~near|near
+40 near, 40 near~contains|startswith|near|far
+40 , 40 ~cased|
+40 Contains, 40 Contains~Contains
+exists any, 41~exists
+41, 41~exists|all
+41, 41~cased|exists
+41, 41~exists|exists
+40 near, 40 near~exists|near
+networks any, 41~cidr
+networks all, 41~cidr|all
+41, 41~all|cidr
+41, 41~cidr|cidr
+41, 41~cidr|contains
+41, 41~cased|cidr
+41, 41~cidr|all|all
+41, 41~exists|cidr
+40 CIDR, 40 CIDR~CIDR
+below any, 41~lt
+at most all, 41~lte|all
+above any, 41~gt
+at least any, 41~gte
+41, 41~all|gt
+41, 41~gt|lt
+41, 41~gt|gt
+41, 41~gt|all|all
+41, 41~gte|contains
+41, 41~cased|lt
+40 neq, 40 neq~neq
+reference any, 41~fieldref
+41, 41~fieldref|all
+41, 41~cased|fieldref
+41, 41~fieldref|contains
+41, 41~fieldref|fieldref
+41, 41~gt|fieldref
+texts any, texts any~windash
+texts all, texts all~windash|contains|all
+texts any, texts any~contains|windash
+41, 41~windash|cased|windash
+texts any, texts any~expand
+texts all, texts all~expand|contains|all
+texts any, texts any~contains|windash|expand|cased
+41, 41~expand|contains|expand
+texts any, texts any~base64
+texts any, texts any~base64offset|contains
+41, 41~contains|base64offset
+41, 41~base64|base64offset
+41, 41~base64|base64
+41, 41~base64|windash
+41, 41~base64|expand
+41, 41~expand|wide|base64offset
+41, 41~windash|cased|base64
+41, 41~wide
+texts any, texts any~wide|base64
+texts any, texts any~utf16le|base64offset|contains
+texts any, texts any~utf16be|base64
+texts any, texts any~utf16|base64
+41, 41~wide|cased|base64
+texts all, texts all~cased|wide|base64|all|contains
+41, 41~base64|wide
+41, 41~wide|utf16|base64
+41, 41~startswith|wide|base64
+41, 41~wide|contains
+41, 41~base64|exists
+texts any, texts any~base64|endswith|cased
+expression any, expression any~re
+expression i any, expression i any~re|i
+expression m any, expression m any~re|m
+expression s any, expression s any~re|s
+expression ims all, expression ims all~re|s|m|i|all
+expression i all, expression i all~re|all|i
+expression ms any, expression ms any~re|s|m
+expression is any, expression is any~re|s|i
+expression im all, expression im all~re|m|all|i
+41, 41~re|i|i
+41, 41~re|s|all|s
+41, 41~re|all|all
+41, 41~re|re
+41, 41~i
+41, 41~i|re
+41, 41~all|re
+41, 41~re|contains
+41, 41~re|cased
+41, 41~cased|re
+41, 41~re|base64
+41, 41~re|i|windash
+41, 41~re|expand
+41, 41~expand|exists
+41, 41~cidr|i
+41, 41~gt|m
+40 I, 40 I~re|I
+40 x, 40 x~re|x";
 
 fn words(alloc: Global, joined: &str) -> Result<Vec<Text>, Fail> {
     let mut texts = Vec::new(alloc);
@@ -123,19 +124,17 @@ fn words(alloc: Global, joined: &str) -> Result<Vec<Text>, Fail> {
     Ok(texts)
 }
 
-/// The number and the word of a refusal, or nothing where it stands elsewhere.
+/// The number and the word of a refusal, or `elsewhere`.
 fn refused(alloc: Global, refusal: &Refusal) -> Result<String, Fail> {
-    let mut shown = String::new(alloc);
     if refusal.place != KEY {
-        return Ok(shown);
+        return answer(alloc, "elsewhere");
     }
     let code = refusal.code.number();
     match &refusal.detail {
-        Detail::None => shown.push_str(&format!(in alloc; "{code}")?)?,
-        Detail::Text(word) => shown.push_str(&format!(in alloc; "{code} {}", word.as_str())?)?,
-        Detail::Numbers(_, _) => (),
+        Detail::None => Ok(format!(in alloc; "{code}")?),
+        Detail::Text(word) => Ok(format!(in alloc; "{code} {}", word.as_str())?),
+        Detail::Numbers(_, _) => answer(alloc, "numbers"),
     }
-    Ok(shown)
 }
 
 fn expression_word(flags: Flags) -> &'static str {
@@ -183,27 +182,24 @@ fn answered(alloc: Global, joined: &str, keyword: bool) -> Result<String, Fail> 
             joined_word(chain.joined())
         )?),
         Err(Fault::Refused(refusal)) => refused(alloc, &refusal),
-        Err(Fault::Memory) => Ok(String::new(alloc)),
+        Err(Fault::Memory) => answer(alloc, "memory"),
+    }
+}
+
+/// Asks for what is answered for words at a field and at a keyword.
+struct Chains;
+
+impl Asked for Chains {
+    fn told(&self, alloc: Global, given: &str) -> Result<String, Fail> {
+        let at_field = answered(alloc, given, false)?;
+        let at_keyword = answered(alloc, given, true)?;
+        Ok(format!(in alloc; "{}, {}", at_field.as_str(), at_keyword.as_str())?)
     }
 }
 
 #[test]
 fn words_make_chains(rt: HostRuntime) -> Result<(), Fail> {
-    let alloc = rt.alloc();
-    for row in ROWS.lines() {
-        let Some((joined, wants)) = row.split_once('~') else {
-            panic!(rt; "{row}");
-        };
-        let Some((at_field, at_keyword)) = wants.split_once('~') else {
-            panic!(rt; "{row}");
-        };
-        assert_eq!(rt; answered(alloc, joined, false)?.as_str(), at_field, "{row}");
-        assert_eq!(rt;
-            answered(alloc, joined, true)?.as_str(),
-            at_keyword,
-            "{row}"
-        );
-    }
     assert_eq!(rt; ROWS.lines().count(), 102);
+    assert_eq!(rt; wrong_row(rt.alloc(), &Chains, ROWS)?.as_str(), "");
     Ok(())
 }

@@ -1,5 +1,6 @@
 //! Tests and values, reckoned by hand.
 
+use crate::tables::{Asked, answer, wrong_row};
 use event_schema::{Event, Field, FieldKind, FieldList, FieldValues, Schema, Value};
 use modifier_chains::Op;
 use sig_base::{Limits, Place, Text, Texts};
@@ -93,7 +94,7 @@ fn test_of(alloc: Global, written: &str) -> Result<Test, Fail> {
 }
 
 /// Whether the test of `field~test` holds, as `yes` or `no`.
-fn told(alloc: Global, event: &Event, given: &str) -> Result<&'static str, Fail> {
+fn held(alloc: Global, event: &Event, given: &str) -> Result<&'static str, Fail> {
     let Some((name, written)) = given.split_once('~') else {
         return Ok("no test");
     };
@@ -107,24 +108,24 @@ fn told(alloc: Global, event: &Event, given: &str) -> Result<&'static str, Fail>
     Ok("no")
 }
 
-/// The first row, `answer~field~test`, that is told otherwise.
-fn wrong_test(alloc: Global, event: &Event, table: &str) -> Result<String, Fail> {
-    for row in table.lines() {
-        let Some((want, given)) = row.split_once('~') else {
-            return Ok(String::from_str(alloc, row)?);
-        };
-        if told(alloc, event, given)? != want {
-            return Ok(String::from_str(alloc, row)?);
-        }
-    }
-    Ok(String::new(alloc))
+/// Asks whether the test of `field~test` holds of this event.
+#[derive(Drop)]
+struct Holding {
+    event: Event,
 }
 
-#[test]
-fn tests_of_values(rt: HostRuntime) -> Result<(), Fail> {
-    let alloc = rt.alloc();
-    let event = event(alloc, r"C:\Cmd.exe", -7)?;
-    let table = r"no~Image~absent
+impl Asked for Holding {
+    fn told(&self, alloc: Global, given: &str) -> Result<String, Fail> {
+        answer(alloc, held(alloc, &self.event, given)?)
+    }
+}
+
+/// The first row, `answer~field~test`, that is told otherwise.
+fn wrong_test(alloc: Global, event: Event, table: &str) -> Result<String, Fail> {
+    wrong_row(alloc, &Holding { event }, table)
+}
+
+const VALUES: &str = r"no~Image~absent
 yes~Image~exists
 no~Size~exists not
 yes~Image~*\cmd.exe
@@ -142,15 +143,15 @@ no~Ip~inside 10.0.0.2/31
 yes~Ip~inside 0.0.0.0/0
 no~Size~inside 0.0.0.0/0
 yes~image~absent";
-    assert_eq!(rt; wrong_test(alloc, &event, table)?.as_str(), "");
+
+#[test]
+fn tests_of_values(rt: HostRuntime) -> Result<(), Fail> {
+    let event = event(rt.alloc(), r"C:\Cmd.exe", -7)?;
+    assert_eq!(rt; wrong_test(rt.alloc(), event, VALUES)?.as_str(), "");
     Ok(())
 }
 
-#[test]
-fn comparisons_of_values(rt: HostRuntime) -> Result<(), Fail> {
-    let alloc = rt.alloc();
-    let event = event(alloc, "-7", -7)?;
-    let table = "yes~Size~< -6
+const COMPARISONS: &str = "yes~Size~< -6
 no~Size~< -7
 yes~Size~<= -7
 no~Size~<= -8
@@ -165,18 +166,23 @@ yes~Size~same as Image
 yes~Image~same as Image
 no~Image~same as Ip
 no~Image~same as image";
-    assert_eq!(rt; wrong_test(alloc, &event, table)?.as_str(), "");
+
+#[test]
+fn comparisons_of_values(rt: HostRuntime) -> Result<(), Fail> {
+    let event = event(rt.alloc(), "-7", -7)?;
+    assert_eq!(rt; wrong_test(rt.alloc(), event, COMPARISONS)?.as_str(), "");
     Ok(())
 }
 
-#[test]
-fn tests_without_values(rt: HostRuntime) -> Result<(), Fail> {
-    let alloc = rt.alloc();
+fn no_values(alloc: Global) -> Result<Event, Fail> {
     let mut values = Vec::new(alloc);
     for _ in 0..3 {
         values.push(FieldValues::none())?;
     }
-    let table = "yes~Image~absent
+    Ok(Event::new(values, None))
+}
+
+const WITHOUT_VALUES: &str = "yes~Image~absent
 yes~Size~absent
 yes~Ip~absent
 no~Image~exists
@@ -196,33 +202,32 @@ no~Size~> -1
 no~Size~<= 0
 no~Image~same as Ip
 no~Image~same as Image";
-    assert_eq!(rt;
-        wrong_test(alloc, &Event::new(values, None), table)?.as_str(),
-        ""
-    );
+
+#[test]
+fn tests_without_values(rt: HostRuntime) -> Result<(), Fail> {
+    let event = no_values(rt.alloc())?;
+    assert_eq!(rt; wrong_test(rt.alloc(), event, WITHOUT_VALUES)?.as_str(), "");
     Ok(())
 }
 
-/// The first row, `answer~text`, that is told otherwise of whether the text is the number 7.
-fn wrong_text(alloc: Global, table: &str) -> Result<String, Fail> {
-    for row in table.lines() {
-        let Some((want, text)) = row.split_once('~') else {
-            return Ok(String::from_str(alloc, row)?);
-        };
-        if told(alloc, &event(alloc, text, 0)?, "Image~= 7")? != want {
-            return Ok(String::from_str(alloc, row)?);
-        }
+/// Asks whether a text is the number 7.
+struct Sevens;
+
+impl Asked for Sevens {
+    fn told(&self, alloc: Global, given: &str) -> Result<String, Fail> {
+        let event = event(alloc, given, 0)?;
+        answer(alloc, held(alloc, &event, "Image~= 7")?)
     }
-    Ok(String::new(alloc))
 }
 
-#[test]
-fn numbers_in_texts(rt: HostRuntime) -> Result<(), Fail> {
-    let table = "yes~7
+const SEVENTH_TEXTS: &str = "yes~7
 no~07
 no~+7
 no~7 ";
-    assert_eq!(rt; wrong_text(rt.alloc(), table)?.as_str(), "");
+
+#[test]
+fn numbers_in_texts(rt: HostRuntime) -> Result<(), Fail> {
+    assert_eq!(rt; wrong_row(rt.alloc(), &Sevens, SEVENTH_TEXTS)?.as_str(), "");
     Ok(())
 }
 
@@ -247,10 +252,7 @@ fn several(alloc: Global) -> Result<Event, Fail> {
     Ok(Event::new(values, None))
 }
 
-#[test]
-fn tests_of_several_values(rt: HostRuntime) -> Result<(), Fail> {
-    let alloc = rt.alloc();
-    let table = "no~Image~absent
+const SEVERAL_VALUES: &str = "no~Image~absent
 yes~Image~exists
 no~Image~exists not
 yes~Image~a.exe
@@ -276,40 +278,50 @@ yes~Size~< -19
 no~Size~< -20
 no~Image~same as Size
 no~Ip~same as Image";
-    assert_eq!(rt; wrong_test(alloc, &several(alloc)?, table)?.as_str(), "");
+
+#[test]
+fn tests_of_several_values(rt: HostRuntime) -> Result<(), Fail> {
+    let event = several(rt.alloc())?;
+    assert_eq!(rt; wrong_test(rt.alloc(), event, SEVERAL_VALUES)?.as_str(), "");
     Ok(())
 }
 
-#[test]
-fn a_list_without_values(rt: HostRuntime) -> Result<(), Fail> {
-    let alloc = rt.alloc();
+/// No value, and a list without values.
+fn empty_list(alloc: Global) -> Result<Event, Fail> {
     let mut values = Vec::new(alloc);
     values.push(FieldValues::none())?;
     values.push(FieldValues::from_vec(Vec::new(alloc)))?;
-    let table = "yes~Size~absent
+    Ok(Event::new(values, None))
+}
+
+const EMPTY_LIST: &str = "yes~Size~absent
 no~Size~exists
 yes~Size~exists not";
-    assert_eq!(rt;
-        wrong_test(alloc, &Event::new(values, None), table)?.as_str(),
-        ""
-    );
+
+#[test]
+fn a_list_without_values(rt: HostRuntime) -> Result<(), Fail> {
+    let event = empty_list(rt.alloc())?;
+    assert_eq!(rt; wrong_test(rt.alloc(), event, EMPTY_LIST)?.as_str(), "");
     Ok(())
 }
 
-#[test]
-fn texts_are_compared_without_case(rt: HostRuntime) -> Result<(), Fail> {
-    let alloc = rt.alloc();
+/// Texts and a number, of which some are others in another case.
+fn mixed_cases(alloc: Global) -> Result<Event, Fail> {
     let mut values = Vec::new(alloc);
     values.push(texts(alloc, "x HOST")?)?;
     values.push(FieldValues::one(Value::Whole(12)))?;
     values.push(texts(alloc, "y host 12")?)?;
-    let table = "yes~Image~same as Ip
+    Ok(Event::new(values, None))
+}
+
+const WITHOUT_CASE: &str = "yes~Image~same as Ip
 yes~Ip~same as Image
 yes~Ip~same as Size
 no~Image~same as Size";
-    assert_eq!(rt;
-        wrong_test(alloc, &Event::new(values, None), table)?.as_str(),
-        ""
-    );
+
+#[test]
+fn texts_are_compared_without_case(rt: HostRuntime) -> Result<(), Fail> {
+    let event = mixed_cases(rt.alloc())?;
+    assert_eq!(rt; wrong_test(rt.alloc(), event, WITHOUT_CASE)?.as_str(), "");
     Ok(())
 }

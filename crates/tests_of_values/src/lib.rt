@@ -9,3 +9,5 @@ mod holding;
 mod made;
 #[cfg(test)]
 mod patterns;
+#[cfg(test)]
+mod tables;

@@ -1,5 +1,6 @@
 //! The tests that chains make of values, reckoned by hand.
 
+use crate::tables::{Asked, answer, wrong_row};
 use modifier_chains::{Chain, Flags, Op};
 use sig_base::{Fault, Limits, Place, Refusal, Text, TryCopy};
 use sig_modifiers::{Test, Tests};
@@ -16,20 +17,20 @@ const VALUE: Place = Place {
 };
 
 /// The chain of `field|WORD|..` or of `keyword|WORD|..`.
-fn chain(alloc: Global, written: &str) -> Result<Result<Chain, Fault>, Fail> {
+fn chain(alloc: Global, written: &str) -> Result<Chain, Fail> {
     let mut texts = Vec::new(alloc);
     let mut words = written.split('|');
     let keyword = words.next() == Some("keyword");
     for word in words {
         texts.push(Text::copy(alloc, word)?)?;
     }
-    Ok(Chain::read(alloc, &texts, keyword, KEY))
+    Ok(Chain::read(alloc, &texts, keyword, KEY)?)
 }
 
-/// The number of a refusal, or nothing where it stands elsewhere.
+/// The number of a refusal, or `elsewhere`.
 fn refused(alloc: Global, refusal: &Refusal) -> Result<String, Fail> {
     if refusal.place != VALUE {
-        return Ok(String::new(alloc));
+        return answer(alloc, "elsewhere");
     }
     let code = refusal.code.number();
     Ok(format!(in alloc; "{code}")?)
@@ -124,51 +125,57 @@ fn resolved(
     match sig_modifiers::resolve(alloc, limits, unbuilt, chain, value) {
         Ok(tests) => all_shown(alloc, &tests.try_copy(alloc)?),
         Err(Fault::Refused(refusal)) => refused(alloc, &refusal),
-        Err(Fault::Memory) => Ok(String::new(alloc)),
+        Err(Fault::Memory) => answer(alloc, "memory"),
     }
 }
 
-/// What is made of `chain~value`.
-fn told_value(
-    alloc: Global,
-    limits: &Limits,
-    unbuilt: &[Place],
-    given: &str,
-) -> Result<String, Fail> {
-    let Some((words, written)) = given.split_once('~') else {
-        return Ok(String::from_str(alloc, "no value")?);
-    };
-    let chain = chain(alloc, words)??;
-    resolved(alloc, limits, unbuilt, &chain, &value(alloc, written)?)
+/// Where no regular expression is built.
+#[derive(Clone, Copy)]
+enum Unbuilt {
+    Nowhere,
+    Key,
+    KeyAndValue,
 }
 
-/// The first row, `tests~chain~value`, that is told otherwise where no regular expression is built at these places.
-fn wrong_at(
-    alloc: Global,
-    limits: &Limits,
-    unbuilt: &[Place],
-    table: &str,
-) -> Result<String, Fail> {
-    for row in table.lines() {
-        let Some((want, given)) = row.split_once('~') else {
-            return Ok(String::from_str(alloc, row)?);
+/// Asks for what is made of `chain~value`.
+#[derive(Clone, Copy)]
+struct Made {
+    limits: Limits,
+    unbuilt: Unbuilt,
+}
+
+impl Asked for Made {
+    fn told(&self, alloc: Global, given: &str) -> Result<String, Fail> {
+        let Some((words, written)) = given.split_once('~') else {
+            return answer(alloc, "no chain and value");
         };
-        if told_value(alloc, limits, unbuilt, given)?.as_str() != want {
-            return Ok(String::from_str(alloc, row)?);
+        let chain = chain(alloc, words)?;
+        let value = value(alloc, written)?;
+        match self.unbuilt {
+            Unbuilt::Nowhere => resolved(alloc, &self.limits, &[], &chain, &value),
+            Unbuilt::Key => resolved(alloc, &self.limits, &[KEY], &chain, &value),
+            Unbuilt::KeyAndValue => resolved(alloc, &self.limits, &[KEY, VALUE], &chain, &value),
         }
     }
-    Ok(String::new(alloc))
 }
 
-/// The first row that is told otherwise where each regular expression is built.
-fn wrong_value(alloc: Global, limits: &Limits, table: &str) -> Result<String, Fail> {
-    wrong_at(alloc, limits, &[], table)
+/// The first row, `tests~chain~value`, that is told otherwise within the standard limits.
+fn wrong_value(alloc: Global, table: &str) -> Result<String, Fail> {
+    let made = Made {
+        limits: Limits::standard(),
+        unbuilt: Unbuilt::Nowhere,
+    };
+    wrong_row(alloc, &made, table)
 }
 
-#[test]
-fn texts_become_patterns(rt: HostRuntime) -> Result<(), Fail> {
-    let alloc = rt.alloc();
-    let table = r"a\b~field~a\b
+/// The first row that is told otherwise where a value has at most three characters.
+fn wrong_short(alloc: Global, unbuilt: Unbuilt, table: &str) -> Result<String, Fail> {
+    let mut limits = Limits::standard();
+    limits.value_chars = 3;
+    wrong_row(alloc, &Made { limits, unbuilt }, table)
+}
+
+const PATTERNS: &str = r"a\b~field~a\b
 *100%_x*~field|contains~100%_x
 100%_x*~field|startswith|all~100%_x
 *.exe cased~field|endswith|cased~*.exe
@@ -176,17 +183,14 @@ a~field|all~a
 *a*~keyword~a
 *a* cased~keyword|cased~*a
 a*~keyword|startswith~a";
-    assert_eq!(rt;
-        wrong_value(alloc, &Limits::standard(), table)?.as_str(),
-        ""
-    );
+
+#[test]
+fn texts_become_patterns(rt: HostRuntime) -> Result<(), Fail> {
+    assert_eq!(rt; wrong_value(rt.alloc(), PATTERNS)?.as_str(), "");
     Ok(())
 }
 
-#[test]
-fn other_values_by_their_chains(rt: HostRuntime) -> Result<(), Fail> {
-    let alloc = rt.alloc();
-    let table = "absent~field~null
+const OTHER_VALUES: &str = "absent~field~null
 true~field~true
 = -7~field~-7
 = -9223372036854775808~field~least
@@ -221,17 +225,14 @@ true cased~field|all|cased~true
 *-7*~keyword|all~-7
 *-9223372036854775808*~keyword|all~least
 42~keyword|all~list";
-    assert_eq!(rt;
-        wrong_value(alloc, &Limits::standard(), table)?.as_str(),
-        ""
-    );
+
+#[test]
+fn other_values_by_their_chains(rt: HostRuntime) -> Result<(), Fail> {
+    assert_eq!(rt; wrong_value(rt.alloc(), OTHER_VALUES)?.as_str(), "");
     Ok(())
 }
 
-#[test]
-fn windash_marks_dashes(rt: HostRuntime) -> Result<(), Fail> {
-    let alloc = rt.alloc();
-    let table = "* _a _b*~field|windash|contains~ -a /b
+const DASHES: &str = "* _a _b*~field|windash|contains~ -a /b
 * _a _b*~field|contains|windash~ -a /b
 a-b~field|windash~a-b
 _7~field|windash~-7
@@ -240,17 +241,14 @@ _a _b _c _d~field|windash~-a /b -c /d
 46~field|windash~-a /b -c /d -e
 -a /b -c /d -e~field~-a /b -c /d -e
 42~field|windash~null";
-    assert_eq!(rt;
-        wrong_value(alloc, &Limits::standard(), table)?.as_str(),
-        ""
-    );
+
+#[test]
+fn windash_marks_dashes(rt: HostRuntime) -> Result<(), Fail> {
+    assert_eq!(rt; wrong_value(rt.alloc(), DASHES)?.as_str(), "");
     Ok(())
 }
 
-#[test]
-fn texts_are_encoded(rt: HostRuntime) -> Result<(), Fail> {
-    let alloc = rt.alloc();
-    let table = "YwBtAGQA~field|wide|base64~cmd
+const ENCODED: &str = "YwBtAGQA~field|wide|base64~cmd
 AGE=~field|utf16be|base64~a
 //5hAA==~field|utf16|base64~a
 dHJ1ZQ==~field|base64~true
@@ -264,17 +262,14 @@ L2Jpbi9iYXNo, 9iaW4vYmFza, vYmluL2Jhc2~field|base64offset~/bin/bash
 42~field|base64offset~x
 42~field|base64~null
 42~field|wide|base64~list";
-    assert_eq!(rt;
-        wrong_value(alloc, &Limits::standard(), table)?.as_str(),
-        ""
-    );
+
+#[test]
+fn texts_are_encoded(rt: HostRuntime) -> Result<(), Fail> {
+    assert_eq!(rt; wrong_value(rt.alloc(), ENCODED)?.as_str(), "");
     Ok(())
 }
 
-#[test]
-fn texts_are_networks(rt: HostRuntime) -> Result<(), Fail> {
-    let alloc = rt.alloc();
-    let table = "inside 4~field|cidr~192.168.0.0/14
+const NETWORKS: &str = "inside 4~field|cidr~192.168.0.0/14
 inside 1~field|cidr|all~10.0.0.1
 44~field|cidr~10.0.0.0/33
 44~field|cidr~10.*
@@ -283,17 +278,14 @@ inside 1~field|cidr|all~10.0.0.1
 42~field|cidr~true
 42~field|cidr~1234
 42~field|cidr~list";
-    assert_eq!(rt;
-        wrong_value(alloc, &Limits::standard(), table)?.as_str(),
-        ""
-    );
+
+#[test]
+fn texts_are_networks(rt: HostRuntime) -> Result<(), Fail> {
+    assert_eq!(rt; wrong_value(rt.alloc(), NETWORKS)?.as_str(), "");
     Ok(())
 }
 
-#[test]
-fn numbers_and_fields_are_compared_with(rt: HostRuntime) -> Result<(), Fail> {
-    let alloc = rt.alloc();
-    let table = "< -7~field|lt~-7
+const COMPARED: &str = "< -7~field|lt~-7
 <= 1234~field|lte|all~1234
 > 1234~field|gt~1234
 >= -7~field|gte~-7
@@ -310,17 +302,14 @@ same as *~field|fieldref~*
 42~field|fieldref~true
 42~field|fieldref~1234
 42~field|fieldref~map";
-    assert_eq!(rt;
-        wrong_value(alloc, &Limits::standard(), table)?.as_str(),
-        ""
-    );
+
+#[test]
+fn numbers_and_fields_are_compared_with(rt: HostRuntime) -> Result<(), Fail> {
+    assert_eq!(rt; wrong_value(rt.alloc(), COMPARED)?.as_str(), "");
     Ok(())
 }
 
-#[test]
-fn regular_expressions_are_found(rt: HostRuntime) -> Result<(), Fail> {
-    let alloc = rt.alloc();
-    let table = r"finds a.c~field|re~a.c
+const EXPRESSIONS: &str = r"finds a.c~field|re~a.c
 finds ~field|re~
 finds ^\\a*~field|re~^\\a*
 finds (?i)a~field|re|i~a
@@ -341,19 +330,14 @@ finds (?ms).~keyword|re|s|all|m~.
 47~field|re~(
 47~field|re|i~a{2,1}
 47~keyword|re|all~[";
-    assert_eq!(rt;
-        wrong_value(alloc, &Limits::standard(), table)?.as_str(),
-        ""
-    );
+
+#[test]
+fn regular_expressions_are_found(rt: HostRuntime) -> Result<(), Fail> {
+    assert_eq!(rt; wrong_value(rt.alloc(), EXPRESSIONS)?.as_str(), "");
     Ok(())
 }
 
-#[test]
-fn regular_expressions_are_not_built(rt: HostRuntime) -> Result<(), Fail> {
-    let alloc = rt.alloc();
-    let mut limits = Limits::standard();
-    limits.value_chars = 3;
-    let here = "48~field|re~a.c
+const UNBUILT_HERE: &str = "48~field|re~a.c
 48~keyword|re|i~a
 47~field|re~(
 50~field|re~(\0
@@ -362,18 +346,22 @@ fn regular_expressions_are_not_built(rt: HostRuntime) -> Result<(), Fail> {
 a~field~a
 same as Abc~field|fieldref~Abc
 *a*~keyword~a";
-    assert_eq!(rt; wrong_at(alloc, &limits, &[KEY, VALUE], here)?.as_str(), "");
-    let there = "finds a.c~field|re~a.c
+
+const UNBUILT_ELSEWHERE: &str = "finds a.c~field|re~a.c
 47~field|re~(";
-    assert_eq!(rt; wrong_at(alloc, &limits, &[KEY], there)?.as_str(), "");
+
+#[test]
+fn regular_expressions_are_not_built(rt: HostRuntime) -> Result<(), Fail> {
+    let alloc = rt.alloc();
+    let wrong = wrong_short(alloc, Unbuilt::KeyAndValue, UNBUILT_HERE)?;
+    assert_eq!(rt; wrong.as_str(), "");
+    let wrong = wrong_short(alloc, Unbuilt::Key, UNBUILT_ELSEWHERE)?;
+    assert_eq!(rt; wrong.as_str(), "");
     Ok(())
 }
 
-#[test]
-fn other_tests_are_no_expressions(rt: HostRuntime) -> Result<(), Fail> {
-    let alloc = rt.alloc();
-    assert!(rt; !Test::Absent.is_expression());
-    assert!(rt; Test::Equals(7).expression(alloc)?.is_none());
+/// Whether a test of a regular expression is one.
+fn finds_is_expression(alloc: Global) -> Result<bool, Fail> {
     let found = Test::Finds {
         text: Text::copy(alloc, "a")?,
         flags: Flags {
@@ -382,16 +370,24 @@ fn other_tests_are_no_expressions(rt: HostRuntime) -> Result<(), Fail> {
             s: false,
         },
     };
-    assert!(rt; found.is_expression());
-    Ok(())
+    Ok(found.is_expression())
+}
+
+/// Whether the test of a number has a regular expression.
+fn number_has_expression(alloc: Global) -> Result<bool, Fail> {
+    let expression = Test::Equals(7).expression(alloc)?;
+    Ok(expression.is_some())
 }
 
 #[test]
-fn the_first_cause_is_told(rt: HostRuntime) -> Result<(), Fail> {
-    let alloc = rt.alloc();
-    let mut limits = Limits::standard();
-    limits.value_chars = 3;
-    let table = "*abc*~field|contains~abc
+fn other_tests_are_no_expressions(rt: HostRuntime) -> Result<(), Fail> {
+    assert!(rt; !Test::Absent.is_expression());
+    assert!(rt; !number_has_expression(rt.alloc())?);
+    assert!(rt; finds_is_expression(rt.alloc())?);
+    Ok(())
+}
+
+const FIRST_CAUSES: &str = "*abc*~field|contains~abc
 49~field|contains~\u{e9}\u{e9}\u{e9}\u{e9}
 50~field|contains~a\0
 49~field|contains~ab\0d
@@ -417,6 +413,10 @@ same as abc~field|fieldref~abc
 47~field|re~(((
 YWJj~field|base64~abc
 ~field~";
-    assert_eq!(rt; wrong_value(alloc, &limits, table)?.as_str(), "");
+
+#[test]
+fn the_first_cause_is_told(rt: HostRuntime) -> Result<(), Fail> {
+    let wrong = wrong_short(rt.alloc(), Unbuilt::Nowhere, FIRST_CAUSES)?;
+    assert_eq!(rt; wrong.as_str(), "");
     Ok(())
 }

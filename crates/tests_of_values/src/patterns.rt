@@ -1,5 +1,6 @@
 //! Patterns and refusals reckoned by hand.
 
+use crate::tables::{Asked, answer, wrong_row};
 use modifier_chains::{Chain, Flags};
 use sig_base::{Fault, Limits, Place, Refusal, Text};
 use sig_strings::{Part, SharedPattern};
@@ -16,102 +17,102 @@ const VALUE: Place = Place {
     column: 14,
 };
 
-/// Chains at a field, texts of at most 20 characters, and the patterns of the text, where `<*>` is a run, `<?>` a single
-/// character, `<->` a dash place and `<name>` a placeholder, or the number of a refusal.
-const AT_FIELDS: &str = "contains~100%_x~<*>100%_x<*>
-startswith|all~a*~a<*>
-endswith~*.exe~<*>.exe
-~a?\\*~a<?>*
-expand~%admins%~<admins>
-expand|contains~a%b_1%*~<*>a<b_1><*>
-expand~%a b% 100% %%~%a b% 100% %%
-expand~%a%b%c%~<a>b<c>
-expand~%%a%~%<a>
-expand~\\%a%~\\<a>
-~%a%~%a%
-expand|windash~-%a% %b%-c~-<a> <b><->c
-windash|expand~-a -b -c -d -%e%~<->a <->b <->c <->d -<e>
-windash|contains~ -a /b~<*> <->a <->b<*>
-contains|windash~/x-y -z~<*><->x-y <->z<*>
-windash~a-b~a-b
-windash~-a -b -c -d~<->a <->b <->c <->d
-windash~-a -b -c -d -e~46
-contains~-a -b -c -d -e~<*>-a -b -c -d -e<*>
-base64offset|contains~/bin/bash~<*>L2Jpbi9iYXNo<*> <*>9iaW4vYmFza<*> <*>vYmluL2Jhc2<*>
-base64offset~é~w6 Op Dq
-base64offset~x~42
-base64offset~~42
-base64offset~*~43
-base64~~
-base64|startswith~foo~Zm9v<*>
-base64~c*~43
-base64~a\\*~YSo=
-base64~-a -b -c -d -e~LWEgLWIgLWMgLWQgLWU=
-wide|base64~cmd~YwBtAGQA
-utf16le|base64~cmd~YwBtAGQA
-utf16be|base64~c~AGM=
-utf16|base64~c~//5jAA==
-base64|contains~aaaaaaaaaaaaaaaaaaa?\0~49
-base64|contains~a?\0~50
-windash~-a -b -c -d -e\0~50";
+/// The patterns of a text, where `<*>` is a run, `<?>` a single character, `<->` a dash place and `<name>` a placeholder, or the
+/// number of a refusal: `patterns~chain at a field~text of at most 20 characters`.
+const AT_FIELDS: &str = "<*>100%_x<*>~contains~100%_x
+a<*>~startswith|all~a*
+<*>.exe~endswith~*.exe
+a<?>*~~a?\\*
+<admins>~expand~%admins%
+<*>a<b_1><*>~expand|contains~a%b_1%*
+%a b% 100% %%~expand~%a b% 100% %%
+<a>b<c>~expand~%a%b%c%
+%<a>~expand~%%a%
+\\<a>~expand~\\%a%
+%a%~~%a%
+-<a> <b><->c~expand|windash~-%a% %b%-c
+<->a <->b <->c <->d -<e>~windash|expand~-a -b -c -d -%e%
+<*> <->a <->b<*>~windash|contains~ -a /b
+<*><->x-y <->z<*>~contains|windash~/x-y -z
+a-b~windash~a-b
+<->a <->b <->c <->d~windash~-a -b -c -d
+46~windash~-a -b -c -d -e
+<*>-a -b -c -d -e<*>~contains~-a -b -c -d -e
+<*>L2Jpbi9iYXNo<*> <*>9iaW4vYmFza<*> <*>vYmluL2Jhc2<*>~base64offset|contains~/bin/bash
+w6 Op Dq~base64offset~é
+42~base64offset~x
+42~base64offset~
+43~base64offset~*
+~base64~
+Zm9v<*>~base64|startswith~foo
+43~base64~c*
+YSo=~base64~a\\*
+LWEgLWIgLWMgLWQgLWU=~base64~-a -b -c -d -e
+YwBtAGQA~wide|base64~cmd
+YwBtAGQA~utf16le|base64~cmd
+AGM=~utf16be|base64~c
+//5jAA==~utf16|base64~c
+49~base64|contains~aaaaaaaaaaaaaaaaaaa?\0
+50~base64|contains~a?\0
+50~windash~-a -b -c -d -e\0";
 
-const AT_KEYWORDS: &str = "~a~<*>a<*>
-windash~-a~<*><->a<*>
-base64~foo~<*>Zm9v<*>
-base64offset|startswith~ab~YW<*> Fi<*> hY<*>
-all~*a*~<*>a<*>
-expand~%a%~<*><a><*>";
+const AT_KEYWORDS: &str = "<*>a<*>~~a
+<*><->a<*>~windash~-a
+<*>Zm9v<*>~base64~foo
+YW<*> Fi<*> hY<*>~base64offset|startswith~ab
+<*>a<*>~all~*a*
+<*><a><*>~expand~%a%";
 
-/// Texts, and how many patterns the network has, or the number of a refusal.
-const NETWORKS: &str = "192.168.0.0/14~4
-0.0.0.0/0~256
-10.0.0.1~1
-10.0.0.0/33~44
-::1/128~44
-10.*~44
-~44
-10.0.0.0/8\0~50
-10.0.0.0/000000000008~49
-aaaaaaaaaaaaaaaaaaaa\0~49";
+/// How many patterns a network has, or the number of a refusal, and its text.
+const NETWORKS: &str = "4~192.168.0.0/14
+256~0.0.0.0/0
+1~10.0.0.1
+44~10.0.0.0/33
+44~::1/128
+44~10.*
+44~
+50~10.0.0.0/8\0
+49~10.0.0.0/000000000008
+49~aaaaaaaaaaaaaaaaaaaa\0";
 
-/// Texts of at most 20 characters, and the name of the field, or the number of a refusal.
+/// The name of a field, or the number of a refusal, and the text of at most 20 characters.
 const REFERENCES: &str = "Image~Image
 a.b c~a.b c
-~42
-a|b~42
-a\t~42
+42~
+42~a|b
+42~a\t
 *~*
-a|b\0~50
-a|bcdefghijklmnopqrst~49
-aaaaaaaaaaaaaaaaaaaaa~49";
+50~a|b\0
+49~a|bcdefghijklmnopqrst
+49~aaaaaaaaaaaaaaaaaaaaa";
 
-/// Flags, texts of at most 20 characters, and the regular expression, or the number of a refusal.
-const EXPRESSIONS: &str = r"~a.c~a.c
+/// The regular expression, or the number of a refusal, and its flags and text: `expression~flags~text of at most 20 characters`.
+const EXPRESSIONS: &str = r"a.c~~a.c
 ~~
-i~a~(?i)a
-m~^a$~(?m)^a$
-s~.~(?s).
-mi~a|b~(?im)a|b
-si~a~(?is)a
-sm~a~(?ms)a
-smi~^.*$~(?ims)^.*$
-ims~~(?ims)
-i~(?s)a~(?i)(?s)a
-~\d{2,3}~\d{2,3}
-~(~47
-~[~47
-i~a{2,1}~47
-~*~47
-~(?q)a~47
-~\~47
-~aaaaaaaaaaaaaaaaaaaa~aaaaaaaaaaaaaaaaaaaa
-ims~aaaaaaaaaaaaaaaaaaaa~(?ims)aaaaaaaaaaaaaaaaaaaa
-~(((((((((((((((((((((~49";
+(?i)a~i~a
+(?m)^a$~m~^a$
+(?s).~s~.
+(?im)a|b~mi~a|b
+(?is)a~si~a
+(?ms)a~sm~a
+(?ims)^.*$~smi~^.*$
+(?ims)~ims~
+(?i)(?s)a~i~(?s)a
+\d{2,3}~~\d{2,3}
+47~~(
+47~~[
+47~i~a{2,1}
+47~~*
+47~~(?q)a
+47~~\
+aaaaaaaaaaaaaaaaaaaa~~aaaaaaaaaaaaaaaaaaaa
+(?ims)aaaaaaaaaaaaaaaaaaaa~ims~aaaaaaaaaaaaaaaaaaaa
+49~~(((((((((((((((((((((";
 
-/// Texts with U+0000, and the number of the refusal.
-const NUL_EXPRESSIONS: &str = "(\0~50
-a\0~50
-((((((((((((((((((((\0~49";
+/// Texts with U+0000 behind the flag `i`.
+const NUL_EXPRESSIONS: &str = "50~i~(\0
+50~i~a\0
+49~i~((((((((((((((((((((\0";
 
 fn chain(alloc: Global, joined: &str, keyword: bool) -> Result<Chain, Fail> {
     let mut words = Vec::new(alloc);
@@ -152,10 +153,10 @@ fn shown(alloc: Global, patterns: &[SharedPattern]) -> Result<String, Fail> {
     Ok(shown)
 }
 
-/// The number of a refusal, or nothing where it stands elsewhere.
+/// The number of a refusal, or `elsewhere`.
 fn refused(alloc: Global, refusal: &Refusal) -> Result<String, Fail> {
     if refusal.place != VALUE {
-        return Ok(String::new(alloc));
+        return answer(alloc, "elsewhere");
     }
     Ok(format!(in alloc; "{}", refusal.code.number())?)
 }
@@ -166,28 +167,50 @@ fn limits() -> Limits {
     limits
 }
 
-fn answered(alloc: Global, joined: &str, keyword: bool, text: &str) -> Result<String, Fail> {
-    let chain = chain(alloc, joined, keyword)?;
-    match read_patterns(alloc, &limits(), &chain, text, VALUE) {
-        Ok(patterns) => shown(alloc, &patterns),
-        Err(Fault::Refused(refusal)) => refused(alloc, &refusal),
-        Err(Fault::Memory) => Ok(String::new(alloc)),
+/// Asks for the patterns of a text behind a chain, `chain~text`.
+#[derive(Clone, Copy)]
+struct Patterns {
+    keyword: bool,
+}
+
+impl Asked for Patterns {
+    fn told(&self, alloc: Global, given: &str) -> Result<String, Fail> {
+        let Some((joined, text)) = given.split_once('~') else {
+            return answer(alloc, "no chain and text");
+        };
+        let chain = chain(alloc, joined, self.keyword)?;
+        match read_patterns(alloc, &limits(), &chain, text, VALUE) {
+            Ok(patterns) => shown(alloc, &patterns),
+            Err(Fault::Refused(refusal)) => refused(alloc, &refusal),
+            Err(Fault::Memory) => answer(alloc, "memory"),
+        }
     }
 }
 
-fn answered_network(alloc: Global, text: &str) -> Result<String, Fail> {
-    match read_network(&limits(), text, VALUE) {
-        Ok(network) => Ok(format!(in alloc; "{}", network.patterns(alloc)?.len())?),
-        Err(Fault::Refused(refusal)) => refused(alloc, &refusal),
-        Err(Fault::Memory) => Ok(String::new(alloc)),
+/// Asks for the number of a network's patterns.
+struct Networks;
+
+impl Asked for Networks {
+    fn told(&self, alloc: Global, given: &str) -> Result<String, Fail> {
+        match read_network(&limits(), given, VALUE) {
+            Ok(network) => Ok(format!(in alloc; "{}", network.patterns(alloc)?.len())?),
+            Err(Fault::Refused(refusal)) => refused(alloc, &refusal),
+            Err(Fault::Memory) => answer(alloc, "memory"),
+        }
     }
 }
 
-fn answered_reference(alloc: Global, text: &str) -> Result<String, Fail> {
-    match read_reference(alloc, &limits(), &Text::copy(alloc, text)?, VALUE) {
-        Ok(name) => Ok(format!(in alloc; "{}", name.as_str())?),
-        Err(Fault::Refused(refusal)) => refused(alloc, &refusal),
-        Err(Fault::Memory) => Ok(String::new(alloc)),
+/// Asks for the name of the field that a text refers to.
+struct References;
+
+impl Asked for References {
+    fn told(&self, alloc: Global, given: &str) -> Result<String, Fail> {
+        let text = Text::copy(alloc, given)?;
+        match read_reference(alloc, &limits(), &text, VALUE) {
+            Ok(name) => answer(alloc, name.as_str()),
+            Err(Fault::Refused(refusal)) => refused(alloc, &refusal),
+            Err(Fault::Memory) => answer(alloc, "memory"),
+        }
     }
 }
 
@@ -201,7 +224,7 @@ fn flags_of(letters: &str) -> Flags {
 }
 
 /// The regular expression of a text, where none is built at these places.
-fn answered_expression(
+fn expression(
     alloc: Global,
     limits: &Limits,
     unbuilt: &[Place],
@@ -210,13 +233,101 @@ fn answered_expression(
 ) -> Result<String, Fail> {
     let text = Text::copy(alloc, text)?;
     match read_expression(alloc, limits, unbuilt, flags, &text, VALUE) {
-        Ok(text) => Ok(format!(in alloc;
-            "{}",
-            expression_text(alloc, flags, text.as_str())?.as_str()
-        )?),
+        Ok(text) => answer(
+            alloc,
+            expression_text(alloc, flags, text.as_str())?.as_str(),
+        ),
         Err(Fault::Refused(refusal)) => refused(alloc, &refusal),
-        Err(Fault::Memory) => Ok(String::new(alloc)),
+        Err(Fault::Memory) => answer(alloc, "memory"),
     }
+}
+
+/// Where no regular expression is built.
+#[derive(Clone, Copy)]
+enum Unbuilt {
+    Key,
+    Value,
+    ValueAndKey,
+}
+
+/// Asks for the regular expression of `flags~text`.
+#[derive(Clone, Copy)]
+struct Expressions {
+    unbuilt: Unbuilt,
+}
+
+impl Asked for Expressions {
+    fn told(&self, alloc: Global, given: &str) -> Result<String, Fail> {
+        let Some((letters, text)) = given.split_once('~') else {
+            return answer(alloc, "no flags and text");
+        };
+        let flags = flags_of(letters);
+        match self.unbuilt {
+            Unbuilt::Key => expression(alloc, &limits(), &[KEY], flags, text),
+            Unbuilt::Value => expression(alloc, &limits(), &[VALUE], flags, text),
+            Unbuilt::ValueAndKey => expression(alloc, &limits(), &[VALUE, KEY], flags, text),
+        }
+    }
+}
+
+#[test]
+fn texts_stand_for_patterns(rt: HostRuntime) -> Result<(), Fail> {
+    let alloc = rt.alloc();
+    assert_eq!(rt; AT_FIELDS.lines().count(), 36);
+    let at_field = Patterns { keyword: false };
+    assert_eq!(rt; wrong_row(alloc, &at_field, AT_FIELDS)?.as_str(), "");
+    let at_keyword = Patterns { keyword: true };
+    assert_eq!(rt; wrong_row(alloc, &at_keyword, AT_KEYWORDS)?.as_str(), "");
+    Ok(())
+}
+
+#[test]
+fn texts_are_networks(rt: HostRuntime) -> Result<(), Fail> {
+    assert_eq!(rt; wrong_row(rt.alloc(), &Networks, NETWORKS)?.as_str(), "");
+    Ok(())
+}
+
+#[test]
+fn texts_name_fields(rt: HostRuntime) -> Result<(), Fail> {
+    assert_eq!(rt;
+        wrong_row(rt.alloc(), &References, REFERENCES)?.as_str(),
+        ""
+    );
+    Ok(())
+}
+
+#[test]
+fn texts_are_regular_expressions(rt: HostRuntime) -> Result<(), Fail> {
+    let alloc = rt.alloc();
+    assert_eq!(rt; EXPRESSIONS.lines().count(), 21);
+    let elsewhere = Expressions {
+        unbuilt: Unbuilt::Key,
+    };
+    assert_eq!(rt; wrong_row(alloc, &elsewhere, EXPRESSIONS)?.as_str(), "");
+    let here = Expressions {
+        unbuilt: Unbuilt::Value,
+    };
+    assert_eq!(rt; wrong_row(alloc, &here, NUL_EXPRESSIONS)?.as_str(), "");
+    Ok(())
+}
+
+const TAKEN_HERE: &str = "48~~a";
+
+const REFUSED_HERE: &str = "47~~(
+49~~aaaaaaaaaaaaaaaaaaaaa";
+
+#[test]
+fn regular_expressions_are_not_built(rt: HostRuntime) -> Result<(), Fail> {
+    let alloc = rt.alloc();
+    let both = Expressions {
+        unbuilt: Unbuilt::ValueAndKey,
+    };
+    assert_eq!(rt; wrong_row(alloc, &both, TAKEN_HERE)?.as_str(), "");
+    let here = Expressions {
+        unbuilt: Unbuilt::Value,
+    };
+    assert_eq!(rt; wrong_row(alloc, &here, REFUSED_HERE)?.as_str(), "");
+    Ok(())
 }
 
 /// Groups around a letter, one in the other.
@@ -232,115 +343,48 @@ fn nested(alloc: Global, count: usize) -> Result<String, Fail> {
     Ok(text)
 }
 
-/// A row's three parts.
-fn row(line: &str) -> Option<(&str, &str, &str)> {
-    let (joined, rest) = line.split_once('~')?;
-    let (text, want) = rest.split_once('~')?;
-    Some((joined, text, want))
-}
-
-/// The first row that isn't answered as it says, with its answer, or nothing.
-fn first_wrong(alloc: Global, rows: &str, keyword: bool) -> Result<String, Fail> {
-    for line in rows.lines() {
-        let Some((joined, text, want)) = row(line) else {
-            return Ok(format!(in alloc; "no row: {line}")?);
-        };
-        let got = answered(alloc, joined, keyword, text)?;
-        if got.as_str() != want {
-            return Ok(format!(in alloc; "{line}: {}", got.as_str())?);
-        }
+/// `same` where the regular expression of so many groups is its text, or else what it is.
+fn nested_told(alloc: Global, count: usize) -> Result<String, Fail> {
+    let text = nested(alloc, count)?;
+    let got = expression(
+        alloc,
+        &Limits::standard(),
+        &[KEY],
+        flags_of(""),
+        text.as_str(),
+    )?;
+    if got.as_str() == text.as_str() {
+        return answer(alloc, "same");
     }
-    Ok(String::new(alloc))
-}
-
-#[test]
-fn texts_stand_for_patterns(rt: HostRuntime) -> Result<(), Fail> {
-    let alloc = rt.alloc();
-    assert_eq!(rt; AT_FIELDS.lines().count(), 36);
-    assert_eq!(rt; first_wrong(alloc, AT_FIELDS, false)?.as_str(), "");
-    assert_eq!(rt; first_wrong(alloc, AT_KEYWORDS, true)?.as_str(), "");
-    Ok(())
-}
-
-#[test]
-fn texts_are_networks(rt: HostRuntime) -> Result<(), Fail> {
-    let alloc = rt.alloc();
-    for line in NETWORKS.lines() {
-        let Some((text, want)) = line.split_once('~') else {
-            panic!(rt; "{line}");
-        };
-        assert_eq!(rt; answered_network(alloc, text)?.as_str(), want, "{line}");
-    }
-    Ok(())
-}
-
-#[test]
-fn texts_name_fields(rt: HostRuntime) -> Result<(), Fail> {
-    let alloc = rt.alloc();
-    for line in REFERENCES.lines() {
-        let Some((text, want)) = line.split_once('~') else {
-            panic!(rt; "{line}");
-        };
-        assert_eq!(rt; answered_reference(alloc, text)?.as_str(), want, "{line}");
-    }
-    Ok(())
-}
-
-#[test]
-fn texts_are_regular_expressions(rt: HostRuntime) -> Result<(), Fail> {
-    let alloc = rt.alloc();
-    assert_eq!(rt; EXPRESSIONS.lines().count(), 21);
-    for line in EXPRESSIONS.lines() {
-        let Some((letters, text, want)) = row(line) else {
-            panic!(rt; "{line}");
-        };
-        let got = answered_expression(alloc, &limits(), &[KEY], flags_of(letters), text)?;
-        assert_eq!(rt; got.as_str(), want, "{line}");
-    }
-    for line in NUL_EXPRESSIONS.lines() {
-        let Some((text, want)) = line.split_once('~') else {
-            panic!(rt; "{line}");
-        };
-        let got = answered_expression(alloc, &limits(), &[VALUE], flags_of("i"), text)?;
-        assert_eq!(rt; got.as_str(), want, "{line}");
-    }
-    Ok(())
-}
-
-#[test]
-fn regular_expressions_are_not_built(rt: HostRuntime) -> Result<(), Fail> {
-    let alloc = rt.alloc();
-    let none = flags_of("");
-    let taken = answered_expression(alloc, &limits(), &[VALUE, KEY], none, "a")?;
-    assert_eq!(rt; taken.as_str(), "48");
-    let unread = answered_expression(alloc, &limits(), &[VALUE], none, "(")?;
-    assert_eq!(rt; unread.as_str(), "47");
-    let longer = answered_expression(alloc, &limits(), &[VALUE], none, "aaaaaaaaaaaaaaaaaaaaa")?;
-    assert_eq!(rt; longer.as_str(), "49");
-    Ok(())
+    Ok(got)
 }
 
 #[test]
 fn regular_expressions_nest_so_deep(rt: HostRuntime) -> Result<(), Fail> {
-    let alloc = rt.alloc();
-    let standard = Limits::standard();
-    let text = nested(alloc, 250)?;
-    let deepest = answered_expression(alloc, &standard, &[KEY], flags_of(""), text.as_str())?;
-    assert_eq!(rt; deepest.as_str(), text.as_str());
-    let text = nested(alloc, 251)?;
-    let deeper = answered_expression(alloc, &standard, &[KEY], flags_of(""), text.as_str())?;
-    assert_eq!(rt; deeper.as_str(), "47");
+    assert_eq!(rt; nested_told(rt.alloc(), 250)?.as_str(), "same");
+    assert_eq!(rt; nested_told(rt.alloc(), 251)?.as_str(), "47");
     Ok(())
 }
 
+/// Asks whether a number may be compared with, or for the number of the refusal.
+struct Ordered;
+
+impl Asked for Ordered {
+    fn told(&self, alloc: Global, given: &str) -> Result<String, Fail> {
+        match &check_ordered(given.parse::<i64>()?, VALUE) {
+            Ok(()) => answer(alloc, "taken"),
+            Err(Fault::Refused(refusal)) => refused(alloc, refusal),
+            Err(Fault::Memory) => answer(alloc, "memory"),
+        }
+    }
+}
+
+const RANGE: &str = "45~-9223372036854775808
+taken~-9223372036854775807
+taken~9223372036854775807";
+
 #[test]
 fn the_least_number_is_out_of_range(rt: HostRuntime) -> Result<(), Fail> {
-    let alloc = rt.alloc();
-    let Err(Fault::Refused(refusal)) = check_ordered(i64::MIN, VALUE) else {
-        panic!(rt; "taken");
-    };
-    assert_eq!(rt; refused(alloc, &refusal)?.as_str(), "45");
-    assert!(rt; check_ordered(i64::MIN + 1, VALUE).is_ok());
-    assert!(rt; check_ordered(i64::MAX, VALUE).is_ok());
+    assert_eq!(rt; wrong_row(rt.alloc(), &Ordered, RANGE)?.as_str(), "");
     Ok(())
 }

@@ -1,3 +1,4 @@
+use super::tables::with_controls;
 use sig_base::{Fault, Limits, Place, Refusal};
 use std::alloc::Global;
 use std::fmt::Write;
@@ -78,103 +79,83 @@ fn shown_in(alloc: Global, limits: &Limits, bytes: &[u8]) -> Result<String, Fail
     Ok(out)
 }
 
-fn shown(alloc: Global, bytes: &[u8]) -> Result<String, Fail> {
-    shown_in(alloc, &Limits::standard(), bytes)
+/// The first row of a table, `what is answered ~ a file`, that isn't answered so; see `with_controls`.
+fn wrong_row(alloc: Global, limits: &Limits, table: &'static str) -> Result<String, Fail> {
+    for row in table.lines() {
+        let Some((want, text)) = row.split_once(" ~ ") else {
+            return Ok(format!(in alloc; "no row: {row}")?);
+        };
+        let want = with_controls(alloc, want)?;
+        let text = with_controls(alloc, text)?;
+        if shown_in(alloc, limits, text.as_str().as_bytes())?.as_str() != want.as_str() {
+            return Ok(String::from_str(alloc, row)?);
+        }
+    }
+    Ok(String::new(alloc))
 }
 
+const TREES: &str =
+    r#"4 1:1|8 4:1|5 7:1|3 9:4|{title@11:1='T'@11:8 logsource@12:1={category@13:3='process_creation'@13:13 }@13:3 detection@14:1={selection@15:3={Image@16:5='cmd.exe'@16:12 }@16:5 condition@17:3='selection'@17:14 }@15:3 }@11:1| ~ title: "cut␊---␊a:␊␉b: 1␊---␊a: 1␊a: 2␊---␊a: &x 1␊---␊title: T␊logsource:␊  category: process_creation␊detection:␊  selection:␊    Image: cmd.exe␊  condition: selection␊
+ ~ # c␊---␊---␊␊
+{a@1:1=7@1:4 b@2:1='yes'@2:4 c@3:1='1.5'@3:4 d@4:1='0x10'@4:4 e@5:1=true@5:4 f@6:1=~@6:1 }@1:1| ~ a: +7␊b: yes␊c: 1.5␊d: 0x10␊e: true␊f:␊
+{a@1:1='b c␊d␊'@1:4 }@1:1| ~ a: >␊  b␊  c␊␊  d
+[[{a@1:5=1@1:8 b@2:5=2@2:8 }@1:5 'c'@3:5 ]@1:3 ~@4:1 'x y'@5:3 ]@1:1| ~ - - a: 1␊    b: 2␊  - c␊-␊- x␊  y␊
+{a@1:1=[1@2:3 ]@2:1 b@3:1={d@3:5=['e'@3:9 'f'@3:12 ]@3:8 g@3:20=~@3:20 }@3:5 }@1:1| ~ a:␍␊- 1␍␊b: {d: [e, 'f', ], g: }␍␊"#;
+
+const REFUSED: &str = r#"4 1:1| ~ a: [1, 2
+3 1:4| ~ a: [1, 2␊]
+4 1:1|4 3:1| ~ a: [1, 2␊---␊]
+9 1:6| ~ a: "x\q"␊b: [␊
+4 2:1| ~ a: b␊  c: d␊
+4 3:1| ~ a: |␊  x␊ y␊
+4 3:1| ~ a:␊  b: 1␊ c: 1␊
+3 1:1| ~ %YAML 1.2␊"#;
+
+/// Markers and forbidden characters.
+const MARKED: &str = r#"3 2:1| ~ a: 1␊...␊b: [␊
+4 1:1| ~ a: [␊...␊
+3 1:1|['y'@3:3 ]@3:1| ~ --- x␊---␊- y
+4 3:1| ~ # ␁␊␊a: 1␊
+3 3:4| ~ # ␁␊␊a: &x 1␊
+4 2:1| ~ a: 1␊# ␁␊b: &x 1␊
+3 1:4| ~ a: &x ␁␊
+4 1:1| ~ a: ␡ &x␊
+3 1:4| ~ a: [1␊␁]␊"#;
+
 #[test]
-fn answers_each_document(rt: HostRuntime) -> Result<(), Fail> {
+fn files_are_read_and_refused(rt: HostRuntime) -> Result<(), Fail> {
     let alloc = rt.alloc();
-    let bytes =
-        b"title: \"cut\n---\na:\n\tb: 1\n---\na: 1\na: 2\n---\na: &x 1\n---\ntitle: T\nlogsource:\n  category: process_creation\ndetection:\n  selection:\n    Image: cmd.exe\n  condition: selection\n";
-    let expected =
-        "4 1:1|8 4:1|5 7:1|3 9:4|{title@11:1='T'@11:8 logsource@12:1={category@13:3='process_creation'@13:13 }@13:3 detection@14:1={selection@15:3={Image@16:5='cmd.exe'@16:12 }@16:5 condition@17:3='selection'@17:14 }@15:3 }@11:1|";
-    assert_eq!(rt; shown(alloc, bytes)?.as_str(), expected);
-    assert_eq!(rt; shown(alloc, b"# c\n---\n---\n\n")?.as_str(), "");
+    let limits = Limits::standard();
+    assert_eq!(rt; wrong_row(alloc, &limits, TREES)?.as_str(), "");
+    assert_eq!(rt; wrong_row(alloc, &limits, REFUSED)?.as_str(), "");
+    assert_eq!(rt; wrong_row(alloc, &limits, MARKED)?.as_str(), "");
     Ok(())
 }
 
-#[test]
-fn reads_trees(rt: HostRuntime) -> Result<(), Fail> {
-    let alloc = rt.alloc();
-    let whole = b"a: +7\nb: yes\nc: 1.5\nd: 0x10\ne: true\nf:\n";
-    assert_eq!(rt;
-        shown(alloc, whole)?.as_str(),
-        "{a@1:1=7@1:4 b@2:1='yes'@2:4 c@3:1='1.5'@3:4 d@4:1='0x10'@4:4 e@5:1=true@5:4 f@6:1=~@6:1 }@1:1|"
-    );
-    assert_eq!(rt;
-        shown(alloc, b"a: >\n  b\n  c\n\n  d")?.as_str(),
-        "{a@1:1='b c\nd\n'@1:4 }@1:1|"
-    );
-    assert_eq!(rt;
-        shown(alloc, b"- - a: 1\n    b: 2\n  - c\n-\n- x\n  y\n")?.as_str(),
-        "[[{a@1:5=1@1:8 b@2:5=2@2:8 }@1:5 'c'@3:5 ]@1:3 ~@4:1 'x y'@5:3 ]@1:1|"
-    );
-    assert_eq!(rt;
-        shown(alloc, b"a:\r\n- 1\r\nb: {d: [e, 'f', ], g: }\r\n")?.as_str(),
-        "{a@1:1=[1@2:3 ]@2:1 b@3:1={d@3:5=['e'@3:9 'f'@3:12 ]@3:8 g@3:20=~@3:20 }@3:5 }@1:1|"
-    );
-    Ok(())
-}
+const TOO_DEEP: &str = "6 1:33| ~ [[[[[[[[[[[[[[[[[[[[[[[[[[[[[[[[[[[[[[[[";
 
-#[test]
-fn refuses_documents(rt: HostRuntime) -> Result<(), Fail> {
-    let alloc = rt.alloc();
-    assert_eq!(rt; shown(alloc, b"a: [1, 2")?.as_str(), "4 1:1|");
-    assert_eq!(rt; shown(alloc, b"a: [1, 2\n]")?.as_str(), "3 1:4|");
-    assert_eq!(rt; shown(alloc, b"a: [1, 2\n---\n]")?.as_str(), "4 1:1|4 3:1|");
-    assert_eq!(rt; shown(alloc, b"a: \"x\\q\"\nb: [\n")?.as_str(), "9 1:6|");
-    assert_eq!(rt; shown(alloc, b"a: b\n  c: d\n")?.as_str(), "4 2:1|");
-    assert_eq!(rt; shown(alloc, b"a: |\n  x\n y\n")?.as_str(), "4 3:1|");
-    assert_eq!(rt; shown(alloc, b"a:\n  b: 1\n c: 1\n")?.as_str(), "4 3:1|");
-    assert_eq!(rt; shown(alloc, b"%YAML 1.2\n")?.as_str(), "3 1:1|");
-    Ok(())
-}
-
-#[test]
-fn refuses_markers_and_forbidden_characters(rt: HostRuntime) -> Result<(), Fail> {
-    let alloc = rt.alloc();
-    assert_eq!(rt; shown(alloc, b"a: 1\n...\nb: [\n")?.as_str(), "3 2:1|");
-    assert_eq!(rt; shown(alloc, b"a: [\n...\n")?.as_str(), "4 1:1|");
-    assert_eq!(rt;
-        shown(alloc, b"--- x\n---\n- y")?.as_str(),
-        "3 1:1|['y'@3:3 ]@3:1|"
-    );
-    assert_eq!(rt; shown(alloc, b"# \x01\n\na: 1\n")?.as_str(), "4 3:1|");
-    assert_eq!(rt; shown(alloc, b"# \x01\n\na: &x 1\n")?.as_str(), "3 3:4|");
-    assert_eq!(rt;
-        shown(alloc, b"a: 1\n# \x01\nb: &x 1\n")?.as_str(),
-        "4 2:1|"
-    );
-    assert_eq!(rt; shown(alloc, b"a: &x \x01\n")?.as_str(), "3 1:4|");
-    assert_eq!(rt; shown(alloc, b"a: \x7F &x\n")?.as_str(), "4 1:1|");
-    assert_eq!(rt; shown(alloc, b"a: [1\n\x01]\n")?.as_str(), "3 1:4|");
-    Ok(())
-}
+/// Within two documents.
+const TWO: &str = r"7 9:1 ~ [␊---␊# c␊---␊b␊---␊␊# c␊ - x␊
+4 1:1|'b'@3:1| ~ [␊---␊b␊---␊";
 
 #[test]
 fn keeps_limits(rt: HostRuntime) -> Result<(), Fail> {
     let alloc = rt.alloc();
     let mut limits = Limits::standard();
-    let deep = b"[[[[[[[[[[[[[[[[[[[[[[[[[[[[[[[[[[[[[[[[";
-    assert_eq!(rt; shown_in(alloc, &limits, deep)?.as_str(), "6 1:33|");
+    assert_eq!(rt; wrong_row(alloc, &limits, TOO_DEEP)?.as_str(), "");
     limits.yaml_depth = 2;
-    assert_eq!(rt; shown_in(alloc, &limits, b"a: [[1]]")?.as_str(), "6 1:5|");
+    assert_eq!(rt;
+        wrong_row(alloc, &limits, "6 1:5| ~ a: [[1]]")?.as_str(),
+        ""
+    );
     limits.documents = 2;
-    assert_eq!(rt;
-        shown_in(alloc, &limits, b"[\n---\n# c\n---\nb\n---\n\n# c\n - x\n")?.as_str(),
-        "7 9:1"
-    );
-    assert_eq!(rt;
-        shown_in(alloc, &limits, b"[\n---\nb\n---\n")?.as_str(),
-        "4 1:1|'b'@3:1|"
-    );
+    assert_eq!(rt; wrong_row(alloc, &limits, TWO)?.as_str(), "");
     limits.file_bytes = 5;
     assert_eq!(rt; shown_in(alloc, &limits, b"a: \xFFxx")?.as_str(), "2 1:1");
     assert_eq!(rt; shown_in(alloc, &limits, b"a: \xFFx")?.as_str(), "1 1:4");
     assert_eq!(rt;
-        shown_in(alloc, &limits, b"a: 1\n")?.as_str(),
-        "{a@1:1=1@1:4 }@1:1|"
+        wrong_row(alloc, &limits, "{a@1:1=1@1:4 }@1:1| ~ a: 1␊")?.as_str(),
+        ""
     );
     Ok(())
 }

@@ -1,3 +1,4 @@
+use super::tables::with_controls;
 use sig_base::{Fault, Place};
 use std::alloc::Global;
 use std::fmt::Write;
@@ -46,32 +47,39 @@ fn refusal(alloc: Global, fault: &Fault) -> Result<String, Fail> {
     }
 }
 
+/// The first row of a table, `what is parted ~ a file`, that isn't parted so; see `with_controls`.
+fn wrong_file(alloc: Global, most: usize, table: &'static str) -> Result<String, Fail> {
+    for row in table.lines() {
+        let Some((want, text)) = row.split_once(" ~ ") else {
+            return Ok(format!(in alloc; "no row: {row}")?);
+        };
+        let want = with_controls(alloc, want)?;
+        let text = with_controls(alloc, text)?;
+        if shown(alloc, 99, most, text.as_str().as_bytes())?.as_str() != want.as_str() {
+            return Ok(String::from_str(alloc, row)?);
+        }
+    }
+    Ok(String::new(alloc))
+}
+
+const FILES: &str = r"/1a: 1|2b|3|4 c| ~ a: 1␍␊b␊␊ c
+/1a␍|2b␍| ~ ¤a␍␍␊b␍
+/2a|3---#x|/7|8b| ~ --- # c␊a␊---#x␊---␉␊# c␊---␊␊b␊---␊
+/1--- a|2----␠| ~ --- a␊----␠␊
+ ~ # c␊ ␉␊---";
+
 #[test]
 fn parts_files_into_documents(rt: HostRuntime) -> Result<(), Fail> {
     let alloc = rt.alloc();
+    assert_eq!(rt; wrong_file(alloc, 9, FILES)?.as_str(), "");
     assert_eq!(rt;
-        shown(alloc, 99, 9, b"a: 1\r\nb\n\n c")?.as_str(),
-        "/1a: 1|2b|3|4 c|"
+        wrong_file(alloc, 1, "7 8:1 ~ ---␊a␊---␊␊# c␊---␊␊ b␊")?.as_str(),
+        ""
     );
     assert_eq!(rt;
-        shown(alloc, 99, 9, b"\xEF\xBB\xBFa\r\r\nb\r")?.as_str(),
-        "/1a\r|2b\r|"
+        wrong_file(alloc, 2, "/2a|/7|8 b| ~ ---␊a␊---␊␊# c␊---␊␊ b␊")?.as_str(),
+        ""
     );
-    assert_eq!(rt;
-        shown(
-            alloc,
-            99,
-            9,
-            b"--- # c\na\n---#x\n---\t\n# c\n---\n\nb\n---\n"
-        )?
-        .as_str(),
-        "/2a|3---#x|/7|8b|"
-    );
-    assert_eq!(rt;
-        shown(alloc, 99, 9, b"--- a\n---- \n")?.as_str(),
-        "/1--- a|2---- |"
-    );
-    assert_eq!(rt; shown(alloc, 99, 9, b"# c\n \t\n---")?.as_str(), "");
     Ok(())
 }
 
@@ -88,39 +96,31 @@ fn refuses_whole_files(rt: HostRuntime) -> Result<(), Fail> {
         shown(alloc, 99, 9, b"a\r\n\xED\xA0\x80")?.as_str(),
         "1 2:1"
     );
-    assert_eq!(rt;
-        shown(alloc, 99, 1, b"---\na\n---\n\n# c\n---\n\n b\n")?.as_str(),
-        "7 8:1"
-    );
-    assert_eq!(rt;
-        shown(alloc, 99, 2, b"---\na\n---\n\n# c\n---\n\n b\n")?.as_str(),
-        "/2a|/7|8 b|"
-    );
     Ok(())
 }
 
-/// The code and the place of what stays open on a line: a bracket at column 4 and a quote at column 8.
-fn open_code(alloc: Global, text: &str, later: &str) -> Result<String, Fail> {
-    let text: Vec<char> = text.chars().collect(alloc)?;
-    let later: Vec<char> = later.chars().collect(alloc)?;
-    if text.len() > 99 || later.len() > 99 {
-        return Ok(String::from_str(alloc, "too long")?);
-    }
-    let line = Line {
-        number: 1,
-        text: &text,
-    };
+/// A bracket that is open at column 4, and a quote at column 8.
+fn two_openings(alloc: Global) -> Result<Vec<Opening>, Fail> {
     let mut openings = Vec::new(alloc);
-    let columns = [(4u32, ']'), (8u32, '"')];
-    for (column, closing) in columns {
+    for (column, closing) in [(4u32, ']'), (8u32, '"')] {
         let place = Place { line: 1, column };
         openings.push(Opening { place, closing })?;
     }
+    Ok(openings)
+}
+
+/// The code and the place of what stays open on a line of these characters, with another behind it.
+fn code_of(alloc: Global, text: &[char], later: &[char]) -> Result<String, Fail> {
+    if text.len() > 99 || later.len() > 99 {
+        return Ok(String::from_str(alloc, "too long")?);
+    }
+    let line = Line { number: 1, text };
     let next = Line {
         number: 2,
-        text: &later,
+        text: later,
     };
-    match stop_code(&line, &[next], &Halt::Unclosed(1, openings)) {
+    let halt = Halt::Unclosed(1, two_openings(alloc)?);
+    match stop_code(&line, &[next], &halt) {
         None => Ok(String::from_str(alloc, "memory")?),
         Some((code, place)) => {
             let number = code.number();
@@ -129,17 +129,39 @@ fn open_code(alloc: Global, text: &str, later: &str) -> Result<String, Fail> {
     }
 }
 
+/// The code and the place of what stays open on a line: a bracket at column 4 and a quote at column 8.
+fn open_code(alloc: Global, text: &str, later: &str) -> Result<String, Fail> {
+    let text: Vec<char> = text.chars().collect(alloc)?;
+    let later: Vec<char> = later.chars().collect(alloc)?;
+    code_of(alloc, &text, &later)
+}
+
+/// The first row of a table, `code and place ~ a line ~ the next line`, of which that doesn't stay open.
+fn wrong_opening(alloc: Global, table: &'static str) -> Result<String, Fail> {
+    for row in table.lines() {
+        let Some((want, lines)) = row.split_once(" ~ ") else {
+            return Ok(format!(in alloc; "no row: {row}")?);
+        };
+        let Some((text, later)) = lines.split_once(" ~ ") else {
+            return Ok(String::from_str(alloc, row)?);
+        };
+        let text = with_controls(alloc, text)?;
+        if open_code(alloc, text.as_str(), later)?.as_str() != want {
+            return Ok(String::from_str(alloc, row)?);
+        }
+    }
+    Ok(String::new(alloc))
+}
+
+const OPENINGS: &str = r#"3 1:4 ~ a: [1, "x ~ "]
+3 1:8 ~ a: [1, "x ~ # "
+4 1:1 ~ a: [1, "x ~ }
+4 1:1 ~ a: [1␁, "x ~ "
+3 1:8 ~ a: [1, "␁ ~ "
+4 1:1 ~ a: [1, ␁ ~ ""#;
+
 #[test]
 fn finds_what_closes_later(rt: HostRuntime) -> Result<(), Fail> {
-    let alloc = rt.alloc();
-    assert_eq!(rt; open_code(alloc, "a: [1, \"x", "\"]")?.as_str(), "3 1:4");
-    assert_eq!(rt; open_code(alloc, "a: [1, \"x", "# \"")?.as_str(), "3 1:8");
-    assert_eq!(rt; open_code(alloc, "a: [1, \"x", "}")?.as_str(), "4 1:1");
-    assert_eq!(rt;
-        open_code(alloc, "a: [1\u{1}, \"x", "\"")?.as_str(),
-        "4 1:1"
-    );
-    assert_eq!(rt; open_code(alloc, "a: [1, \"\u{1}", "\"")?.as_str(), "3 1:8");
-    assert_eq!(rt; open_code(alloc, "a: [1, \u{1}", "\"")?.as_str(), "4 1:1");
+    assert_eq!(rt; wrong_opening(rt.alloc(), OPENINGS)?.as_str(), "");
     Ok(())
 }

@@ -1,3 +1,4 @@
+use super::tables::with_controls;
 use std::alloc::Global;
 use std::test::Fail;
 use yaml_lines::Line;
@@ -26,16 +27,16 @@ fn shown(alloc: Global, depth: usize, text: &str) -> Result<String, Fail> {
     }
 }
 
-fn shown_key(alloc: Global, text: &str) -> Result<String, Fail> {
-    let all: Vec<char> = text.chars().collect(alloc)?;
+/// The key that a line of these characters begins with.
+fn key_in(alloc: Global, all: &[char]) -> Result<String, Fail> {
     if all.len() > 4000 {
         return Ok(String::from_str(alloc, "none")?);
     }
     let line = Line {
         number: 7,
-        text: &all,
+        text: all,
     };
-    match key_at(alloc, &line, &all) {
+    match &key_at(alloc, &line, all) {
         Ok(Some((key, rest))) => {
             let left = rest.len();
             Ok(format!(in alloc; "{key:?} {left}")?)
@@ -43,6 +44,11 @@ fn shown_key(alloc: Global, text: &str) -> Result<String, Fail> {
         Ok(None) => Ok(String::from_str(alloc, "no key")?),
         Err(halt) => Ok(format!(in alloc; "{halt:?}")?),
     }
+}
+
+fn shown_key(alloc: Global, text: &str) -> Result<String, Fail> {
+    let all: Vec<char> = text.chars().collect(alloc)?;
+    key_in(alloc, &all)
 }
 
 fn meant(alloc: Global, text: &str) -> Result<String, Fail> {
@@ -53,99 +59,79 @@ fn meant(alloc: Global, text: &str) -> Result<String, Fail> {
     Ok(format!(in alloc; "{kind:?} {left}")?)
 }
 
+/// What a table tells of: a flow node within this depth, a key, or a plain scalar.
+fn told(alloc: Global, what: &str, text: &str) -> Result<String, Fail> {
+    match what {
+        "key" => shown_key(alloc, text),
+        "plain" => meant(alloc, text),
+        depth => match depth.parse::<usize>() {
+            Ok(depth) => shown(alloc, depth, text),
+            Err(_) => Ok(String::from_str(alloc, "no depth")?),
+        },
+    }
+}
+
+/// The first row of a table, `what is read ~ a text`, that isn't read so; see `told` and `with_controls`.
+fn wrong_row(alloc: Global, what: &str, table: &'static str) -> Result<String, Fail> {
+    for row in table.lines() {
+        let Some((want, text)) = row.split_once(" ~ ") else {
+            return Ok(format!(in alloc; "no row: {row}")?);
+        };
+        let text = with_controls(alloc, text)?;
+        if told(alloc, what, text.as_str())?.as_str() != want {
+            return Ok(String::from_str(alloc, row)?);
+        }
+    }
+    Ok(String::new(alloc))
+}
+
+/// Within a depth of 2.
+const COLLECTIONS: &str =
+    r#"Node { place: Place { line: 1, column: 1 }, kind: List([Node { place: Place { line: 1, column: 2 }, kind: Text(Text { inner: "it's" }) }, Node { place: Place { line: 1, column: 11 }, kind: Text(Text { inner: "Aé" }) }]) } 2 ~ ['it''s', "\x41\u00e9", ] #
+Node { place: Place { line: 1, column: 3 }, kind: Map([Entry { key: Text { inner: "a" }, place: Place { line: 1, column: 3 }, value: Node { place: Place { line: 1, column: 6 }, kind: List([]) } }, Entry { key: Text { inner: "b" }, place: Place { line: 1, column: 10 }, value: Node { place: Place { line: 1, column: 10 }, kind: Null } }]) } 0 ~ { a: [], "b":}"#;
+
+/// Within a depth of 9.
+const REFUSED: &str = r#"Refused(Code(3), Place { line: 1, column: 2 }) ~ [a: b]
+Refused(Code(5), Place { line: 1, column: 8 }) ~ {b: 1, b: 2}
+Refused(Code(9), Place { line: 1, column: 4 }) ~ ["a\q
+Unclosed(1, [Opening { place: Place { line: 1, column: 1 }, closing: ']' }, Opening { place: Place { line: 1, column: 5 }, closing: '}' }, Opening { place: Place { line: 1, column: 9 }, closing: '"' }]) ~ [a, {b: "c"#;
+
+const PLAIN: &str = r#"Text(Text { inner: "a b" }) 4 ~ a b  # c
+Null 0 ~ ~
+Truth(false) 3 ~ FALSE: x
+Whole(7) 0 ~ +7␠
+Whole(-9223372036854775808) 0 ~ -9223372036854775808
+Text(Text { inner: "9223372036854775808" }) 0 ~ 9223372036854775808"#;
+
+const KEYS: &str = r#"Text { inner: "a b" } 2 ~ a b : c
+Text { inner: "a" } 2 ~ 'a' : c
+no key ~ "a":c
+Refused(Code(3), Place { line: 7, column: 1 }) ~ <<: c"#;
+
 #[test]
-fn reads_flow_collections(rt: HostRuntime) -> Result<(), Fail> {
+fn reads_nodes_scalars_and_keys(rt: HostRuntime) -> Result<(), Fail> {
     let alloc = rt.alloc();
-    let list = shown(alloc, 2, "['it''s', \"\\x41\\u00e9\", ] #")?;
-    assert_eq!(rt;
-        list.as_str(),
-        "Node { place: Place { line: 1, column: 1 }, kind: List([Node { place: Place { line: 1, column: 2 }, kind: Text(Text { inner: \"it's\" }) }, Node { place: Place { line: 1, column: 11 }, kind: Text(Text { inner: \"A\u{e9}\" }) }]) } 2"
-    );
-    let map = shown(alloc, 2, "{ a: [], \"b\":}")?;
-    assert_eq!(rt;
-        map.as_str(),
-        "Node { place: Place { line: 1, column: 3 }, kind: Map([Entry { key: Text { inner: \"a\" }, place: Place { line: 1, column: 3 }, value: Node { place: Place { line: 1, column: 6 }, kind: List([]) } }, Entry { key: Text { inner: \"b\" }, place: Place { line: 1, column: 10 }, value: Node { place: Place { line: 1, column: 10 }, kind: Null } }]) } 0"
-    );
+    assert_eq!(rt; wrong_row(alloc, "2", COLLECTIONS)?.as_str(), "");
+    assert_eq!(rt; wrong_row(alloc, "9", REFUSED)?.as_str(), "");
+    assert_eq!(rt; wrong_row(alloc, "plain", PLAIN)?.as_str(), "");
+    assert_eq!(rt; wrong_row(alloc, "key", KEYS)?.as_str(), "");
     Ok(())
 }
 
-#[test]
-fn refuses_at_the_form(rt: HostRuntime) -> Result<(), Fail> {
-    let alloc = rt.alloc();
-    let pair = shown(alloc, 9, "[a: b]")?;
-    assert_eq!(rt;
-        pair.as_str(),
-        "Refused(Code(3), Place { line: 1, column: 2 })"
-    );
-    let equal = shown(alloc, 9, "{b: 1, b: 2}")?;
-    assert_eq!(rt;
-        equal.as_str(),
-        "Refused(Code(5), Place { line: 1, column: 8 })"
-    );
-    let escape = shown(alloc, 9, "[\"a\\q")?;
-    assert_eq!(rt;
-        escape.as_str(),
-        "Refused(Code(9), Place { line: 1, column: 4 })"
-    );
-    let unclosed = shown(alloc, 9, "[a, {b: \"c")?;
-    assert_eq!(rt;
-        unclosed.as_str(),
-        "Unclosed(1, [Opening { place: Place { line: 1, column: 1 }, closing: ']' }, Opening { place: Place { line: 1, column: 5 }, closing: '}' }, Opening { place: Place { line: 1, column: 9 }, closing: '\"' }])"
-    );
-    Ok(())
+/// What is read of so many open brackets within a depth of 32.
+fn of_brackets(alloc: Global, count: usize) -> Result<String, Fail> {
+    let mut brackets = String::new(alloc);
+    for _ in 0..count {
+        brackets.push('[')?;
+    }
+    shown(alloc, 32, brackets.as_str())
 }
 
 #[test]
 fn answers_a_long_line(rt: HostRuntime) -> Result<(), Fail> {
-    let alloc = rt.alloc();
-    let mut brackets = String::new(alloc);
-    for _ in 0..3000 {
-        brackets.push('[')?;
-    }
-    let deep = shown(alloc, 32, brackets.as_str())?;
     assert_eq!(rt;
-        deep.as_str(),
+        of_brackets(rt.alloc(), 3000)?.as_str(),
         "Refused(Code(6), Place { line: 1, column: 33 })"
-    );
-    Ok(())
-}
-
-#[test]
-fn reads_plain_scalars(rt: HostRuntime) -> Result<(), Fail> {
-    let alloc = rt.alloc();
-    assert_eq!(rt;
-        meant(alloc, "a b  # c")?.as_str(),
-        "Text(Text { inner: \"a b\" }) 4"
-    );
-    assert_eq!(rt; meant(alloc, "~")?.as_str(), "Null 0");
-    assert_eq!(rt; meant(alloc, "FALSE: x")?.as_str(), "Truth(false) 3");
-    assert_eq!(rt; meant(alloc, "+7 ")?.as_str(), "Whole(7) 0");
-    assert_eq!(rt;
-        meant(alloc, "-9223372036854775808")?.as_str(),
-        "Whole(-9223372036854775808) 0"
-    );
-    assert_eq!(rt;
-        meant(alloc, "9223372036854775808")?.as_str(),
-        "Text(Text { inner: \"9223372036854775808\" }) 0"
-    );
-    Ok(())
-}
-
-#[test]
-fn reads_keys(rt: HostRuntime) -> Result<(), Fail> {
-    let alloc = rt.alloc();
-    assert_eq!(rt;
-        shown_key(alloc, "a b : c")?.as_str(),
-        "Text { inner: \"a b\" } 2"
-    );
-    assert_eq!(rt;
-        shown_key(alloc, "'a' : c")?.as_str(),
-        "Text { inner: \"a\" } 2"
-    );
-    assert_eq!(rt; shown_key(alloc, "\"a\":c")?.as_str(), "no key");
-    assert_eq!(rt;
-        shown_key(alloc, "<<: c")?.as_str(),
-        "Refused(Code(3), Place { line: 7, column: 1 })"
     );
     Ok(())
 }

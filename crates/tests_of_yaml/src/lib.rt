@@ -11,3 +11,5 @@ mod in_files;
 mod in_lines;
 #[cfg(test)]
 mod nodes;
+#[cfg(test)]
+mod tables;

@@ -1,6 +1,6 @@
+use super::tables::with_controls;
 use sig_base::Place;
 use std::alloc::Global;
-use std::process::Abort;
 use std::test::Fail;
 use yaml_lines::{Halt, Line};
 use yaml_nodes::read_block;
@@ -77,143 +77,116 @@ fn shown(alloc: Global, depth: usize, text: &str) -> Result<String, Fail> {
     Ok(out)
 }
 
-/// Texts, each with what is read of it.
-fn check(rt: &impl Abort, alloc: Global, depth: usize, cases: &[(&str, &str)]) -> Result<(), Fail> {
-    for (text, expected) in cases {
-        let read = shown(alloc, depth, text)?;
-        assert_eq!(rt; read.as_str(), *expected, "of {text:?}");
+/// The first row of a table, `what is read ~ a text`, that isn't read so; see `with_controls`.
+fn wrong_row(alloc: Global, depth: usize, table: &'static str) -> Result<String, Fail> {
+    for row in table.lines() {
+        let Some((want, text)) = row.split_once(" ~ ") else {
+            return Ok(format!(in alloc; "no row: {row}")?);
+        };
+        let text = with_controls(alloc, text)?;
+        if shown(alloc, depth, text.as_str())?.as_str() != want {
+            return Ok(String::from_str(alloc, row)?);
+        }
     }
+    Ok(String::new(alloc))
+}
+
+const SEQUENCES: &str =
+    r#"1:1 [ 1:3 [ 1:5 { 1:5 a = 1:8 1 2:5 b = 2:8 2 } 3:5 "c" ] 4:1 null 5:3 "x y" ] ~ - - a: 1␊    b: 2␊  - c␊-␊- x␊  y
+1:1 [ 1:3 "a" 2:3 { 2:3 b = 2:6 1 3:3 c = 3:6 2 } 5:3 "d" ] ~ - a␊- b: 1␊  c: 2␊-␊  d
+1:1 [ 1:3 [ 1:5 [ 1:5 null ] ] ] ~ - - -
+1:1 [ 1:3 "a" 2:1 null 3:3 [ 3:4 "b" ] ] ~ -␉a␊- # c␊- [b]
+1:3 [ 1:5 "a" 4:5 "b" ] ~   - a␊ # c␊␊  - b"#;
+
+const MAPS: &str =
+    r#"1:1 { 1:1 a = 2:1 [ 2:3 1 3:3 2 ] 4:1 b = 5:3 { 5:3 c = 5:7 { 5:7 d = 5:10 [ 5:11 "e" 5:14 "f" ] 5:22 g = 5:22 null } } } ~ a:␊- 1␊- 2␊b:␊  c: {d: [e, 'f', ], g: }
+1:1 [ 1:3 { 1:3 a = 2:3 [ 2:5 1 ] 3:3 b = 3:6 "A\n" } ] ~ - a:␊  - 1␊  b: "\x41\n"
+1:1 { 1:1 a = 1:6 1 2:1 b = 2:7 2 } ~ "a": 1␊'b' : 2
+1:1 { 1:1 a = 1:4 [ ] 2:1 b = 2:4 { } 3:1 c = 3:4 "d" } ~ a: []␊b: {}␊c:␉d
+1:1 { 1:1 a = 2:3 "b" 3:1 c = 3:1 null } ~ a: # c␊  b␊c:
+1:1 { 1:1 a = 1:4 "x y\nz" } ~ a: x␊  y␊␊  z
+1:1 { 1:1 a = 1:4 "\nx\n  y\n\n" 7:1 b = 7:1 null } ~ a: |+␊␊  x␊    y␊␊# c␊b:
+1:1 { 1:1 a = 1:4 "b c\nd\n" } ~ a: >␊  b␊  c␊␊  d
+1:1 { 1:1 a = 1:4 7 2:1 b = 2:4 "yes" 3:1 c = 3:4 true 4:1 d = 4:4 null } ~ a: +7␊b: yes␊c: true␊d: ~"#;
+
+const REFUSED: &str = r#"2:1 Code(8) ~ a:␊␉b: 1
+2:3 Code(8) ~ a: b␊  ␉c
+2:1 Code(5) ~ a: 1␊a: 2
+2:1 Code(5) ~ a: 1␊"a": 2
+1:4 Code(3) ~ a: &x 1
+1:1 Code(3) ~ ? a
+1:1 Code(3) ~ <<: x
+2:1 Code(3) ~ a: 1␊&a b: 1
+1:1 Code(3) ~ %YAML 1.2
+1:1 Code(3) ~ --- x
+2:1 Code(3) ~ a: 1␊...
+2:1 Code(4) ~ a: 1␊%b: 2
+1:1 Code(4) ~ a: b: c
+2:1 Code(4) ~ a: b␊  c: d
+3:1 Code(4) ~ a:␊  b: 1␊ c: 1
+2:1 Code(4) ~ a: {b: 1}␊   c: 1
+3:1 Code(4) ~ a: |␊  x␊ y
+2:1 Code(4) ~ - a␊b: 1
+2:1 Code(4) ~ a: 1␊- b
+1:1 Code(4) ~ -␉a: 1
+Unclosed(1, [Opening { place: Place { line: 1, column: 8 }, closing: '"' }]) ~ title: "cut"#;
+
+#[test]
+fn lines_are_read_and_refused(rt: HostRuntime) -> Result<(), Fail> {
+    let alloc = rt.alloc();
+    assert_eq!(rt; wrong_row(alloc, 32, SEQUENCES)?.as_str(), "");
+    assert_eq!(rt; wrong_row(alloc, 32, MAPS)?.as_str(), "");
+    assert_eq!(rt; shown(alloc, 32, "")?.as_str(), "1:1 null");
+    assert_eq!(rt; wrong_row(alloc, 32, REFUSED)?.as_str(), "");
     Ok(())
 }
 
-#[test]
-fn reads_sequences(rt: HostRuntime) -> Result<(), Fail> {
-    let cases = [
-        (
-            "- - a: 1\n    b: 2\n  - c\n-\n- x\n  y",
-            "1:1 [ 1:3 [ 1:5 { 1:5 a = 1:8 1 2:5 b = 2:8 2 } 3:5 \"c\" ] 4:1 null 5:3 \"x y\" ]",
-        ),
-        (
-            "- a\n- b: 1\n  c: 2\n-\n  d",
-            "1:1 [ 1:3 \"a\" 2:3 { 2:3 b = 2:6 1 3:3 c = 3:6 2 } 5:3 \"d\" ]",
-        ),
-        ("- - -", "1:1 [ 1:3 [ 1:5 [ 1:5 null ] ] ]"),
-        (
-            "-\ta\n- # c\n- [b]",
-            "1:1 [ 1:3 \"a\" 2:1 null 3:3 [ 3:4 \"b\" ] ]",
-        ),
-        ("  - a\n # c\n\n  - b", "1:3 [ 1:5 \"a\" 4:5 \"b\" ]"),
-    ];
-    check(&rt, rt.alloc(), 32, &cases)
-}
+/// Within a depth of 2.
+const DEEP: &str = r#"1:1 [ 1:3 { 1:3 a = 1:6 1 } ] ~ - a: 1
+1:6 Code(6) ~ - a: [1]
+1:5 Code(6) ~ - - - 1
+3:3 Code(6) ~ a:␊ b:␊  c:
+2:3 Code(6) ~ a:␊- - - b"#;
 
-#[test]
-fn reads_maps(rt: HostRuntime) -> Result<(), Fail> {
-    let cases = [
-        (
-            "a:\n- 1\n- 2\nb:\n  c: {d: [e, 'f', ], g: }",
-            "1:1 { 1:1 a = 2:1 [ 2:3 1 3:3 2 ] 4:1 b = 5:3 { 5:3 c = 5:7 { 5:7 d = 5:10 [ 5:11 \"e\" 5:14 \"f\" ] 5:22 g = 5:22 null } } }",
-        ),
-        (
-            "- a:\n  - 1\n  b: \"\\x41\\n\"",
-            "1:1 [ 1:3 { 1:3 a = 2:3 [ 2:5 1 ] 3:3 b = 3:6 \"A\\n\" } ]",
-        ),
-        ("\"a\": 1\n'b' : 2", "1:1 { 1:1 a = 1:6 1 2:1 b = 2:7 2 }"),
-        (
-            "a: []\nb: {}\nc:\td",
-            "1:1 { 1:1 a = 1:4 [ ] 2:1 b = 2:4 { } 3:1 c = 3:4 \"d\" }",
-        ),
-        (
-            "a: # c\n  b\nc:",
-            "1:1 { 1:1 a = 2:3 \"b\" 3:1 c = 3:1 null }",
-        ),
-        ("a: x\n  y\n\n  z", "1:1 { 1:1 a = 1:4 \"x y\\nz\" }"),
-        (
-            "a: |+\n\n  x\n    y\n\n# c\nb:",
-            "1:1 { 1:1 a = 1:4 \"\\nx\\n  y\\n\\n\" 7:1 b = 7:1 null }",
-        ),
-        (
-            "a: >\n  b\n  c\n\n  d",
-            "1:1 { 1:1 a = 1:4 \"b c\\nd\\n\" }",
-        ),
-        (
-            "a: +7\nb: yes\nc: true\nd: ~",
-            "1:1 { 1:1 a = 1:4 7 2:1 b = 2:4 \"yes\" 3:1 c = 3:4 true 4:1 d = 4:4 null }",
-        ),
-        ("", "1:1 null"),
-    ];
-    check(&rt, rt.alloc(), 32, &cases)
-}
-
-#[test]
-fn refuses_at_the_form(rt: HostRuntime) -> Result<(), Fail> {
-    let cases = [
-        ("a:\n\tb: 1", "2:1 Code(8)"),
-        ("a: b\n  \tc", "2:3 Code(8)"),
-        ("a: 1\na: 2", "2:1 Code(5)"),
-        ("a: 1\n\"a\": 2", "2:1 Code(5)"),
-        ("a: &x 1", "1:4 Code(3)"),
-        ("? a", "1:1 Code(3)"),
-        ("<<: x", "1:1 Code(3)"),
-        ("a: 1\n&a b: 1", "2:1 Code(3)"),
-        ("%YAML 1.2", "1:1 Code(3)"),
-        ("--- x", "1:1 Code(3)"),
-        ("a: 1\n...", "2:1 Code(3)"),
-        ("a: 1\n%b: 2", "2:1 Code(4)"),
-        ("a: b: c", "1:1 Code(4)"),
-        ("a: b\n  c: d", "2:1 Code(4)"),
-        ("a:\n  b: 1\n c: 1", "3:1 Code(4)"),
-        ("a: {b: 1}\n   c: 1", "2:1 Code(4)"),
-        ("a: |\n  x\n y", "3:1 Code(4)"),
-        ("- a\nb: 1", "2:1 Code(4)"),
-        ("a: 1\n- b", "2:1 Code(4)"),
-        ("-\ta: 1", "1:1 Code(4)"),
-        (
-            "title: \"cut",
-            "Unclosed(1, [Opening { place: Place { line: 1, column: 8 }, closing: '\"' }])",
-        ),
-    ];
-    check(&rt, rt.alloc(), 32, &cases)
-}
+/// Within a depth of 0.
+const FLAT: &str = r#"1:1 "a" ~ a
+1:1 Code(6) ~ a:"#;
 
 #[test]
 fn refuses_what_is_too_deep(rt: HostRuntime) -> Result<(), Fail> {
-    let cases = [
-        ("- a: 1", "1:1 [ 1:3 { 1:3 a = 1:6 1 } ]"),
-        ("- a: [1]", "1:6 Code(6)"),
-        ("- - - 1", "1:5 Code(6)"),
-        ("a:\n b:\n  c:", "3:3 Code(6)"),
-        ("a:\n- - - b", "2:3 Code(6)"),
-    ];
-    check(&rt, rt.alloc(), 2, &cases)?;
-    check(
-        &rt,
-        rt.alloc(),
-        0,
-        &[("a", "1:1 \"a\""), ("a:", "1:1 Code(6)")],
-    )
+    let alloc = rt.alloc();
+    assert_eq!(rt; wrong_row(alloc, 2, DEEP)?.as_str(), "");
+    assert_eq!(rt; wrong_row(alloc, 0, FLAT)?.as_str(), "");
+    Ok(())
+}
+
+/// What is read of 20,000 different keys, each on its line.
+fn of_keys(alloc: Global) -> Result<String, Fail> {
+    let mut keys = String::new(alloc);
+    for at in 0..20000 {
+        keys.push_str(format!(in alloc; "k{at}:\n")?.as_str())?;
+    }
+    shown(alloc, 32, keys.as_str())
+}
+
+/// What is read of a text 20,000 times.
+fn of_many(alloc: Global, text: &str) -> Result<String, Fail> {
+    let mut all = String::new(alloc);
+    for _ in 0..20000 {
+        all.push_str(text)?;
+    }
+    shown(alloc, 32, all.as_str())
 }
 
 #[test]
 fn reads_many_items(rt: HostRuntime) -> Result<(), Fail> {
     let alloc = rt.alloc();
-    let mut keys = String::new(alloc);
-    let mut dashes = String::new(alloc);
-    let mut equal = String::new(alloc);
-    for at in 0..20000 {
-        keys.push_str(format!(in alloc; "k{at}:\n")?.as_str())?;
-        dashes.push_str("- ")?;
-        equal.push_str("a:\n")?;
-    }
-    let read = shown(alloc, 32, keys.as_str())?;
-    assert!(rt; read.as_str().ends_with(" 20000:1 k19999 = 20000:1 null }"));
-    check(
-        &rt,
-        alloc,
-        32,
-        &[
-            (dashes.as_str(), "1:65 Code(6)"),
-            (equal.as_str(), "2:1 Code(5)"),
-        ],
-    )
+    assert!(rt;
+        of_keys(alloc)?
+            .as_str()
+            .ends_with(" 20000:1 k19999 = 20000:1 null }")
+    );
+    assert_eq!(rt; of_many(alloc, "- ")?.as_str(), "1:65 Code(6)");
+    assert_eq!(rt; of_many(alloc, "a:\n")?.as_str(), "2:1 Code(5)");
+    Ok(())
 }
