@@ -5,9 +5,9 @@
     scripts/rt_once.py run -- convert --backend sqlite data/r.yml
 
 All is proved as by rt itself. Two things differ. Before the proofs rt reads the sources of all crates once, to tell mistakes
-early; here it doesn't. And each time that rt asks for a sum of sources it goes every way down to the crates below one, some
-hundred thousand ways, and sums all files; here a crate's list of crates below it is made once, and its sum again only where a
-file of theirs was touched. Where rt isn't made as this expects, and for all other words, it's run as it is.
+early; here it doesn't. And each time that rt asks which crates stand below one it goes every way down to them, some hundred
+thousand ways, and for each sum of sources it reads all files below; here a crate's list is made once, and its sum again only where
+a file of theirs, or the toolchain's, was touched. Where rt lacks the parts that this exchanges, and for all other words, it's run as it is.
 """
 
 import importlib.machinery
@@ -27,6 +27,8 @@ def loaded(path):
         crate = module.rtlib.Crate
         for part in (module.main, module.rtlib.files_of, crate.stamp, crate.below, crate.front_end):
             inspect.signature(part).bind(None)
+        module.STAMPS.seen = None
+        os.stat(f"{module.rtlib.KIT}/WHAT")
     except (Exception, SystemExit):
         return None
     return module
@@ -44,19 +46,30 @@ def kept_list(below):
     return ask
 
 
-def kept_sum(stamp, files_of):
+def touched(rtlib, crate):
+    """What tells whether a file was touched that the crate's sum is made of: those of the crate and of each below it, and the toolchain's name."""
+    files = [f"{rtlib.KIT}/WHAT"]
+    for it in [*crate.below(), crate]:
+        files += rtlib.files_of(it.folder)
+    told = []
+    for file in files:
+        found = os.stat(file)
+        told.append((file, found.st_dev, found.st_ino, found.st_size, found.st_mtime_ns, found.st_ctime_ns))
+    return told
+
+
+def kept_sum(module, stamp):
     """The method that sums sources, asked again where a file of the crate's or of one below was touched."""
     answers = {}
 
     def ask(crate):
-        now = []
-        for it in [*crate.below(), crate]:
-            for file in files_of(it.folder):
-                found = os.stat(file)
-                now.append((file, found.st_size, found.st_mtime_ns, found.st_ctime_ns))
-        if answers.get(crate.folder, (None,))[0] != now:
-            answers[crate.folder] = now, stamp(crate)
-        return answers[crate.folder][1]
+        now = touched(module.rtlib, crate)
+        kept = answers.get(crate.folder)
+        if kept is None or kept[0] != now:
+            # rt keeps the sums of one call for crates that it meets again in it, which may have been touched since
+            module.STAMPS.seen = None
+            kept = answers[crate.folder] = now, stamp(crate)
+        return kept[1]
 
     return ask
 
@@ -74,7 +87,7 @@ def main(words):
         os.execv(path, [path, *words])
     crate = module.rtlib.Crate
     crate.below = kept_list(crate.below)
-    crate.stamp = kept_sum(crate.stamp, module.rtlib.files_of)
+    crate.stamp = kept_sum(module, crate.stamp)
     crate.front_end = lambda self: 0
     return module.main(words)
 
