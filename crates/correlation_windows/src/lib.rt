@@ -19,5 +19,3 @@ mod law;
 mod matches;
 mod report;
 mod store;
-#[cfg(test)]
-mod tests;

@@ -8,8 +8,6 @@ pub use schema::{Field, FieldKind, Schema, Time, TimeForm};
 pub use value::{Value, decimal, decimal_in};
 pub use values::FieldValues;
 
-#[cfg(test)]
-mod checks;
 mod event;
 mod fields;
 mod names;

@@ -5,8 +5,6 @@ mod draws;
 mod events;
 mod laws;
 mod rule;
-#[cfg(test)]
-mod tests;
 mod words;
 
 pub use draws::{after_events, after_three};

@@ -10,10 +10,7 @@ mod line;
 mod making;
 mod selecting;
 mod subject;
-#[cfg(test)]
-mod tests;
-#[cfg(test)]
-mod wanting;
 
 pub use generating::generate;
-pub use laws::generated_lines;
+pub use laws::{generated_lines, seeds_are_subjects};
+pub use making::tree_for;

@@ -14,7 +14,3 @@ mod language;
 mod laws;
 mod search;
 mod selector;
-#[cfg(test)]
-mod small;
-#[cfg(test)]
-mod tests;

@@ -5,8 +5,6 @@ mod asking;
 mod files;
 mod language;
 mod laws;
-#[cfg(test)]
-mod tests;
 
 pub use files::line_feed_behind;
 pub use language::LuceneReader;

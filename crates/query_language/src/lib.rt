@@ -2,7 +2,5 @@
 #![tactic(auto)]
 
 mod queries;
-#[cfg(test)]
-mod tests;
 
 pub use queries::QueryLanguage;

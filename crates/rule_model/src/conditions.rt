@@ -16,9 +16,6 @@ use sig_conditions::{Formula, Names, read_condition, resolve_condition};
 use std::alloc::Global;
 use yaml_tree::{Entry, Node, all_entries, is_empty, parts_of, place_of, text_of, value_at};
 
-#[cfg(test)]
-mod tests;
-
 /// The names of the detections, which are all keys but `condition`.
 fn copy_names(alloc: Global, entries: &[Entry]) -> Result<Texts, Fault>
     ensures ok { IfOk result (λ names. names ≡ map (λ e. e.key) (filter (λ e. not (is_key (codes "condition") e)) (entries_view entries.now))) }

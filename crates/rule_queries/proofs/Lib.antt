@@ -1,4 +1,3 @@
 pub mod Meaning
 pub mod Judging
-pub mod MoreLacks
 pub mod ByName

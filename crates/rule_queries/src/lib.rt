@@ -9,5 +9,3 @@ mod backend_name;
 mod converting;
 mod law;
 pub mod named;
-#[cfg(test)]
-mod tests;

@@ -4,8 +4,6 @@
 mod files;
 mod language;
 mod laws;
-#[cfg(test)]
-mod tests;
 
 pub use files::line_feed_behind;
 pub use language::SqlReader;

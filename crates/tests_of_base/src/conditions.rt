@@ -183,8 +183,12 @@ struct Repetitions;
 
 /// The parts of `count~piece~end`.
 fn repeated_parts(given: &str) -> Option<(usize, &str, &str)> {
-    let (count, rest) = given.split_once('~')?;
-    let (piece, end) = rest.split_once('~')?;
+    let Some((count, rest)) = given.split_once('~') else {
+        return None;
+    };
+    let Some((piece, end)) = rest.split_once('~') else {
+        return None;
+    };
     Some((number(count)?, piece, end))
 }
 

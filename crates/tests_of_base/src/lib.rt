@@ -1,4 +1,4 @@
-//! Tests of texts, patterns, encodings, conditions, trees of tests, lines, numbers of fields and words of the command line.
+//! Tests of texts, patterns, encodings, conditions, trees of tests, events, lines, numbers of fields and words of the command line.
 #![tactic(auto)]
 
 #[cfg(test)]
@@ -9,6 +9,8 @@ mod conditions;
 mod dashes;
 #[cfg(test)]
 mod encodings;
+#[cfg(test)]
+mod events;
 #[cfg(test)]
 mod indexes;
 #[cfg(test)]

@@ -57,8 +57,12 @@ fn steps(alloc: Global, source: MemorySource, limits: &Limits) -> Result<String,
 
 /// The numbers of `line_bytes events_bytes call`.
 fn numbers(given: &str) -> Option<(usize, usize, usize)> {
-    let (line_bytes, rest) = given.split_once(' ')?;
-    let (events_bytes, call) = rest.split_once(' ')?;
+    let Some((line_bytes, rest)) = given.split_once(' ') else {
+        return None;
+    };
+    let Some((events_bytes, call)) = rest.split_once(' ') else {
+        return None;
+    };
     Some((number(line_bytes)?, number(events_bytes)?, number(call)?))
 }
 

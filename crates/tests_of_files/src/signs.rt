@@ -18,7 +18,11 @@ pub fn written(alloc: Global, text: &str) -> Result<String, Fail> {
 
 /// The three columns of a row.
 pub fn columns(row: &str) -> Option<(&str, &str, &str)> {
-    let (first, behind) = row.split_once('~')?;
-    let (second, third) = behind.split_once('~')?;
+    let Some((first, behind)) = row.split_once('~') else {
+        return None;
+    };
+    let Some((second, third)) = behind.split_once('~') else {
+        return None;
+    };
     Some((first, second, third))
 }

@@ -256,7 +256,7 @@ const NAMES: &str = "1100;any;h,u;x;x||| |||x |x|| |||
 111;any;z;null;x|x|7|x ||| x|x|7|x|x
 000;any;z;some;x|x|7|x ||| x|x|7|x|x";
 
-/// .. over numbers, `matches;any or all;names;values;events`.
+/// .. over numbers in a field, and by keywords, `matches;any or all;names;values;events`.
 const NUMBERS: &str = "10100;any;n;#7;||7| ||70| ||8,7| 7||| |||
 1100;any;n;7*;||7| ||70| ||8| |||
 1101100;any;n;<=5;||4| ||5| ||6| ||-7| ||9,4| ||'4| |||
@@ -268,13 +268,13 @@ const NUMBERS: &str = "10100;any;n;#7;||7| ||70| ||8,7| 7||| |||
 const COMPARISONS: &str = "1001100 0110011;n;<5;||4| ||5| ||6| ||-7| ||9,4| ||'4| |||
 0110100 1001011;n;>=5;||4| ||5| ||6| ||-7| ||9,4| ||'4| |||";
 
-/// .. with values of another field, `matches matches;field;value;events`.
+/// .. with values of another field, or of one that the schema lacks, `matches matches;field;value;events`.
 const OTHER_FIELDS: &str =
     "111000010110 000111101001;u;=p;a|a|| a|A|| aZ|Az|| a|b|| a||| |a|| ||| a,b|c,B|| a,b|c,d|| 7|7|| '7|7|| ä|Ä||
 101001 010110;n;=m;||7||7 ||7||8 ||7,8||8 ||7|| ||||7 ||-7||-7
 00 11;u;=z;a||| |||";
 
-/// What items match, `matches;any or all;names;values;events`.
+/// What a field compared with itself matches, and a keyword compared with a field, `matches;any or all;names;values;events`.
 const ITSELF: &str = "1001;any;u;=u;a||| |a|| ||| 7|||
 1110;any;;=p;a|a|| a|b|| |b|| a|||";
 
@@ -401,7 +401,7 @@ const FLAGS: &str = "01001;~/ab,~i/ab,~m/ab,~s/ab,~ims/ab;xAB|||
 00101;~/^b$,~i/^b$,~m/^b$,~s/^b$,~ims/^B$;a¶b|||
 00011;~/a.b,~i/a.b,~m/a.b,~s/a.b,~ims/A.B;a¶b|||";
 
-/// What items of several regular expressions match, `matches;any or all;names;values;events`.
+/// What items of several values match, regular expressions among them, `matches;any or all;names;values;events`.
 const SEVERAL: &str = "1000;all;u;~/a,~/b,~/a;ab||| a|b|| b|ab|| |||
 01;all;u;~/A,~i/A;ab||| Ab|||
 0011;any;u;x,~/^b,null;ab||| a|b|| b|ab|| |||";
@@ -438,8 +438,10 @@ fn four_expressions(alloc: Global) -> Result<Rule, Fail> {
 
 /// What a rule is refused with, if it is.
 fn refused(alloc: Global, made: &Result<Ready, Fault>) -> Result<String, Fail> {
-    let Err(Fault::Refused(refusal)) = made else {
-        return Ok(String::new(alloc));
+    let refusal = match made {
+        Ok(_) => return Ok(String::new(alloc)),
+        Err(Fault::Memory) => return Ok(String::from_str(alloc, "memory")?),
+        Err(Fault::Refused(refusal)) => refusal,
     };
     let code = refusal.code.number();
     let line = refusal.place.line;

@@ -188,7 +188,7 @@ fn show_leaf(alloc: Global, shown: &mut String, leaf: &Leaf) -> Result<(), Fail>
     show_test(alloc, shown, &leaf.test)
 }
 
-/// `(a & b)`, `(a | b)`, `!a`, `never`, and a leaf as its field, `+`, `-`, `~` or `=` with its pattern, `#` with its number, `<`, `<=`, `>` or
+/// `(a&b&)`, `(a|b|)`, `!a`, `never`, and a leaf as its field, `+`, `-`, `~` or `=` with its pattern, `#` with its number, `<`, `<=`, `>` or
 /// `>=` with what it's compared with, `^` with another field, or `/` with its regular expression.
 fn show(alloc: Global, shown: &mut String, tree: &Tree) -> Result<(), Fail> {
     match tree {
@@ -452,11 +452,19 @@ fn expression(alloc: Global, row: &str) -> Result<String, Fail> {
     let Some((letters, kind)) = row.split_once(';') else {
         return no_row(alloc);
     };
-    let flags = Flags {
-        i: letters.contains('i'),
-        m: letters.contains('m'),
-        s: letters.contains('s'),
+    let mut flags = Flags {
+        i: false,
+        m: false,
+        s: false,
     };
+    for letter in letters.chars() {
+        match letter {
+            'i' => flags.i = true,
+            'm' => flags.m = true,
+            's' => flags.s = true,
+            _ => return no_row(alloc),
+        }
+    }
     let text = Text::copy(alloc, "a+")?;
     shown_test(alloc, kind, Test::Finds { text, flags })
 }
@@ -600,7 +608,7 @@ const CONDITIONS: &str = "(1~a|1~b|0~c|(2~x&2~y&)|);one-0-1-2
 !!(1~a|1~b|);!!0
 (0~c|1~a|1~b|);1,0";
 
-/// How many leaves a rule of this item is refused for at its place, or 0 where it isn't.
+/// How many leaves a rule of this item is refused for at its place, 0 where it isn't, and -1 where it is for another cause.
 fn refused_leaves(alloc: Global, item: Item, limit: usize) -> Result<i128, Fail>
     requires low { 1 ≤ limit }
     requires high { limit ≤ 16384 }
@@ -610,8 +618,10 @@ fn refused_leaves(alloc: Global, item: Item, limit: usize) -> Result<i128, Fail>
     let schema = schema(alloc, "A B")?;
     let mut limits = Limits::standard();
     limits.leaves = limit;
-    let Err(Fault::Refused(refusal)) = lower(alloc, &limits, &rule, &schema) else {
-        return Ok(0);
+    let refusal = match lower(alloc, &limits, &rule, &schema) {
+        Ok(_) => return Ok(0),
+        Err(Fault::Memory) => return Ok(-1),
+        Err(Fault::Refused(refusal)) => refusal,
     };
     if refusal.code != Code::TOO_MANY_LEAVES || refusal.place != RULE {
         return Ok(-1);
@@ -684,7 +694,7 @@ fn tests_of_each_kind_of_field(rt: HostRuntime) -> Result<(), Fail> {
     Ok(())
 }
 
-/// Each network, choice of dashes, comparison and regular expression counts, for each name.
+/// A network counts each of its patterns, and each choice of dashes, comparison, regular expression and value counts, for each name.
 #[test]
 fn leaves_are_counted(rt: HostRuntime) -> Result<(), Fail> {
     assert_eq!(rt;

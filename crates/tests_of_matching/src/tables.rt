@@ -30,8 +30,12 @@ pub fn no_row(alloc: Global) -> Result<String, Fail> {
 
 /// A row's first part, its second one, and what is behind them.
 pub fn three(row: &str) -> Option<(&str, &str, &str)> {
-    let (first, rest) = row.split_once(';')?;
-    let (second, third) = rest.split_once(';')?;
+    let Some((first, rest)) = row.split_once(';') else {
+        return None;
+    };
+    let Some((second, third)) = rest.split_once(';') else {
+        return None;
+    };
     Some((first, second, third))
 }
 

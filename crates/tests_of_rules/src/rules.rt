@@ -252,6 +252,49 @@ fn conditions_are_judged_in_order(rt: HostRuntime) -> Result<(), Fail> {
     Ok(())
 }
 
+/// So many conditions of so many selectors.
+fn conditions_of(alloc: Global, count: u32, selectors: u32) -> Result<Node, Fail> {
+    let mut condition = String::from_str(alloc, "first")?;
+    for _ in 0..selectors {
+        condition.push_str(" or 1 of first")?;
+    }
+    let mut all = Vec::new(alloc);
+    for _ in 0..count {
+        all.push(text(alloc, at(5, 7), condition.as_str())?)?;
+    }
+    Ok(Node::list(at(5, 5), all))
+}
+
+/// What refuses a rule of 2,048 detections of the name `first` with such conditions.
+fn with_selectors(alloc: Global, count: u32, selectors: u32) -> Result<String, Fail> {
+    let mut detection = Vec::new(alloc);
+    for _ in 0..2048 {
+        let keyword = text(alloc, at(4, 10), "x")?;
+        add(alloc, &mut detection, at(4, 3), "first", keyword)?;
+    }
+    let conditions = conditions_of(alloc, count, selectors)?;
+    add(alloc, &mut detection, at(5, 3), "condition", conditions)?;
+    let node = with_detection(alloc, Node::map(at(4, 3), detection))?;
+    shown(alloc, &Limits::standard(), &node)
+}
+
+#[test]
+fn selectors_are_bounded(rt: HostRuntime) -> Result<(), Fail> {
+    // Each selector takes 2,048 names, and 2,048 of them take 4,194,304, which is the bound for all conditions together.
+    for (count, selectors, want) in [
+        (1, 2048, ""),
+        (1, 2049, "memory"),
+        (2, 1024, ""),
+        (2, 1025, "memory"),
+    ] {
+        assert_eq!(rt;
+            with_selectors(rt.alloc(), count, selectors)?.as_str(),
+            want
+        );
+    }
+    Ok(())
+}
+
 /// What refuses a document as a rule that is no correlation where no regular expression is built at these places, or nothing.
 fn refused_alone(alloc: Global, unbuilt: &[Place], node: &Node) -> Result<String, Fail> {
     match Rule::read_lone(alloc, &Limits::standard(), unbuilt, node) {

@@ -46,7 +46,9 @@ fn world_of(text: &str) -> Option<World> {
         return Some(world);
     }
     for part in text.split(' ') {
-        let (name, number) = part.split_once('=')?;
+        let Some((name, number)) = part.split_once('=') else {
+            return None;
+        };
         let Ok(number) = number.parse::<u64>() else {
             return None;
         };
@@ -147,8 +149,12 @@ pub fn wrong_among(
 
 /// The output of what is told of one command.
 pub fn output_of(told: &str) -> Option<&str> {
-    let (_, rest) = told.split_once('|')?;
-    let (output, _) = rest.split_once('|')?;
+    let Some((_, rest)) = told.split_once('|') else {
+        return None;
+    };
+    let Some((output, _)) = rest.split_once('|') else {
+        return None;
+    };
     Some(output)
 }
 

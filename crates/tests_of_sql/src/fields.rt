@@ -7,7 +7,8 @@ use std::test::Fail;
 /// have several.
 const FIELDS: &str = "Parent:text Image:text Ip:address Code:whole Port:whole User:many";
 
-/// Conditions of comparisons with a number and of two fields, each alone, denied and denied again, and what several values refuse.
+/// Conditions of comparisons with a number and of two fields, some of them denied, denied again or denied together, and what several
+/// values refuse.
 const COMPARISONS: &str = r#""Code" > 5~>:3:5
 "Code" >= 5~>=:3:5
 "Code" < 0~<:3:0
@@ -26,7 +27,7 @@ NOT ("Code" IS NOT NULL AND "Code" < 5 AND "Parent" IS NOT NULL AND "Image" IS N
 6:5 111 Many~same:1:5
 6:5 111 Many~same:5:5 not"#;
 
-/// Conditions of regular expressions, alone, denied and denied again, and what several values refuse.
+/// Conditions of regular expressions, one of them denied and denied again, and what several values refuse.
 const EXPRESSIONS: &str = r#""Image" REGEXP '^cmd[.]exe$'~finds:1:^cmd[.]exe$
 "Image" REGEXP 'it''s|%_\.'~finds:1:it's|%_\.
 "Image" REGEXP ''''~finds:1:'
@@ -36,7 +37,7 @@ NOT ("Image" IS NOT NULL AND "Image" REGEXP 'a+')~finds:1:a+ not
 NOT NOT "Image" REGEXP 'a+'~finds:1:a+ not not
 6:5 111 Many~finds:5:a+"#;
 
-/// How deep each is where a depth of 1 is allowed.
+/// How deep some of each kind are where a depth of 1 is allowed.
 const DEPTHS: &str = r"1:1 112 2 1~>=:3:5
 1:1 112 4 1~>=:3:5 not
 1:1 112 3 1~same:0:1

@@ -21,7 +21,7 @@ NOT 0~never not
 "Code" = 5 OR 0~=:2:5 never any
 NOT ("Image" IS NOT NULL AND "Image" = 'b' OR 0)~cased:0:b never any not"#;
 
-/// How deep each is where a depth of 1 is allowed.
+/// What is written or how deep it is where a depth of 1 is allowed.
 const DEPTHS: &str = r"0~never
 1:1 112 2 1~never not
 1:1 112 2 1~=:1:1

@@ -4,7 +4,7 @@ use sql_patterns::{is_glob, is_like};
 use std::alloc::Global;
 use std::test::Fail;
 
-/// Whether a text is taken, written in front of a pattern.
+/// Whether a text is taken by a pattern of LIKE, whatever the case of ASCII letters; a backslash takes its meaning from the sign behind it.
 const LIKE: &str = r"yes~CMD.exe~cmd%
 yes~a%_Xb~%\%\_x%
 no~a%yx~%\%\_x%
@@ -16,6 +16,7 @@ no~é~É
 yes~~%
 yes~\~\\";
 
+/// .. and by a pattern of GLOB, which regards case.
 const GLOB: &str = r"no~cmd.exe~CMD*
 yes~a*b~*[*]?
 no~a*~*[*]?

@@ -111,7 +111,7 @@ fn of_condition(
     answer(alloc, limits, text.as_bytes(), failing)
 }
 
-/// Whether each line `condition ~ answer` of a table is answered so; else the first condition that isn't, with its answer.
+/// What is answered to each line `condition ~ answer` of a table is answered so; else the first condition that isn't, with its answer.
 fn first_wrong(alloc: Global, table: &'static str, failing: u64) -> Result<String, Fail> {
     let limits = Limits::standard();
     for line in table.lines() {
@@ -343,14 +343,16 @@ fn of_groups(alloc: Global, count: usize) -> Result<String, Fail> {
     of_condition(alloc, &Limits::standard(), all.as_str(), 0)
 }
 
-/// What is answered to a test on a text of so many letters.
+/// What is answered to a test on a text of so many letters, within a depth of 25.
 fn of_letters(alloc: Global, count: usize) -> Result<String, Fail> {
+    let mut limits = Limits::standard();
+    limits.sql_depth = 25;
     let mut long = String::from_str(alloc, "\"Image\" = '")?;
     for _turn in 0..count {
         long.push('a')?;
     }
     long.push('\'')?;
-    of_condition(alloc, &Limits::standard(), long.as_str(), 0)
+    of_condition(alloc, &limits, long.as_str(), 0)
 }
 
 #[test]

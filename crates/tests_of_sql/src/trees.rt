@@ -10,7 +10,8 @@ use std::test::Fail;
 
 const RULE: Place = Place { line: 1, column: 1 };
 
-/// The standard limits but for the depth and the bytes of a query.
+/// The standard limits but for the depth, from 1 to 1000, and the bytes of a query, from 1 to 4,194,304; what is out of bounds is
+/// brought to the nearer one.
 pub fn within(depth: usize, bytes: usize) -> Limits {
     let mut limits = Limits::standard();
     limits.sql_depth = depth.max(1).min(1000);
@@ -18,8 +19,17 @@ pub fn within(depth: usize, bytes: usize) -> Limits {
     limits
 }
 
-/// A field by its word, `name:kind` or `name:kind:step`, with the one step of where its values stand in an event; `many` is of texts
-/// that may be several.
+/// The kind of a word, where `many` is of texts that may be several.
+fn kind_of(word: &str) -> Result<FieldKind, Fail> {
+    match word {
+        "text" | "many" => Ok(FieldKind::Text),
+        "whole" => Ok(FieldKind::Whole),
+        "address" => Ok(FieldKind::Address),
+        _ => Err(Fail::new("no kind")),
+    }
+}
+
+/// A field by its word, `name:kind` or `name:kind:step`, with the one step of where its values stand in an event.
 fn field(alloc: Global, word: &str) -> Result<Field, Fail> {
     let Some((name, kind)) = word.split_once(':') else {
         return Err(Fail::new("no field"));
@@ -31,11 +41,7 @@ fn field(alloc: Global, word: &str) -> Result<Field, Fail> {
     }
     Ok(Field {
         name: Text::copy(alloc, name)?,
-        kind: match kind {
-            "whole" => FieldKind::Whole,
-            "address" => FieldKind::Address,
-            _ => FieldKind::Text,
-        },
+        kind: kind_of(kind)?,
         at,
         search: false,
         cased: false,
@@ -69,7 +75,8 @@ fn compare(op: Op, text: &str) -> Result<LeafTest, Fail> {
     }
 }
 
-/// The test of a word and the text behind it: a pattern, an expression, a number or the number of a field.
+/// The test of a word and the text behind it: a pattern, an expression, a number or the number of a field; `has` and `absent` look at
+/// none.
 fn test(alloc: Global, kind: &str, text: &str) -> Result<LeafTest, Fail> {
     match kind {
         "fits" => fits(alloc, text, false),
@@ -139,7 +146,7 @@ fn joined(alloc: Global, parts: &mut Vec<Tree>, word: &str) -> Result<Tree, Fail
     }
 }
 
-/// The tree of words with blanks between them: leaves, `never`, and behind their parts `not`, `all` and `any`, each of two parts.
+/// The tree of words with blanks between them: leaves, `never`, and behind their parts `not`, of one, and `all` and `any`, of two each.
 pub fn tree(alloc: Global, words: &str) -> Result<Tree, Fail> {
     let mut parts = Vec::new(alloc);
     for word in words.split(' ') {

@@ -40,7 +40,8 @@ fn copies(alloc: Global, word: &str, count: usize) -> Result<Tree, Fail> {
     match word {
         "any" => Ok(Tree::Any(parts)),
         "all" => Ok(Tree::All(parts)),
-        _ => Ok(Tree::Not(Box::new(alloc, Tree::All(parts))?)),
+        "none" => Ok(Tree::Not(Box::new(alloc, Tree::All(parts))?)),
+        _ => Err(Fail::new("no list")),
     }
 }
 
@@ -158,9 +159,9 @@ fn guards_count_among_parts(rt: HostRuntime) -> Result<(), Fail> {
     Ok(())
 }
 
-/// A query of 63 bytes.
+/// A query of 63 bytes, where 10 are allowed and where 63 are.
 #[test]
-fn too_long(rt: HostRuntime) -> Result<(), Fail> {
+fn as_long_as_allowed(rt: HostRuntime) -> Result<(), Fail> {
     let alloc = rt.alloc();
     let long = "1:1 114 63 10~fits:0:cmd.exe";
     assert_eq!(rt;

@@ -124,7 +124,7 @@ fn words(alloc: Global, joined: &str) -> Result<Vec<Text>, Fail> {
     Ok(texts)
 }
 
-/// The number and the word of a refusal, or `elsewhere`.
+/// The number and the word of a refusal, `numbers` where it tells some, or `elsewhere`.
 fn refused(alloc: Global, refusal: &Refusal) -> Result<String, Fail> {
     if refusal.place != KEY {
         return answer(alloc, "elsewhere");

@@ -220,14 +220,17 @@ impl Asked for Sevens {
     }
 }
 
-const SEVENTH_TEXTS: &str = "yes~7
+const TEXTS_OF_SEVEN: &str = "yes~7
 no~07
 no~+7
 no~7 ";
 
 #[test]
 fn numbers_in_texts(rt: HostRuntime) -> Result<(), Fail> {
-    assert_eq!(rt; wrong_row(rt.alloc(), &Sevens, SEVENTH_TEXTS)?.as_str(), "");
+    assert_eq!(rt;
+        wrong_row(rt.alloc(), &Sevens, TEXTS_OF_SEVEN)?.as_str(),
+        ""
+    );
     Ok(())
 }
 

@@ -380,7 +380,7 @@ fn number_has_expression(alloc: Global) -> Result<bool, Fail> {
 }
 
 #[test]
-fn other_tests_are_no_expressions(rt: HostRuntime) -> Result<(), Fail> {
+fn which_tests_are_expressions(rt: HostRuntime) -> Result<(), Fail> {
     assert!(rt; !Test::Absent.is_expression());
     assert!(rt; !number_has_expression(rt.alloc())?);
     assert!(rt; finds_is_expression(rt.alloc())?);

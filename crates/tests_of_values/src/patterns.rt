@@ -18,7 +18,7 @@ const VALUE: Place = Place {
 };
 
 /// The patterns of a text, where `<*>` is a run, `<?>` a single character, `<->` a dash place and `<name>` a placeholder, or the
-/// number of a refusal: `patterns~chain at a field~text of at most 20 characters`.
+/// number of a refusal: `patterns~chain at a field~text`. A text has at most 20 characters.
 const AT_FIELDS: &str = "<*>100%_x<*>~contains~100%_x
 a<*>~startswith|all~a*
 <*>.exe~endswith~*.exe
@@ -75,7 +75,7 @@ const NETWORKS: &str = "4~192.168.0.0/14
 49~10.0.0.0/000000000008
 49~aaaaaaaaaaaaaaaaaaaa\0";
 
-/// The name of a field, or the number of a refusal, and the text of at most 20 characters.
+/// The name of a field, or the number of a refusal, and the text, which has at most 20 characters.
 const REFERENCES: &str = "Image~Image
 a.b c~a.b c
 42~
@@ -86,7 +86,8 @@ a.b c~a.b c
 49~a|bcdefghijklmnopqrst
 49~aaaaaaaaaaaaaaaaaaaaa";
 
-/// The regular expression, or the number of a refusal, and its flags and text: `expression~flags~text of at most 20 characters`.
+/// The regular expression, or the number of a refusal, and its flags and text: `expression~flags~text`. A text has at
+/// most 20 characters.
 const EXPRESSIONS: &str = r"a.c~~a.c
 ~~
 (?i)a~i~a
@@ -311,7 +312,7 @@ fn texts_are_regular_expressions(rt: HostRuntime) -> Result<(), Fail> {
     Ok(())
 }
 
-const TAKEN_HERE: &str = "48~~a";
+const NOT_BUILT_HERE: &str = "48~~a";
 
 const REFUSED_HERE: &str = "47~~(
 49~~aaaaaaaaaaaaaaaaaaaaa";
@@ -322,7 +323,7 @@ fn regular_expressions_are_not_built(rt: HostRuntime) -> Result<(), Fail> {
     let both = Expressions {
         unbuilt: Unbuilt::ValueAndKey,
     };
-    assert_eq!(rt; wrong_row(alloc, &both, TAKEN_HERE)?.as_str(), "");
+    assert_eq!(rt; wrong_row(alloc, &both, NOT_BUILT_HERE)?.as_str(), "");
     let here = Expressions {
         unbuilt: Unbuilt::Value,
     };

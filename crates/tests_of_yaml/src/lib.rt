@@ -1,4 +1,4 @@
-//! Tests of reading lines, blocks and files of YAML.
+//! Tests of trees, lines, blocks, documents and files of YAML.
 #![tactic(auto)]
 
 #[cfg(test)]
@@ -13,3 +13,5 @@ mod in_lines;
 mod nodes;
 #[cfg(test)]
 mod tables;
+#[cfg(test)]
+mod trees;

@@ -154,30 +154,3 @@ fn copy_entries(alloc: Global, entries: &[Entry]) -> Result<Vec<Entry>, Fault>
     }
     Ok(copies)
 }
-
-#[cfg(test)]
-mod tests {
-    use super::*;
-    use std::test::Fail;
-
-    const FIRST: Place = Place { line: 2, column: 3 };
-
-    #[test]
-    fn copies_a_map(rt: HostRuntime) -> Result<(), Fail> {
-        let alloc = rt.alloc();
-        let mut elements = Vec::new(alloc);
-        elements.push(Node::text(FIRST, Text::copy(alloc, "b")?))?;
-        let mut entries = Vec::new(alloc);
-        entries.push(Entry {
-            key: Text::copy(alloc, "a")?,
-            place: FIRST,
-            value: Node::list(FIRST, elements),
-        })?;
-        let copied = Node::map(FIRST, entries).copy(alloc)?;
-        let shown = format!(in alloc; "{copied:?}")?;
-        let expected =
-            "Node { place: Place { line: 2, column: 3 }, kind: Map([Entry { key: Text { inner: \"a\" }, place: Place { line: 2, column: 3 }, value: Node { place: Place { line: 2, column: 3 }, kind: List([Node { place: Place { line: 2, column: 3 }, kind: Text(Text { inner: \"b\" }) }]) } }]) }";
-        assert_eq!(rt; shown.as_str(), expected);
-        Ok(())
-    }
-}

@@ -1,0 +1,148 @@
+ghost use Rattle.std.specs.Prelude.{◌≡◌, ◌<◌, ◌≤◌, length, IfOk};
+ghost use Rattle.event_schema.specs.Occurrence.{IsMoment};
+ghost use Rattle.correlation_engine.specs.Limits.{IsWithinLimits};
+
+use correlation_engine::{Arrival, Engine, TakeFault};
+use correlation_windows::{Bound, CorrelationKind, Op, Report};
+use event_schema::{Event, FieldValues, Value};
+use sig_base::{Sequence, Text};
+use std::alloc::Global;
+use std::fmt::Write;
+use std::test::Fail;
+
+fn numbers(alloc: Global, count: u32) -> Result<Sequence<u32>, Fail>
+    requires { count ≤ 2 }
+    ensures { IfOk result (λ all. length all ≡ count) }
+{
+    let mut all = Sequence::new(alloc);
+    for number in 0..count {
+        all.push(number)?;
+    }
+    Ok(all)
+}
+
+/// A correlation of so many rules within a minute, grouped by the only field.
+fn within_a_minute(alloc: Global, kind: CorrelationKind, rules: u32) -> Result<Bound, Fail>
+    requires { rules ≤ 2 }
+    ensures { IfOk result IsWithinLimits }
+{
+    let mut groups = Sequence::new(alloc);
+    groups.push(numbers(alloc, 1)?)?;
+    groups.push(numbers(alloc, 1)?)?;
+    let mut condition = Sequence::new(alloc);
+    condition.push((Op::Gte, 3))?;
+    Ok(Bound {
+        kind,
+        rules: numbers(alloc, rules)?,
+        groups,
+        span: 60_000_000_000,
+        condition,
+        counted: None,
+    })
+}
+
+fn engine(alloc: Global, bound: Bound) -> Result<Engine, Fail>
+    requires { IsWithinLimits bound }
+{
+    let mut bounds = Vec::new(alloc);
+    bounds.push(bound)?;
+    Ok(Engine::make(alloc, bounds)?)
+}
+
+fn moment_of(second: u8) -> i128
+    ensures { IsMoment result }
+{
+    second as i128 * 1_000_000_000
+}
+
+fn event(alloc: Global, user: &str) -> Result<Event, Fail> {
+    let mut values = Vec::new(alloc);
+    values.push(FieldValues::one(Value::Text(Text::copy(alloc, user)?)))?;
+    Ok(Event::new(values, None))
+}
+
+/// The reports of an event, each with its line, the line of its window's first match, its count and its group.
+fn write_all(shown: &mut String, reports: &[Report]) -> Result<(), Fail> {
+    for report in reports {
+        write!(shown, "{} {} {}", report.line, report.from, report.count)?;
+        for text in report.group.as_slice() {
+            write!(shown, " {}", text.as_str())?;
+        }
+        write!(shown, ";")?;
+    }
+    Ok(())
+}
+
+/// Takes an event of the user `a` at this second, and writes its reports or why it isn't taken.
+fn take(
+    alloc: Global,
+    engine: &mut Engine,
+    shown: &mut String,
+    line: u32,
+    second: u8,
+    hits: &[bool],
+) -> Result<(), Fail> {
+    let event = event(alloc, "a")?;
+    let arrival = Arrival {
+        line,
+        moment: moment_of(second),
+        hits,
+        event: &event,
+    };
+    match engine.take(&arrival) {
+        Ok(reports) => write_all(shown, &reports),
+        Err(TakeFault::OutOfOrder { moment, last }) => {
+            write!(shown, "{moment} before {last};")?;
+            Ok(())
+        }
+        Err(TakeFault::Memory) => Ok(()),
+    }
+}
+
+/// Takes the events of a burst, the last of which comes too early.
+fn take_burst(alloc: Global, engine: &mut Engine, shown: &mut String) -> Result<(), Fail> {
+    for (line, second) in [(1, 0), (2, 10), (3, 60), (4, 60), (5, 61), (6, 59)] {
+        take(alloc, engine, shown, line, second, &[true])?;
+    }
+    Ok(())
+}
+
+/// What a burst gives and how many matches are held behind it, and then how many are behind an event that no rule matches.
+fn burst(alloc: Global, engine: &mut Engine) -> Result<String, Fail> {
+    let mut shown = String::new(alloc);
+    take_burst(alloc, engine, &mut shown)?;
+    write!(shown, " {} held;", engine.held())?;
+    take(alloc, engine, &mut shown, 7, 200, &[false])?;
+    write!(shown, " {} held", engine.held())?;
+    Ok(shown)
+}
+
+fn burst_of_one_rule(alloc: Global) -> Result<String, Fail> {
+    let bound = within_a_minute(alloc, CorrelationKind::EventCount, 1)?;
+    let mut engine = engine(alloc, bound)?;
+    burst(alloc, &mut engine)
+}
+
+#[test]
+fn a_burst_is_reported_and_then_forgotten(rt: HostRuntime) -> Result<(), Fail> {
+    assert_eq!(rt;
+        burst_of_one_rule(rt.alloc())?.as_str(),
+        "4 2 3 a;5 2 4 a;59000000000 before 61000000000; 4 held; 0 held"
+    );
+    Ok(())
+}
+
+/// What an event gives that two rules match, which are to match in their order.
+fn two_in_order(alloc: Global) -> Result<String, Fail> {
+    let bound = within_a_minute(alloc, CorrelationKind::TemporalOrdered, 2)?;
+    let mut engine = engine(alloc, bound)?;
+    let mut shown = String::new(alloc);
+    take(alloc, &mut engine, &mut shown, 1, 0, &[true, true])?;
+    Ok(shown)
+}
+
+#[test]
+fn one_event_meets_two_rules_in_their_order(rt: HostRuntime) -> Result<(), Fail> {
+    assert_eq!(rt; two_in_order(rt.alloc())?.as_str(), "1 1 2 a;");
+    Ok(())
+}

@@ -1,0 +1,2 @@
+mod MoreLacks
+mod OnePattern

@@ -1,0 +1,8 @@
+//! Writing, reading and asking queries in Lucene's classic syntax.
+
+mod reading;
+mod scanning;
+mod selecting;
+mod tables;
+mod trees;
+mod writing;

@@ -1,0 +1,27 @@
+//! Copies of trees.
+
+use sig_base::{Place, Text};
+use std::test::Fail;
+use yaml_tree::{Entry, Node};
+
+const FIRST: Place = Place { line: 2, column: 3 };
+
+const SHOWN: &str =
+    "Node { place: Place { line: 2, column: 3 }, kind: Map([Entry { key: Text { inner: \"a\" }, place: Place { line: 2, column: 3 }, value: Node { place: Place { line: 2, column: 3 }, kind: List([Node { place: Place { line: 2, column: 3 }, kind: Text(Text { inner: \"b\" }) }]) } }]) }";
+
+#[test]
+fn copies_a_map(rt: HostRuntime) -> Result<(), Fail> {
+    let alloc = rt.alloc();
+    let mut elements = Vec::new(alloc);
+    elements.push(Node::text(FIRST, Text::copy(alloc, "b")?))?;
+    let mut entries = Vec::new(alloc);
+    entries.push(Entry {
+        key: Text::copy(alloc, "a")?,
+        place: FIRST,
+        value: Node::list(FIRST, elements),
+    })?;
+    let copied = Node::map(FIRST, entries).copy(alloc)?;
+    let shown = format!(in alloc; "{copied:?}")?;
+    assert_eq!(rt; shown.as_str(), SHOWN);
+    Ok(())
+}
