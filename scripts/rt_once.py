@@ -4,18 +4,32 @@
     scripts/rt_once.py all check --jobs 4
     scripts/rt_once.py run -- convert --backend sqlite data/r.yml
 
-All is proved as by rt itself. Two things differ. Before the proofs rt reads the sources of all crates once, to tell mistakes
-early; here it doesn't. And each time that rt asks which crates stand below one it goes every way down to them, some hundred
+All is proved as by rt itself. Three things differ. Before the proofs rt reads the sources of all crates once, to tell mistakes
+early; here it doesn't. Each time that rt asks which crates stand below one it goes every way down to them, some hundred
 thousand ways, and for each sum of sources it reads all files below; here a crate's list is made once, and its sum again only where
-a file of theirs, or the toolchain's, was touched. Where rt lacks the parts that this exchanges, and for all other words, it's run as it is.
+a file of theirs, or the toolchain's, was touched. And of the crates that rt works on side by side some only wait for others; here
+only those count that are proved, the one with most above it goes first, and where fewer are ready than may be proved at once, one
+is proved by several processes. Where rt lacks the parts that this exchanges, and for all other words, it's run as it is.
 """
 
+import contextlib
 import importlib.machinery
 import importlib.util
 import inspect
 import os
 import shutil
 import sys
+import threading
+import time
+
+# So many crates are worked on side by side, most of which wait.
+THREADS = 200
+
+# So many processes prove one crate at most.
+MOST = 4
+
+# How long a crate waits for others that became ready with it, in seconds, before it's decided how many processes it gets.
+SETTLING = 1
 
 
 def loaded(path):
@@ -25,8 +39,9 @@ def loaded(path):
         module = importlib.util.module_from_spec(importlib.util.spec_from_loader(loader.name, loader))
         loader.exec_module(module)
         crate = module.rtlib.Crate
-        for part in (module.main, module.rtlib.files_of, crate.stamp, crate.below, crate.front_end):
+        for part in (module.main, module.rtlib.files_of, module.rtlib.crates_below, crate.stamp, crate.below, crate.front_end):
             inspect.signature(part).bind(None)
+        inspect.signature(crate.call).bind(None, "build", "--jobs", "1")
         module.STAMPS.seen = None
         os.stat(f"{module.rtlib.KIT}/WHAT")
     except (Exception, SystemExit):
@@ -74,6 +89,79 @@ def kept_sum(module, stamp):
     return ask
 
 
+def chains(rtlib, crates):
+    """The bytes of the longest chain of crates that begins with each, by its folder: of its own files, and of those above it."""
+    own = {it.folder: sum(os.path.getsize(file) for file in rtlib.files_of(it.folder)) for it in crates}
+    found = {}
+    # those with more below them stand higher
+    for it in sorted(crates, key=lambda it: -len(it.below())):
+        above = [found[other.folder] for other in crates if it in other.deps]
+        found[it.folder] = own[it.folder] + max(above, default=0)
+    return found
+
+
+class Lanes:
+    """How many processes prove at once, and which crate gets the next ones: that with the longest chain of those that are ready."""
+
+    def __init__(self, rtlib, most):
+        self.rtlib, self.left, self.waiting, self.turn = rtlib, most, [], threading.Condition()
+        self.chain = {}
+
+    def listing(self, find):
+        """rt's way to find crates, with which their chains are found."""
+
+        def ask(top):
+            crates = find(top)
+            for folder, length in chains(self.rtlib, crates).items():
+                self.chain[folder] = max(length, self.chain.get(folder, 0))
+            return crates
+
+        return ask
+
+    @contextlib.contextmanager
+    def taken(self, crate):
+        """Waits until the crate is next and a process is free, and gives how many it may use."""
+        mine = (-self.chain.get(crate.folder, 0), crate.folder)
+        with self.turn:
+            self.waiting.append(mine)
+        time.sleep(SETTLING)
+        with self.turn:
+            self.turn.wait_for(lambda: self.left and mine == min(self.waiting))
+            # one is left for each of the others, where there are so many
+            jobs = min(max(self.left - len(self.waiting) + 1, 1), MOST)
+            self.waiting.remove(mine)
+            self.left -= jobs
+            self.turn.notify_all()
+        try:
+            yield jobs
+        finally:
+            with self.turn:
+                self.left += jobs
+                self.turn.notify_all()
+
+    def calling(self, call):
+        """rt's way to call the prover, by as many processes as are given to the crate."""
+
+        def ask(crate, *words):
+            if "--jobs" not in words:
+                return call(crate, *words)
+            at = words.index("--jobs") + 1
+            with self.taken(crate) as jobs:
+                return call(crate, *words[:at], str(jobs), *words[at + 1 :])
+
+        return ask
+
+
+def side_by_side(module, words):
+    """The words of rt for crates that are proved side by side, where they're `all check --jobs N`."""
+    if words[:3] != ["all", "check", "--jobs"] or len(words) != 4 or not words[3].isdigit() or words[3] == "0":
+        return words
+    lanes = Lanes(module.rtlib, int(words[3]))
+    module.rtlib.crates_below = lanes.listing(module.rtlib.crates_below)
+    module.rtlib.Crate.call = lanes.calling(module.rtlib.Crate.call)
+    return [*words[:3], str(THREADS)]
+
+
 def main(words):
     path = shutil.which("rt")
     if path is None:
@@ -89,7 +177,7 @@ def main(words):
     crate.below = kept_list(crate.below)
     crate.stamp = kept_sum(module, crate.stamp)
     crate.front_end = lambda self: 0
-    return module.main(words)
+    return module.main(side_by_side(module, words))
 
 
 if __name__ == "__main__":
