@@ -8,8 +8,8 @@ All is proved as by rt itself. Three things differ. Before the proofs rt reads t
 early; here it doesn't. Each time that rt asks which crates stand below one it goes every way down to them, some hundred
 thousand ways, and for each sum of sources it reads all files below; here a crate's list is made once, and its sum again only where
 a file of theirs, or the toolchain's, was touched. And of the crates that rt works on side by side some only wait for others; here
-only those count that are proved, the one with most above it goes first, and where fewer are ready than may be proved at once, one
-is proved by several processes. Where rt lacks the parts that this exchanges, and for all other words, it's run as it is.
+only those count that are proved, the one with the longest chain of others above it goes first, and where fewer are ready than may
+be proved at once, it is proved by several processes. Where rt lacks the parts that this exchanges, and for all other words, it's run as it is.
 """
 
 import contextlib
@@ -20,7 +20,6 @@ import os
 import shutil
 import sys
 import threading
-import time
 
 # So many crates are worked on side by side, most of which wait.
 THREADS = 200
@@ -28,8 +27,8 @@ THREADS = 200
 # So many processes prove one crate at most.
 MOST = 4
 
-# How long a crate waits for others that became ready with it, in seconds, before it's decided how many processes it gets.
-SETTLING = 1
+# How long it is, in seconds, until a process that is free goes to another crate; by then those that became ready meanwhile wait too.
+SETTLING = 3
 
 
 def loaded(path):
@@ -39,14 +38,25 @@ def loaded(path):
         module = importlib.util.module_from_spec(importlib.util.spec_from_loader(loader.name, loader))
         loader.exec_module(module)
         crate = module.rtlib.Crate
-        for part in (module.main, module.rtlib.files_of, module.rtlib.crates_below, crate.stamp, crate.below, crate.front_end):
+        for part in (module.main, module.share_work, module.rtlib.files_of, module.rtlib.crates_below, crate.stamp, crate.below, crate.front_end, crate.is_built):
             inspect.signature(part).bind(None)
-        inspect.signature(crate.call).bind(None, "build", "--jobs", "1")
+        inspect.signature(crate.build_rlib).bind(None, [], anew=False)
+        inspect.signature(crate.check).bind(None, [])
+        # a run of `all check` shares work, and builds and checks by these two
+        for part, called in ((module.main, "share_work"), (module.rtlib.every, "build_rlib"), (module.rtlib.every, "check")):
+            if called not in names_in(part.__code__):
+                return None
         module.STAMPS.seen = None
         os.stat(f"{module.rtlib.KIT}/WHAT")
     except (Exception, SystemExit):
         return None
     return module
+
+
+def names_in(code):
+    """The names that a function's code has, and that of those inside it."""
+    inner = [it for it in code.co_consts if inspect.iscode(it)]
+    return set(code.co_names).union(*[names_in(it) for it in inner])
 
 
 def kept_list(below):
@@ -101,22 +111,36 @@ def chains(rtlib, crates):
 
 
 class Lanes:
-    """How many processes prove at once, and which crate gets the next ones: that with the longest chain of those that are ready."""
+    """How many processes prove at once, and which crate gets the next ones: that with the longest chain of those that are ready.
+    What a crate gives back is free a while later, when those that became ready by it wait too."""
 
     def __init__(self, rtlib, most):
-        self.rtlib, self.left, self.waiting, self.turn = rtlib, most, [], threading.Condition()
+        self.rtlib, self.most, self.left, self.waiting, self.turn = rtlib, most, None, [], threading.Condition()
         self.chain = {}
 
     def listing(self, find):
-        """rt's way to find crates, with which their chains are found."""
+        """rt's way to find crates, with which their chains are found; where these can't be, crates go by their names."""
 
         def ask(top):
             crates = find(top)
-            for folder, length in chains(self.rtlib, crates).items():
-                self.chain[folder] = max(length, self.chain.get(folder, 0))
+            with contextlib.suppress(Exception):
+                for folder, length in chains(self.rtlib, crates).items():
+                    self.chain[folder] = max(length, self.chain.get(folder, 0))
             return crates
 
         return ask
+
+    def free(self, jobs):
+        """Lets others have so many processes, in a while."""
+
+        def give():
+            with self.turn:
+                self.left += jobs
+                self.turn.notify_all()
+
+        timer = threading.Timer(SETTLING, give)
+        timer.daemon = True
+        timer.start()
 
     @contextlib.contextmanager
     def taken(self, crate):
@@ -124,9 +148,10 @@ class Lanes:
         mine = (-self.chain.get(crate.folder, 0), crate.folder)
         with self.turn:
             self.waiting.append(mine)
-        time.sleep(SETTLING)
-        with self.turn:
-            self.turn.wait_for(lambda: self.left and mine == min(self.waiting))
+            if self.left is None:
+                self.left = 0
+                self.free(self.most)
+            self.turn.wait_for(lambda: self.left > 0 and mine == min(self.waiting))
             # one is left for each of the others, where there are so many
             jobs = min(max(self.left - len(self.waiting) + 1, 1), MOST)
             self.waiting.remove(mine)
@@ -135,30 +160,52 @@ class Lanes:
         try:
             yield jobs
         finally:
-            with self.turn:
-                self.left += jobs
-                self.turn.notify_all()
+            self.free(jobs)
 
-    def calling(self, call):
-        """rt's way to call the prover, by as many processes as are given to the crate."""
+    def building(self, build):
+        """rt's way to build a library, which waits for its turn where it isn't built yet."""
 
-        def ask(crate, *words):
-            if "--jobs" not in words:
-                return call(crate, *words)
-            at = words.index("--jobs") + 1
+        def ask(crate, flags, anew):
+            if not anew and crate.is_built():
+                return build(crate, flags, anew)
             with self.taken(crate) as jobs:
-                return call(crate, *words[:at], str(jobs), *words[at + 1 :])
+                return build(crate, by(jobs, flags), anew)
+
+        return ask
+
+    def checking(self, check):
+        """rt's way to check a crate, which waits for its turn."""
+
+        def ask(crate, flags):
+            with self.taken(crate) as jobs:
+                return check(crate, by(jobs, flags))
+
+        return ask
+
+    def share(self, share_work):
+        """rt's way to share work among checkouts, over which crates wait: those of another checkout wait for what is being built alone."""
+
+        def ask(is_alone):
+            share_work(is_alone)
+            crate = self.rtlib.Crate
+            crate.build_rlib = self.building(crate.build_rlib)
+            crate.check = self.checking(crate.check)
 
         return ask
 
 
+def by(jobs, flags):
+    """The flags, with so many processes in place of one."""
+    return ["--jobs", str(jobs)] if flags == ["--jobs", "1"] else flags
+
+
 def side_by_side(module, words):
     """The words of rt for crates that are proved side by side, where they're `all check --jobs N`."""
-    if words[:3] != ["all", "check", "--jobs"] or len(words) != 4 or not words[3].isdigit() or words[3] == "0":
+    if words[:3] != ["all", "check", "--jobs"] or len(words) != 4 or not words[3].isdigit() or int(words[3]) == 0:
         return words
     lanes = Lanes(module.rtlib, int(words[3]))
     module.rtlib.crates_below = lanes.listing(module.rtlib.crates_below)
-    module.rtlib.Crate.call = lanes.calling(module.rtlib.Crate.call)
+    module.share_work = lanes.share(module.share_work)
     return [*words[:3], str(THREADS)]
 
 

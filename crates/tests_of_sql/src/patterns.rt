@@ -4,7 +4,7 @@ use sql_patterns::{is_glob, is_like};
 use std::alloc::Global;
 use std::test::Fail;
 
-/// Whether a text is taken by a pattern of LIKE, whatever the case of ASCII letters; a backslash takes its meaning from the sign behind it.
+/// Whether a text is taken by a pattern of LIKE, whatever the case of ASCII letters; the sign behind a backslash stands for itself.
 const LIKE: &str = r"yes~CMD.exe~cmd%
 yes~a%_Xb~%\%\_x%
 no~a%yx~%\%\_x%

@@ -111,7 +111,7 @@ fn of_condition(
     answer(alloc, limits, text.as_bytes(), failing)
 }
 
-/// What is answered to each line `condition ~ answer` of a table is answered so; else the first condition that isn't, with its answer.
+/// The first line `condition ~ answer` of a table that is answered otherwise, with what is answered; nothing where there's none.
 fn first_wrong(alloc: Global, table: &'static str, failing: u64) -> Result<String, Fail> {
     let limits = Limits::standard();
     for line in table.lines() {

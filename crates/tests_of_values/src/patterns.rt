@@ -18,7 +18,7 @@ const VALUE: Place = Place {
 };
 
 /// The patterns of a text, where `<*>` is a run, `<?>` a single character, `<->` a dash place and `<name>` a placeholder, or the
-/// number of a refusal: `patterns~chain at a field~text`. A text has at most 20 characters.
+/// number of a refusal: `patterns~chain at a field~text`. A text may have 20 characters.
 const AT_FIELDS: &str = "<*>100%_x<*>~contains~100%_x
 a<*>~startswith|all~a*
 <*>.exe~endswith~*.exe
@@ -75,7 +75,7 @@ const NETWORKS: &str = "4~192.168.0.0/14
 49~10.0.0.0/000000000008
 49~aaaaaaaaaaaaaaaaaaaa\0";
 
-/// The name of a field, or the number of a refusal, and the text, which has at most 20 characters.
+/// The name of a field, or the number of a refusal, and the text, which may have 20 characters.
 const REFERENCES: &str = "Image~Image
 a.b c~a.b c
 42~
@@ -86,8 +86,8 @@ a.b c~a.b c
 49~a|bcdefghijklmnopqrst
 49~aaaaaaaaaaaaaaaaaaaaa";
 
-/// The regular expression, or the number of a refusal, and its flags and text: `expression~flags~text`. A text has at
-/// most 20 characters.
+/// The regular expression, or the number of a refusal, and its flags and text: `expression~flags~text`. A text may have
+/// 20 characters.
 const EXPRESSIONS: &str = r"a.c~~a.c
 ~~
 (?i)a~i~a
