@@ -8,8 +8,7 @@ All is proved as by rt itself. Three things differ. Before the proofs rt reads t
 early; here it doesn't. Each time that rt asks which crates stand below one it goes every way down to them, some hundred
 thousand ways, and for each sum of sources it reads all files below; here a crate's list is made once, and its sum again only where
 a file of theirs, or the toolchain's, was touched. And of the crates that rt works on side by side some only wait for others; here
-only those count that are proved, the one with the longest chain of others above it goes first, and where fewer are ready than may
-be proved at once, it is proved by several processes. Where rt lacks the parts that this exchanges, and for all other words, it's run as it is.
+only those count that are proved, and the one with the longest chain of others above it goes first. Where rt lacks the parts that this exchanges, and for all other words, it's run as it is.
 """
 
 import contextlib
@@ -24,10 +23,7 @@ import threading
 # So many crates are worked on side by side, most of which wait.
 THREADS = 200
 
-# So many processes prove one crate at most.
-MOST = 4
-
-# How long it is, in seconds, until a process that is free goes to another crate; by then those that became ready meanwhile wait too.
+# How long it is, in seconds, until a place that is free goes to another crate; by then those that became ready meanwhile wait too.
 SETTLING = 3
 
 
@@ -111,8 +107,8 @@ def chains(rtlib, crates):
 
 
 class Lanes:
-    """How many processes prove at once, and which crate gets the next ones: that with the longest chain of those that are ready.
-    What a crate gives back is free a while later, when those that became ready by it wait too."""
+    """How many crates are proved at once, and which is next: that with the longest chain of those that are ready. A place that
+    a crate gives back is free a while later, when those that became ready by it wait too."""
 
     def __init__(self, rtlib, most):
         self.rtlib, self.most, self.left, self.waiting, self.turn = rtlib, most, None, [], threading.Condition()
@@ -130,21 +126,25 @@ class Lanes:
 
         return ask
 
-    def free(self, jobs):
-        """Lets others have so many processes, in a while."""
+    def free(self, places):
+        """Lets others have so many places, in a while."""
 
         def give():
             with self.turn:
-                self.left += jobs
+                self.left += places
                 self.turn.notify_all()
 
         timer = threading.Timer(SETTLING, give)
         timer.daemon = True
-        timer.start()
+        try:
+            timer.start()
+        except RuntimeError:
+            # no thread is to be had
+            give()
 
     @contextlib.contextmanager
-    def taken(self, crate):
-        """Waits until the crate is next and a process is free, and gives how many it may use."""
+    def place_of(self, crate):
+        """Waits until the crate is next and a place is free."""
         mine = (-self.chain.get(crate.folder, 0), crate.folder)
         with self.turn:
             self.waiting.append(mine)
@@ -152,15 +152,13 @@ class Lanes:
                 self.left = 0
                 self.free(self.most)
             self.turn.wait_for(lambda: self.left > 0 and mine == min(self.waiting))
-            # one is left for each of the others, where there are so many
-            jobs = min(max(self.left - len(self.waiting) + 1, 1), MOST)
             self.waiting.remove(mine)
-            self.left -= jobs
+            self.left -= 1
             self.turn.notify_all()
         try:
-            yield jobs
+            yield
         finally:
-            self.free(jobs)
+            self.free(1)
 
     def building(self, build):
         """rt's way to build a library, which waits for its turn where it isn't built yet."""
@@ -168,8 +166,8 @@ class Lanes:
         def ask(crate, flags, anew):
             if not anew and crate.is_built():
                 return build(crate, flags, anew)
-            with self.taken(crate) as jobs:
-                return build(crate, by(jobs, flags), anew)
+            with self.place_of(crate):
+                return build(crate, flags, anew)
 
         return ask
 
@@ -177,8 +175,8 @@ class Lanes:
         """rt's way to check a crate, which waits for its turn."""
 
         def ask(crate, flags):
-            with self.taken(crate) as jobs:
-                return check(crate, by(jobs, flags))
+            with self.place_of(crate):
+                return check(crate, flags)
 
         return ask
 
@@ -192,11 +190,6 @@ class Lanes:
             crate.check = self.checking(crate.check)
 
         return ask
-
-
-def by(jobs, flags):
-    """The flags, with so many processes in place of one."""
-    return ["--jobs", str(jobs)] if flags == ["--jobs", "1"] else flags
 
 
 def side_by_side(module, words):

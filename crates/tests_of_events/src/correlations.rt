@@ -333,15 +333,6 @@ fn schema(alloc: Global, names: &str) -> Result<Schema, Fail> {
     })
 }
 
-/// The rules `a`, `b` and another `a`, whose identifiers are `1`, `2` and `b`.
-fn three_heads(alloc: Global) -> Result<Vec<Head>, Fail> {
-    let mut heads = Vec::new(alloc);
-    heads.push(head(alloc, "a", "1")?)?;
-    heads.push(head(alloc, "b", "2")?)?;
-    heads.push(head(alloc, "a", "b")?)?;
-    Ok(heads)
-}
-
 /// Shows the fields of a rule's group, with `.` behind each.
 fn show_group(alloc: Global, shown: &mut String, bound: &Bound, place: usize) -> Result<(), Fail> {
     let Some(group) = bound.groups.as_slice().get(place) else {
@@ -366,10 +357,15 @@ fn shown_bound(alloc: Global, bound: &Bound) -> Result<String, Fail> {
     Ok(shown)
 }
 
-/// What a correlation is over these rules and the fields User, Host and u, or what refuses it.
+/// What a correlation is over the rules `a`, `b` and another `a`, whose identifiers are `1`, `2` and `b`, and the fields User, Host
+/// and u, or what refuses it.
 fn bound_over(alloc: Global, correlation: &Correlation) -> Result<String, Fail> {
     let schema = schema(alloc, "User Host u")?;
-    let heads = three_heads(alloc)?;
+    let heads = [
+        head(alloc, "a", "1")?,
+        head(alloc, "b", "2")?,
+        head(alloc, "a", "b")?,
+    ];
     match &correlation.bind(alloc, heads.as_slice(), &schema) {
         Ok(bound) => shown_bound(alloc, bound),
         Err(fault) => told(alloc, fault),

@@ -10,7 +10,7 @@ use modifier_chains::{Flags, Joined, Op};
 use rule_items::{Alternative, Alternatives, Detections, Item, Values};
 use rule_lowering::lower;
 use rule_model::Rule;
-use sig_base::{Code, Detail, Fault, Limits, Place, Text, Texts};
+use sig_base::{Code, Detail, Fault, Limits, Place, Refusal, Text, Texts};
 use sig_encode::Network;
 use sig_modifiers::{Test, Tests};
 use sig_strings::{Pattern, SharedPattern};
@@ -608,7 +608,18 @@ const CONDITIONS: &str = "(1~a|1~b|0~c|(2~x&2~y&)|);one-0-1-2
 !!(1~a|1~b|);!!0
 (0~c|1~a|1~b|);1,0";
 
-/// How many leaves a rule of this item is refused for at its place, 0 where it isn't, and -1 where it is for another cause.
+/// How many leaves a rule is refused for at its place, or -1 where it's refused otherwise.
+fn leaves_told(refusal: &Refusal, limit: usize) -> i128 {
+    if refusal.code != Code::TOO_MANY_LEAVES || refusal.place != RULE {
+        return -1;
+    }
+    match &refusal.detail {
+        Detail::Numbers(count, most) if *most == limit as i128 => *count,
+        _ => -1,
+    }
+}
+
+/// How many leaves a rule of this item is refused for at its place, 0 where it isn't refused, and -1 where it is for another cause.
 fn refused_leaves(alloc: Global, item: Item, limit: usize) -> Result<i128, Fail>
     requires low { 1 ≤ limit }
     requires high { limit ≤ 16384 }
@@ -618,17 +629,10 @@ fn refused_leaves(alloc: Global, item: Item, limit: usize) -> Result<i128, Fail>
     let schema = schema(alloc, "A B")?;
     let mut limits = Limits::standard();
     limits.leaves = limit;
-    let refusal = match lower(alloc, &limits, &rule, &schema) {
-        Ok(_) => return Ok(0),
-        Err(Fault::Memory) => return Ok(-1),
-        Err(Fault::Refused(refusal)) => refusal,
-    };
-    if refusal.code != Code::TOO_MANY_LEAVES || refusal.place != RULE {
-        return Ok(-1);
-    }
-    match &refusal.detail {
-        Detail::Numbers(count, most) if *most == limit as i128 => Ok(*count),
-        _ => Ok(-1),
+    match &lower(alloc, &limits, &rule, &schema) {
+        Ok(_) => Ok(0),
+        Err(Fault::Memory) => Ok(-1),
+        Err(Fault::Refused(refusal)) => Ok(leaves_told(refusal, limit)),
     }
 }
 
