@@ -3,7 +3,7 @@
 
     python3 bench/events.py PROGRAM [--events N] [--repeats N]
 
-PROGRAM is the built bench, crates/bench_events/out/bench_events, which `rt run` in crates/bench_events makes. The script makes N flat events
+PROGRAM is the built bench, crates/bench/out/bench, which `rt run` in crates/bench makes. The script makes N flat events
 of about 210 bytes and as many nested ones of about 580 bytes, and prints for each reader the least of some times, in seconds of processor
 time, and the megabytes of input in a second: `lines` alone, `json` (lines and a JSON value each) and `events` (lines, and an event of
 a schema of seven fields and a time each). The readers take turns, so that a busy machine slows none of them alone. What `events` costs
@@ -75,8 +75,8 @@ def main():
                     file.write(json.dumps(make(rng, number), separators=(",", ":")) + "\n")
             size = os.path.getsize(path)
             print(f"{name}: {told.events} events, {size / told.events:.0f} bytes each")
-            readers = {"lines": child([program, "lines"], path), "json": child([program, "json"], path),
-                       "events": child([program, "events"] + ["nested"] * (name == "nested"), path), "Python's json": python_json(path)}
+            readers = {"lines": child([program, "events", "lines"], path), "json": child([program, "events", "json"], path),
+                       "events": child([program, "events", "events"] + ["nested"] * (name == "nested"), path), "Python's json": python_json(path)}
             if shutil.which("jq"):
                 readers["jq"] = child(["jq", "-c", "length"], path)
             times = {reader: math.inf for reader in readers}

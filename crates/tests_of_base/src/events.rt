@@ -58,31 +58,48 @@ fn listed(alloc: Global, values: &[Value]) -> Result<Text, Fail> {
     Ok(all)
 }
 
+/// What is found of a field by its name: its number, its first value, and its values by its number and by its name.
+fn found(alloc: Global, schema: &Schema, event: &Event, name: &str) -> Result<String, Fail> {
+    let by_name = listed(alloc, event.values_at(schema, name))?;
+    let Some(number) = schema.find(name) else {
+        return Ok(format!(in alloc; "none, {}", by_name.as_str())?);
+    };
+    let first = shown(alloc, event.get(number))?;
+    let values = listed(alloc, event.values(number))?;
+    Ok(format!(in alloc;
+        "{number}, {}, {}, {}",
+        first.as_str(),
+        values.as_str(),
+        by_name.as_str()
+    )?)
+}
+
+/// What is found of three fields and of a name that is none, a line each.
+fn all_found(alloc: Global, schema: &Schema, event: &Event) -> Result<String, Fail> {
+    let mut all = String::new(alloc);
+    for name in ["Image", "Size", "User", "image"] {
+        all.push_str(found(alloc, schema, event, name)?.as_str())?;
+        all.push('\n')?;
+    }
+    Ok(all)
+}
+
+/// That, and the value of a number that no field has, of a copy of an event.
+fn values_told(alloc: Global) -> Result<String, Fail> {
+    let event = event(alloc)?.copy(alloc)?;
+    let mut all = all_found(alloc, &schema(alloc)?, &event)?;
+    all.push_str(shown(alloc, event.get(3))?.as_str())?;
+    Ok(all)
+}
+
 #[test]
 fn values_by_names_and_numbers(rt: HostRuntime) -> Result<(), Fail> {
     let alloc = rt.alloc();
-    let schema = schema(alloc)?;
-    let event = event(alloc)?.copy(alloc)?;
-    for (name, number, first, all) in [
-        ("Image", 0, "a.exe", "a.exe "),
-        ("Size", 1, "-40", "-40 7 0 "),
-        ("User", 2, "none", ""),
-    ] {
-        assert_eq!(rt; schema.find(name), Some(number));
-        assert_eq!(rt; shown(alloc, event.get(number))?.as_str(), first);
-        assert_eq!(rt; listed(alloc, event.values(number))?.as_str(), all);
-        assert_eq!(rt;
-            listed(alloc, event.values_at(&schema, name))?.as_str(),
-            all
-        );
-    }
-    assert_eq!(rt; schema.find("image"), None);
     assert_eq!(rt;
-        listed(alloc, event.values_at(&schema, "image"))?.as_str(),
-        ""
+        values_told(alloc)?.as_str(),
+        "0, a.exe, a.exe , a.exe \n1, -40, -40 7 0 , -40 7 0 \n2, none, , \nnone, \nnone"
     );
-    assert_eq!(rt; shown(alloc, event.get(3))?.as_str(), "none");
-    assert_eq!(rt; event.moment(), Some(-5));
+    assert_eq!(rt; event(alloc)?.moment(), Some(-5));
     Ok(())
 }
 

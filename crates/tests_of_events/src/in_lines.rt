@@ -93,37 +93,50 @@ const IMAGES: &str = r#"{"Image":"CMD.EXE"}
 {"Image":"a\u0000"}
 {"Image":"x"}"#;
 
+/// What the lines of an input are read as by the schema of one image, in pieces of so many bytes at most.
+fn images_told(alloc: Global, input: &str, most: usize, limits: &Limits) -> Result<String, Fail> {
+    let schema = schema_of(alloc, IMAGE)?;
+    told(alloc, &schema, input, most, limits)
+}
+
+const IMAGES_TOLD: &str =
+    "1=CMD.EXE 2:2:1: 25 EventJson 3:3:1: 27 EventRange 4:4:1: 28 EventNul 5=x end";
+
 #[test]
 fn lines_are_events_or_refused(rt: HostRuntime) -> Result<(), Fail> {
-    let alloc = rt.alloc();
-    let schema = schema_of(alloc, IMAGE)?;
     for most in [1, 2, 3, 65_536] {
-        let got = told(alloc, &schema, IMAGES, most, &Limits::standard())?;
-        assert_eq!(rt;
-            got.as_str(),
-            "1=CMD.EXE 2:2:1: 25 EventJson 3:3:1: 27 EventRange 4:4:1: 28 EventNul 5=x end"
-        );
-        let got = told(alloc, &schema, "", most, &Limits::standard())?;
-        assert_eq!(rt; got.as_str(), "end");
+        let got = images_told(rt.alloc(), IMAGES, most, &Limits::standard())?;
+        assert_eq!(rt; got.as_str(), IMAGES_TOLD);
     }
     Ok(())
 }
 
 #[test]
+fn no_lines(rt: HostRuntime) -> Result<(), Fail> {
+    for most in [1, 2, 3, 65_536] {
+        let got = images_told(rt.alloc(), "", most, &Limits::standard())?;
+        assert_eq!(rt; got.as_str(), "end");
+    }
+    Ok(())
+}
+
+/// What the lines are read as where one may have so many bytes.
+fn told_within(alloc: Global, line_bytes: usize) -> Result<String, Fail> {
+    let limits = Limits {
+        line_bytes,
+        ..Limits::standard()
+    };
+    images_told(alloc, IMAGES, 65_536, &limits)
+}
+
+#[test]
 fn long_lines(rt: HostRuntime) -> Result<(), Fail> {
-    let alloc = rt.alloc();
-    let schema = schema_of(alloc, IMAGE)?;
-    let mut limits = Limits::standard();
-    limits.line_bytes = 8;
-    let got = told(alloc, &schema, IMAGES, 65_536, &limits)?;
     assert_eq!(rt;
-        got.as_str(),
+        told_within(rt.alloc(), 8)?.as_str(),
         "1 too long 2 too long 3 too long 4 too long 5 too long end"
     );
-    limits.line_bytes = 13;
-    let got = told(alloc, &schema, IMAGES, 65_536, &limits)?;
     assert_eq!(rt;
-        got.as_str(),
+        told_within(rt.alloc(), 13)?.as_str(),
         "1 too long 2:2:1: 25 EventJson 3 too long 4 too long 5=x end"
     );
     Ok(())

@@ -289,10 +289,8 @@ null~25 at 7:1
     Ok(())
 }
 
-#[test]
-fn deep_lines(rt: HostRuntime) -> Result<(), Fail> {
-    let alloc = rt.alloc();
-    let schema = read(alloc, "{\"fields\":[{\"name\":\"N\",\"kind\":\"whole\"}]}")?;
+/// A line whose second value stands in 200 lists.
+fn deep_line(alloc: Global) -> Result<String, Fail> {
     let mut line = String::from_str(alloc, "{\"N\":1,\"x\":")?;
     for _ in 0..200 {
         line.push('[')?;
@@ -301,10 +299,18 @@ fn deep_lines(rt: HostRuntime) -> Result<(), Fail> {
         line.push(']')?;
     }
     line.push('}')?;
-    assert_eq!(rt;
-        told(alloc, &schema, line.as_bytes())?.as_str(),
-        "25 at 7:1"
-    );
+    Ok(line)
+}
+
+fn deep_line_told(alloc: Global) -> Result<String, Fail> {
+    let line = deep_line(alloc)?;
+    let schema = read(alloc, "{\"fields\":[{\"name\":\"N\",\"kind\":\"whole\"}]}")?;
+    told(alloc, &schema, line.as_bytes())
+}
+
+#[test]
+fn deep_lines(rt: HostRuntime) -> Result<(), Fail> {
+    assert_eq!(rt; deep_line_told(rt.alloc())?.as_str(), "25 at 7:1");
     Ok(())
 }
 
@@ -443,20 +449,35 @@ fn schemas(rt: HostRuntime) -> Result<(), Fail> {
     Ok(())
 }
 
+/// What is told of a schema where it may have one field.
+fn told_of_one_field(alloc: Global, text: &str) -> Result<String, Fail> {
+    let limits = Limits {
+        schema_fields: 1,
+        ..Limits::standard()
+    };
+    told_schema(alloc, &limits, text)
+}
+
+/// What is told of a schema of one byte at most.
+fn told_of_one_byte(alloc: Global, text: &str) -> Result<String, Fail> {
+    let limits = Limits {
+        file_bytes: 1,
+        ..Limits::standard()
+    };
+    told_schema(alloc, &limits, text)
+}
+
+const TWO_FIELDS: &str = r#"{"fields":[{"name":"A","kind":"text"},{"name":"A","kind":"text"}]}"#;
+
 #[test]
 fn limits(rt: HostRuntime) -> Result<(), Fail> {
     let alloc = rt.alloc();
-    let twice =
-        "{\"fields\":[{\"name\":\"A\",\"kind\":\"text\"},{\"name\":\"A\",\"kind\":\"text\"}]}";
-    let mut limits = Limits::standard();
-    limits.schema_fields = 1;
-    assert_eq!(rt; told_schema(alloc, &limits, twice)?.as_str(), "23 at 1:1");
+    assert_eq!(rt; told_of_one_field(alloc, TWO_FIELDS)?.as_str(), "23 at 1:1");
     assert_eq!(rt;
-        told_schema(alloc, &limits, "{\"fields\":[1,2]}")?.as_str(),
+        told_of_one_field(alloc, r#"{"fields":[1,2]}"#)?.as_str(),
         "21 at 1:1"
     );
-    limits.file_bytes = 1;
-    assert_eq!(rt; told_schema(alloc, &limits, "{")?.as_str(), "20 at 1:1");
-    assert_eq!(rt; told_schema(alloc, &limits, "{ ")?.as_str(), "23 at 1:1");
+    assert_eq!(rt; told_of_one_byte(alloc, "{")?.as_str(), "20 at 1:1");
+    assert_eq!(rt; told_of_one_byte(alloc, "{ ")?.as_str(), "23 at 1:1");
     Ok(())
 }

@@ -55,16 +55,27 @@ struct World<'a> {
     err: u64,
 }
 
-/// A world in which nothing fails.
-fn still(events: &str, read: usize) -> World<'_> {
-    World {
-        events,
-        read,
-        unread: 0,
-        written: 4096,
-        out: 0,
-        err: 0,
+pub(crate) fn number(text: Option<&str>) -> Result<u64, Fail> {
+    let Some(text) = text else {
+        return Err(Fail::new("no number"));
+    };
+    match text.parse::<u64>() {
+        Ok(number) => Ok(number),
+        Err(_) => Err(Fail::new("no number")),
     }
+}
+
+/// The world of these numbers, in the order of its fields and with commas between.
+fn world<'a>(events: &'a str, numbers: &str) -> Result<World<'a>, Fail> {
+    let mut numbers = numbers.split(',');
+    Ok(World {
+        events,
+        read: number(numbers.next())? as usize,
+        unread: number(numbers.next())?,
+        written: number(numbers.next())? as usize,
+        out: number(numbers.next())?,
+        err: number(numbers.next())?,
+    })
 }
 
 fn ordinals(alloc: Global, call: u64) -> Result<Vec<u64>, Fail> {
@@ -122,137 +133,116 @@ fn told(alloc: Global, limits: &Limits, world: World<'_>) -> Result<String, Fail
     Ok(all)
 }
 
-#[test]
-fn answers_lines_in_pieces(rt: HostRuntime) -> Result<(), Fail> {
-    let alloc = rt.alloc();
-    let limits = Limits::standard();
-    for read in [1, 2, 3, 65_536] {
-        for (events, want) in [
-            ("", "done||"),
-            (" \n\t\r\n", "done||"),
-            ("+a\n\n- b\n+c", "done|+a\n+c\n|"),
-            (
-                "+a\r\n!b\n\n!\n+c",
-                "found|+a\r\n+c\n|events:2: 25 EventJson\nevents:4: 25 EventJson\n",
-            ),
-        ] {
-            let got = told(alloc, &limits, still(events, read))?;
-            assert_eq!(rt; got.as_str(), want);
-        }
-    }
-    Ok(())
+/// What is told of a row's events, with `/` for a line feed there and in the answer.
+fn row_told(alloc: Global, limits: &Limits, numbers: &str, events: &str) -> Result<String, Fail> {
+    let events = events.replace(alloc, "/", "\n")?;
+    let got = told(alloc, limits, world(events.as_str(), numbers)?)?;
+    Ok(got.as_str().replace(alloc, "\n", "/")?)
 }
 
-#[test]
-fn refuses_past_the_limits(rt: HostRuntime) -> Result<(), Fail> {
-    let alloc = rt.alloc();
-    let mut limits = Limits::standard();
-    limits.line_bytes = 4;
-    limits.events_bytes = 20;
-    for (events, want) in [
-        (
-            "+abc\n+abcd\n+e",
-            "found|+abc\n+e\n|events:2: 30 LineTooLong\n",
-        ),
-        ("     \n+e\n", "found|+e\n|events:1: 30 LineTooLong\n"),
-        ("+abc\n+def\n+ghi\n+jkl\n", "done|+abc\n+def\n+ghi\n+jkl\n|"),
-        (
-            "+abc\n+def\n+ghi\n+jklm",
-            "found|+abc\n+def\n+ghi\n|events:4: 30 LineTooLong\n",
-        ),
-        (
-            "+abc\n!\n+def\n+ghi\n+jkl\n",
-            "found|+abc\n+def\n+ghi\n|events:2: 25 EventJson\nevents:5: 31 TooMuch\n",
-        ),
-    ] {
-        let got = told(alloc, &limits, still(events, 3))?;
-        assert_eq!(rt; got.as_str(), want);
-    }
-    Ok(())
-}
-
-/// The first row, `bytes of a read~which read fails~what is told`, that is told otherwise; `/` stands for a line feed.
-fn wrong_read(alloc: Global, limits: &Limits, table: &str) -> Result<String, Fail> {
+/// The first row, `numbers of the world~events~what is told`, that is told otherwise; see `row_told`.
+fn wrong_row(alloc: Global, limits: &Limits, table: &str) -> Result<String, Fail> {
     for row in table.lines() {
         let mut parts = row.split('~');
-        let (Some(read), Some(call), Some(want)) = (parts.next(), parts.next(), parts.next()) else {
+        let (Some(numbers), Some(events), Some(want)) = (parts.next(), parts.next(), parts.next())
+        else {
             return Ok(format!(in alloc; "no row: {row}")?);
         };
-        let (Ok(read), Ok(call)) = (read.parse::<usize>(), call.parse::<u64>()) else {
-            return Ok(String::from_str(alloc, row)?);
-        };
-        let mut world = still("+a\n!b\n+c\n", read);
-        world.unread = call;
-        let got = told(alloc, limits, world)?;
-        if got.as_str().replace(alloc, "\n", "/")?.as_str() != want {
+        if row_told(alloc, limits, numbers, events)?.as_str() != want {
             return Ok(String::from_str(alloc, row)?);
         }
     }
     Ok(String::new(alloc))
 }
 
+const IN_PIECES: &str = "1,0,4096,0,0~~done||
+1,0,4096,0,0~ /\t\r/~done||
+1,0,4096,0,0~+a//- b/+c~done|+a/+c/|
+1,0,4096,0,0~+a\r/!b//!/+c~found|+a\r/+c/|events:2: 25 EventJson/events:4: 25 EventJson/
+2,0,4096,0,0~~done||
+2,0,4096,0,0~ /\t\r/~done||
+2,0,4096,0,0~+a//- b/+c~done|+a/+c/|
+2,0,4096,0,0~+a\r/!b//!/+c~found|+a\r/+c/|events:2: 25 EventJson/events:4: 25 EventJson/
+3,0,4096,0,0~~done||
+3,0,4096,0,0~ /\t\r/~done||
+3,0,4096,0,0~+a//- b/+c~done|+a/+c/|
+3,0,4096,0,0~+a\r/!b//!/+c~found|+a\r/+c/|events:2: 25 EventJson/events:4: 25 EventJson/
+65536,0,4096,0,0~~done||
+65536,0,4096,0,0~ /\t\r/~done||
+65536,0,4096,0,0~+a//- b/+c~done|+a/+c/|
+65536,0,4096,0,0~+a\r/!b//!/+c~found|+a\r/+c/|events:2: 25 EventJson/events:4: 25 EventJson/";
+
 #[test]
-fn each_read_fails_in_turn(rt: HostRuntime) -> Result<(), Fail> {
-    let alloc = rt.alloc();
-    let table = r#"2~1~unread||sigma: cannot read events/
-2~2~unread||sigma: cannot read events/
-2~3~unread|+a/|sigma: cannot read events/
-2~4~unread|+a/|events:2: 25 EventJson/sigma: cannot read events/
-2~5~unread|+a/|events:2: 25 EventJson/sigma: cannot read events/
-2~6~unread|+a/+c/|events:2: 25 EventJson/sigma: cannot read events/
-2~7~found|+a/+c/|events:2: 25 EventJson/
-65536~1~unread||sigma: cannot read events/
-65536~2~unread|+a/+c/|events:2: 25 EventJson/sigma: cannot read events/
-65536~3~found|+a/+c/|events:2: 25 EventJson/"#;
-    assert_eq!(rt; wrong_read(alloc, &Limits::standard(), table)?.as_str(), "");
+fn answers_lines_in_pieces(rt: HostRuntime) -> Result<(), Fail> {
+    let wrong = wrong_row(rt.alloc(), &Limits::standard(), IN_PIECES)?;
+    assert_eq!(rt; wrong.as_str(), "");
     Ok(())
 }
 
+/// A line of 4 bytes, and 20 in all.
+pub(crate) fn small_limits() -> Limits {
+    Limits {
+        line_bytes: 4,
+        events_bytes: 20,
+        ..Limits::standard()
+    }
+}
+
+const PAST_LIMITS: &str = "3,0,4096,0,0~+abc/+abcd/+e~found|+abc/+e/|events:2: 30 LineTooLong/
+3,0,4096,0,0~     /+e/~found|+e/|events:1: 30 LineTooLong/
+3,0,4096,0,0~+abc/+def/+ghi/+jkl/~done|+abc/+def/+ghi/+jkl/|
+3,0,4096,0,0~+abc/+def/+ghi/+jklm~found|+abc/+def/+ghi/|events:4: 30 LineTooLong/
+3,0,4096,0,0~+abc/!/+def/+ghi/+jkl/~found|+abc/+def/+ghi/|events:2: 25 EventJson/events:5: 31 TooMuch/";
+
+#[test]
+fn refuses_past_the_limits(rt: HostRuntime) -> Result<(), Fail> {
+    let wrong = wrong_row(rt.alloc(), &small_limits(), PAST_LIMITS)?;
+    assert_eq!(rt; wrong.as_str(), "");
+    Ok(())
+}
+
+const UNREAD: &str = r#"2,1,4096,0,0~+a/!b/+c/~unread||sigma: cannot read events/
+2,2,4096,0,0~+a/!b/+c/~unread||sigma: cannot read events/
+2,3,4096,0,0~+a/!b/+c/~unread|+a/|sigma: cannot read events/
+2,4,4096,0,0~+a/!b/+c/~unread|+a/|events:2: 25 EventJson/sigma: cannot read events/
+2,5,4096,0,0~+a/!b/+c/~unread|+a/|events:2: 25 EventJson/sigma: cannot read events/
+2,6,4096,0,0~+a/!b/+c/~unread|+a/+c/|events:2: 25 EventJson/sigma: cannot read events/
+2,7,4096,0,0~+a/!b/+c/~found|+a/+c/|events:2: 25 EventJson/
+65536,1,4096,0,0~+a/!b/+c/~unread||sigma: cannot read events/
+65536,2,4096,0,0~+a/!b/+c/~unread|+a/+c/|events:2: 25 EventJson/sigma: cannot read events/
+65536,3,4096,0,0~+a/!b/+c/~found|+a/+c/|events:2: 25 EventJson/"#;
+
+#[test]
+fn each_read_fails_in_turn(rt: HostRuntime) -> Result<(), Fail> {
+    let wrong = wrong_row(rt.alloc(), &Limits::standard(), UNREAD)?;
+    assert_eq!(rt; wrong.as_str(), "");
+    Ok(())
+}
+
+const UNWRITTEN: &str = r#"3,0,2,1,0~+a/!b/+c/~unwritten||
+3,0,2,2,0~+a/!b/+c/~unwritten|+a|
+3,0,2,3,0~+a/!b/+c/~unwritten|+a/|events:2: 25 EventJson/
+3,0,2,4,0~+a/!b/+c/~unwritten|+a/+c|events:2: 25 EventJson/
+3,0,2,5,0~+a/!b/+c/~found|+a/+c/|events:2: 25 EventJson/
+3,0,10,0,1~+a/!b/+c/~unwritten|+a/|
+3,0,10,0,2~+a/!b/+c/~unwritten|+a/|events:2: 
+3,0,10,0,3~+a/!b/+c/~unwritten|+a/|events:2: 25 EventJs
+3,0,10,0,4~+a/!b/+c/~found|+a/+c/|events:2: 25 EventJson/"#;
+
 #[test]
 fn each_write_fails_in_turn(rt: HostRuntime) -> Result<(), Fail> {
-    let alloc = rt.alloc();
-    let limits = Limits::standard();
-    let mut world = still("+a\n!b\n+c\n", 3);
-    world.written = 2;
-    for (call, want) in [
-        (1, "unwritten||"),
-        (2, "unwritten|+a|"),
-        (3, "unwritten|+a\n|events:2: 25 EventJson\n"),
-        (4, "unwritten|+a\n+c|events:2: 25 EventJson\n"),
-        (5, "found|+a\n+c\n|events:2: 25 EventJson\n"),
-    ] {
-        world.out = call;
-        assert_eq!(rt; told(alloc, &limits, world)?.as_str(), want);
-    }
-    world.out = 0;
-    world.written = 10;
-    for (call, want) in [
-        (1, "unwritten|+a\n|"),
-        (2, "unwritten|+a\n|events:2: "),
-        (3, "unwritten|+a\n|events:2: 25 EventJs"),
-        (4, "found|+a\n+c\n|events:2: 25 EventJson\n"),
-    ] {
-        world.err = call;
-        assert_eq!(rt; told(alloc, &limits, world)?.as_str(), want);
-    }
+    let wrong = wrong_row(rt.alloc(), &Limits::standard(), UNWRITTEN)?;
+    assert_eq!(rt; wrong.as_str(), "");
     Ok(())
 }
 
 /// A line is answered wholly before the next is asked for; the diagnostic about events that can't be read may be cut off.
+const TWO_FAULTS: &str = r#"3,2,4096,1,0~+a/!b/+c/~unwritten||
+3,2,10,0,2~+a/!b/+c/~unwritten|+a/|sigma: can"#;
+
 #[test]
 fn faults_beside_one_another(rt: HostRuntime) -> Result<(), Fail> {
-    let alloc = rt.alloc();
-    let limits = Limits::standard();
-    let mut world = still("+a\n!b\n+c\n", 3);
-    world.unread = 2;
-    world.out = 1;
-    assert_eq!(rt; told(alloc, &limits, world)?.as_str(), "unwritten||");
-    world.out = 0;
-    world.written = 10;
-    world.err = 2;
-    assert_eq!(rt;
-        told(alloc, &limits, world)?.as_str(),
-        "unwritten|+a\n|sigma: can"
-    );
+    let wrong = wrong_row(rt.alloc(), &Limits::standard(), TWO_FAULTS)?;
+    assert_eq!(rt; wrong.as_str(), "");
     Ok(())
 }

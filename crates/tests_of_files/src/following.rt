@@ -5,7 +5,7 @@ ghost use Rattle.answer_parts.specs.EventLines.{line_refused};
 ghost use Rattle.answer_parts.specs.Lines.{ended};
 ghost use Rattle.answer_parts.specs.Parts.{no_share, text_share};
 
-use crate::answering::{ending, push_bytes, sink_of};
+use crate::answering::{ending, number, push_bytes, sink_of, small_limits};
 use answer_parts::{Lent, LineFollower, Outside, Stop, follow_lines, put_line, tell_line_refusal};
 use sig_base::{Bytes, Code, Limits, MemoryShelf, MemorySource};
 use std::alloc::Global;
@@ -89,65 +89,95 @@ fn told(
     Ok(all)
 }
 
-#[test]
-fn each_line_by_those_before(rt: HostRuntime) -> Result<(), Fail> {
-    let alloc = rt.alloc();
-    let limits = Limits::standard();
-    for read in [1, 3, 65_536] {
-        for (events, want) in [
-            ("", "done||"),
-            ("+a\n+b\n-c\n \n-d\n+e", "done|+a\n-c\n+e\n|"),
-            (
-                "+a\n!x\n+b\n-c\n",
-                "found|+a\n-c\n|events:2: 25 EventJson\n",
-            ),
-        ] {
-            let mut command = Turns { last: None };
-            let got = told(alloc, &limits, &mut command, events, read, 0)?;
-            assert_eq!(rt; got.as_str(), want);
+/// What is told of a row's events, with `/` for a line feed there and in the answer.
+fn row_told(
+    alloc: Global,
+    limits: &Limits,
+    command: &mut Turns,
+    events: &str,
+    read: u64,
+    unread: u64,
+) -> Result<String, Fail> {
+    let events = events.replace(alloc, "/", "\n")?;
+    let got = told(
+        alloc,
+        limits,
+        command,
+        events.as_str(),
+        read as usize,
+        unread,
+    )?;
+    Ok(got.as_str().replace(alloc, "\n", "/")?)
+}
+
+/// The first row, `bytes of a read~which read fails~events~what is told`, that is told otherwise. Behind an empty row the
+/// command has no history.
+fn wrong_row(alloc: Global, limits: &Limits, table: &str) -> Result<String, Fail> {
+    let mut command = Turns { last: None };
+    for row in table.lines() {
+        if row.is_empty() {
+            command.last = None;
+            continue;
+        }
+        let mut parts = row.split('~');
+        let read = number(parts.next())?;
+        let unread = number(parts.next())?;
+        let (Some(events), Some(want)) = (parts.next(), parts.next()) else {
+            return Ok(format!(in alloc; "no row: {row}")?);
+        };
+        if row_told(alloc, limits, &mut command, events, read, unread)?.as_str() != want {
+            return Ok(String::from_str(alloc, row)?);
         }
     }
+    Ok(String::new(alloc))
+}
+
+const BY_THOSE_BEFORE: &str = "1~0~~done||
+
+1~0~+a/+b/-c/ /-d/+e~done|+a/-c/+e/|
+
+1~0~+a/!x/+b/-c/~found|+a/-c/|events:2: 25 EventJson/
+
+3~0~~done||
+
+3~0~+a/+b/-c/ /-d/+e~done|+a/-c/+e/|
+
+3~0~+a/!x/+b/-c/~found|+a/-c/|events:2: 25 EventJson/
+
+65536~0~~done||
+
+65536~0~+a/+b/-c/ /-d/+e~done|+a/-c/+e/|
+
+65536~0~+a/!x/+b/-c/~found|+a/-c/|events:2: 25 EventJson/";
+
+#[test]
+fn each_line_by_those_before(rt: HostRuntime) -> Result<(), Fail> {
+    let wrong = wrong_row(rt.alloc(), &Limits::standard(), BY_THOSE_BEFORE)?;
+    assert_eq!(rt; wrong.as_str(), "");
     Ok(())
 }
 
 /// Lines past the limits change nothing of what the next ones are answered.
+const PAST_LIMITS: &str = "3~0~+a/-long/+b/-c/~found|+a/-c/|events:2: 30 LineTooLong/
+
+3~0~+abc/-def/+ghi/-jkl/+~found|+abc/-def/+ghi/-jkl/|events:5: 31 TooMuch/";
+
 #[test]
 fn lines_past_the_limits(rt: HostRuntime) -> Result<(), Fail> {
-    let alloc = rt.alloc();
-    let mut limits = Limits::standard();
-    limits.line_bytes = 4;
-    limits.events_bytes = 20;
-    for (events, want) in [
-        (
-            "+a\n-long\n+b\n-c\n",
-            "found|+a\n-c\n|events:2: 30 LineTooLong\n",
-        ),
-        (
-            "+abc\n-def\n+ghi\n-jkl\n+",
-            "found|+abc\n-def\n+ghi\n-jkl\n|events:5: 31 TooMuch\n",
-        ),
-    ] {
-        let mut command = Turns { last: None };
-        let got = told(alloc, &limits, &mut command, events, 3, 0)?;
-        assert_eq!(rt; got.as_str(), want);
-    }
+    let wrong = wrong_row(rt.alloc(), &small_limits(), PAST_LIMITS)?;
+    assert_eq!(rt; wrong.as_str(), "");
     Ok(())
 }
 
 /// The command keeps its history from one source of events to the next.
+const IN_TURN: &str = "3~0~+a/-b/~done|+a/-b/|
+3~0~-c/+d/~done|+d/|
+3~2~-e/+f/~unread|-e/|sigma: cannot read events/
+3~0~-g/+h/~done|+h/|";
+
 #[test]
 fn the_history_stays(rt: HostRuntime) -> Result<(), Fail> {
-    let alloc = rt.alloc();
-    let limits = Limits::standard();
-    let mut command = Turns { last: None };
-    for (events, unread, want) in [
-        ("+a\n-b\n", 0, "done|+a\n-b\n|"),
-        ("-c\n+d\n", 0, "done|+d\n|"),
-        ("-e\n+f\n", 2, "unread|-e\n|sigma: cannot read events\n"),
-        ("-g\n+h\n", 0, "done|+h\n|"),
-    ] {
-        let got = told(alloc, &limits, &mut command, events, 3, unread)?;
-        assert_eq!(rt; got.as_str(), want);
-    }
+    let wrong = wrong_row(rt.alloc(), &Limits::standard(), IN_TURN)?;
+    assert_eq!(rt; wrong.as_str(), "");
     Ok(())
 }

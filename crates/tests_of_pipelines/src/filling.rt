@@ -206,10 +206,16 @@ fn tests_become_others(rt: HostRuntime) -> Result<(), Fail> {
     Ok(())
 }
 
+fn few_and_short() -> Limits {
+    Limits {
+        value_chars: 4,
+        ..few_limits()
+    }
+}
+
 #[test]
 fn growth_is_refused(rt: HostRuntime) -> Result<(), Fail> {
-    let mut limits = few_limits();
-    limits.value_chars = 4;
+    let limits = few_and_short();
     for row in GROWN.lines() {
         assert_eq!(rt; wrong(rt.alloc(), &limits, row)?.as_str(), "");
     }
@@ -280,37 +286,44 @@ fn many_values(alloc: Global, count: usize, text: &str) -> Result<Sequence<Var>,
     Ok(vars)
 }
 
+/// What the filling of a rule's one item with these values answers.
+fn filled(alloc: Global, vars: &[Var], values: Values) -> Result<Text, Fail> {
+    let rule = bare_rule(alloc, one_item(alloc, values)?);
+    let step = step(alloc, "fill")?;
+    show_answer(
+        alloc,
+        change_tests(alloc, &Limits::standard(), vars, &step, rule),
+    )
+}
+
+fn product_told(alloc: Global) -> Result<Text, Fail> {
+    let vars = many_values(alloc, 4096, "x")?;
+    filled(alloc, vars.as_slice(), many_holes(alloc, 4096)?)
+}
+
 #[test]
 fn a_product_is_refused_before_it_is_made(rt: HostRuntime) -> Result<(), Fail> {
-    let alloc = rt.alloc();
-    let step = step(alloc, "fill")?;
-    let vars = many_values(alloc, 4096, "x")?;
-    let rule = bare_rule(alloc, one_item(alloc, many_holes(alloc, 4096)?)?);
-    let limits = Limits::standard();
-    let made = show_answer(
-        alloc,
-        change_tests(alloc, &limits, vars.as_slice(), &step, rule),
-    )?;
-    assert_eq!(rt; made.as_str(), "99 3 5");
+    assert_eq!(rt; product_told(rt.alloc())?.as_str(), "99 3 5");
     Ok(())
+}
+
+/// 128 values of 4,000 characters.
+fn long_values(alloc: Global) -> Result<Sequence<Var>, Fail> {
+    let mut long = Text::new(alloc);
+    for _ in 0..4000 {
+        long.push('x')?;
+    }
+    many_values(alloc, 128, long.as_str())
+}
+
+fn long_told(alloc: Global) -> Result<Text, Fail> {
+    let vars = long_values(alloc)?;
+    filled(alloc, vars.as_slice(), many_holes(alloc, 2)?)
 }
 
 /// As many tests as a rule may have, none of them too long by itself, with 131,072,000 parts together.
 #[test]
 fn long_patterns_are_refused_together(rt: HostRuntime) -> Result<(), Fail> {
-    let alloc = rt.alloc();
-    let step = step(alloc, "fill")?;
-    let mut long = Text::new(alloc);
-    for _ in 0..4000 {
-        long.push('x')?;
-    }
-    let vars = many_values(alloc, 128, long.as_str())?;
-    let rule = bare_rule(alloc, one_item(alloc, many_holes(alloc, 2)?)?);
-    let limits = Limits::standard();
-    let made = show_answer(
-        alloc,
-        change_tests(alloc, &limits, vars.as_slice(), &step, rule),
-    )?;
-    assert_eq!(rt; made.as_str(), "99 3 5");
+    assert_eq!(rt; long_told(rt.alloc())?.as_str(), "99 3 5");
     Ok(())
 }

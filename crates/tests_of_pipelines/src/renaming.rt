@@ -190,14 +190,17 @@ fn long_patterns_are_refused(rt: HostRuntime) -> Result<(), Fail> {
     Ok(())
 }
 
+/// What is made, otherwise than it says, of the row with its parts written so many times.
+fn wrong_of_many(alloc: Global, row: &str, count: u32) -> Result<Text, Fail> {
+    let written = written(alloc, row, count)?;
+    wrong(alloc, &Limits::standard(), written.as_str())
+}
+
 #[test]
 fn many_names_become_others(rt: HostRuntime) -> Result<(), Fail> {
-    let limits = Limits::standard();
     for row in MANY.lines() {
         for count in [31, 32, 33, 40] {
-            let written = written(rt.alloc(), row, count)?;
-            let wrong = wrong(rt.alloc(), &limits, written.as_str())?;
-            assert_eq!(rt; wrong.as_str(), "", "{row} {count}");
+            assert_eq!(rt; wrong_of_many(rt.alloc(), row, count)?.as_str(), "");
         }
     }
     assert_eq!(rt; MANY.lines().count(), 20);

@@ -137,14 +137,12 @@ fn shown(alloc: Global, answer: Result<Bytes, Fault>) -> Result<String, Fail> {
     }
 }
 
-#[test]
-fn each_backend_has_its_own_lacks(rt: HostRuntime) -> Result<(), Fail> {
-    let alloc = rt.alloc();
-    let limits = Limits::standard();
+/// The answer of SQLite's writer, called by its name, for a rule with this value.
+fn by_name(alloc: Global, image: Node) -> Result<String, Fail> {
+    let node = rule(alloc, image)?;
     let mut builder = CrateBuilder::new(alloc, Vec::new(alloc));
-    let with_text = rule(alloc, text(alloc, at(7, 12), "cmd.exe")?)?;
-    let query = "SELECT * FROM \"events\" WHERE \"Image\" = 'cmd.exe' COLLATE NOCASE";
-    let answer = shown(
+    let limits = Limits::standard();
+    shown(
         alloc,
         named::convert_node(
             BackendName::Sqlite,
@@ -152,44 +150,56 @@ fn each_backend_has_its_own_lacks(rt: HostRuntime) -> Result<(), Fail> {
             &limits,
             &[],
             None,
-            &with_text,
+            &node,
             &mut builder,
         ),
-    )?;
-    assert_eq!(rt; answer.as_str(), query);
-    let answer = shown(
+    )
+}
+
+/// The answer of the writer that lacks tests of whether a field has a value.
+fn without_values(alloc: Global, image: Node) -> Result<String, Fail> {
+    let node = rule(alloc, image)?;
+    let mut builder = CrateBuilder::new(alloc, Vec::new(alloc));
+    let limits = Limits::standard();
+    shown(
         alloc,
-        convert_node(
-            &Valueless,
-            alloc,
-            &limits,
-            &[],
-            None,
-            &with_text,
-            &mut builder,
-        ),
-    )?;
-    assert_eq!(rt; answer.as_str(), query);
-    let with_null = rule(alloc, Node::null(at(7, 12)))?;
+        convert_node(&Valueless, alloc, &limits, &[], None, &node, &mut builder),
+    )
+}
+
+/// The answer of SQLite's writer, where the builder fails at these calls.
+fn by_sqlite(alloc: Global, node: &Node, failing: &[u64]) -> Result<String, Fail> {
+    let mut calls = Vec::new(alloc);
+    calls.extend_from_slice(failing)?;
+    let mut builder = CrateBuilder::new(alloc, calls);
+    let limits = Limits::standard();
+    shown(
+        alloc,
+        convert_node(&Sqlite, alloc, &limits, &[], None, node, &mut builder),
+    )
+}
+
+fn name_of_a_file(alloc: Global) -> Result<Node, Fail> {
+    text(alloc, at(7, 12), "cmd.exe")
+}
+
+/// The answer of SQLite's writer where the field has no value.
+fn of_null(alloc: Global) -> Result<String, Fail> {
+    by_sqlite(alloc, &rule(alloc, Node::null(at(7, 12)))?, &[])
+}
+
+#[test]
+fn each_backend_has_its_own_lacks(rt: HostRuntime) -> Result<(), Fail> {
+    let alloc = rt.alloc();
+    let query = "SELECT * FROM \"events\" WHERE \"Image\" = 'cmd.exe' COLLATE NOCASE";
+    assert_eq!(rt; by_name(alloc, name_of_a_file(alloc)?)?.as_str(), query);
+    assert_eq!(rt; without_values(alloc, name_of_a_file(alloc)?)?.as_str(), query);
     let query = "SELECT * FROM \"events\" WHERE \"Image\" IS NULL";
-    let answer = shown(
-        alloc,
-        convert_node(&Sqlite, alloc, &limits, &[], None, &with_null, &mut builder),
-    )?;
-    assert_eq!(rt; answer.as_str(), query);
-    let answer = shown(
-        alloc,
-        convert_node(
-            &Valueless,
-            alloc,
-            &limits,
-            &[],
-            None,
-            &with_null,
-            &mut builder,
-        ),
-    )?;
-    assert_eq!(rt; answer.as_str(), "7:5: 111 Many");
+    assert_eq!(rt; of_null(alloc)?.as_str(), query);
+    assert_eq!(rt;
+        without_values(alloc, Node::null(at(7, 12)))?.as_str(),
+        "7:5: 111 Many"
+    );
     Ok(())
 }
 
@@ -205,26 +215,18 @@ fn with_expression(alloc: Global) -> Result<Node, Fail> {
 }
 
 /// The answer where the builder fails at these calls.
-fn converted(alloc: Global, failing: &[u64]) -> Result<String, Fail> {
-    let mut calls = Vec::new(alloc);
-    calls.extend_from_slice(failing)?;
-    let mut builder = CrateBuilder::new(alloc, calls);
-    let node = with_expression(alloc)?;
-    let limits = Limits::standard();
-    shown(
-        alloc,
-        convert_node(&Sqlite, alloc, &limits, &[], None, &node, &mut builder),
-    )
+fn built(alloc: Global, failing: &[u64]) -> Result<String, Fail> {
+    by_sqlite(alloc, &with_expression(alloc)?, failing)
 }
 
 #[test]
 fn expressions_are_built_once_more(rt: HostRuntime) -> Result<(), Fail> {
     let alloc = rt.alloc();
     let query = "SELECT * FROM \"events\" WHERE \"Image\" REGEXP 'a+'";
-    assert_eq!(rt; converted(alloc, &[])?.as_str(), query);
-    assert_eq!(rt; converted(alloc, &[3])?.as_str(), query);
-    assert_eq!(rt; converted(alloc, &[1])?.as_str(), "7:15: 48");
-    assert_eq!(rt; converted(alloc, &[2])?.as_str(), "7:5: 48");
+    assert_eq!(rt; built(alloc, &[])?.as_str(), query);
+    assert_eq!(rt; built(alloc, &[3])?.as_str(), query);
+    assert_eq!(rt; built(alloc, &[1])?.as_str(), "7:15: 48");
+    assert_eq!(rt; built(alloc, &[2])?.as_str(), "7:5: 48");
     Ok(())
 }
 

@@ -38,18 +38,21 @@ fn lines_of(alloc: Global, events: &[Event]) -> Result<String, Fail> {
     Ok(lines)
 }
 
+/// So many events that are drawn from a state.
+fn drawn(alloc: Global, state: u32, count: u32) -> Result<String, Fail> {
+    let events = make_events(alloc, state, count)?;
+    lines_of(alloc, events.as_slice())
+}
+
 #[test]
 fn events_of_two_seeds(rt: HostRuntime) -> Result<(), Fail> {
     let alloc = rt.alloc();
-    let events = make_events(alloc, after_three(0), 3)?;
-    let lines = lines_of(alloc, events.as_slice())?;
-    assert_eq!(rt; lines.as_str(), "-|cmd.exe|70;AND||37;-|100%|97;");
-    let events = make_events(alloc, after_three(1), 2)?;
-    let lines = lines_of(alloc, events.as_slice())?;
-    assert_eq!(rt; lines.as_str(), "|power shell|96;100%|cmd.exe|0;");
-    let later = make_events(alloc, after_events(after_three(1), 1), 1)?;
-    let lines = lines_of(alloc, later.as_slice())?;
-    assert_eq!(rt; lines.as_str(), "100%|cmd.exe|0;");
+    let of_zero = drawn(alloc, after_three(0), 3)?;
+    assert_eq!(rt; of_zero.as_str(), "-|cmd.exe|70;AND||37;-|100%|97;");
+    let of_one = drawn(alloc, after_three(1), 2)?;
+    assert_eq!(rt; of_one.as_str(), "|power shell|96;100%|cmd.exe|0;");
+    let later = drawn(alloc, after_events(after_three(1), 1), 1)?;
+    assert_eq!(rt; later.as_str(), "100%|cmd.exe|0;");
     Ok(())
 }
 

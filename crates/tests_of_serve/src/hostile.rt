@@ -112,20 +112,33 @@ fn depth_69() -> Limits {
     limits
 }
 
+/// What is answered of a rule of 4,096 texts.
+fn of_longest(alloc: Global, limits: &Limits, room: &str) -> Result<String, Fail> {
+    told(alloc, limits, SQLITE, &list_of(alloc, "A", 4096)?, room)
+}
+
+/// What is answered of the query of that rule.
+fn longest_asked(alloc: Global) -> Result<String, Fail> {
+    let written = of_longest(alloc, &depth_72(), "room=262144")?;
+    let query = output_of(&written).unwrap_or("");
+    told(alloc, &depth_72(), ASK, query, "")
+}
+
 /// 4,096 texts have a query of depth 72, which selects as the rule does.
 #[test]
 fn converts_the_longest_list(rt: HostRuntime) -> Result<(), Fail> {
     let alloc = rt.alloc();
-    let item = list_of(alloc, "A", 4096)?;
     assert_eq!(rt;
-        told(alloc, &depth_71(), SQLITE, &item, "")?.as_str(),
+        of_longest(alloc, &depth_71(), "")?.as_str(),
         "1||r.yml:1:1: 112 QueryTooDeep 72 71¶"
     );
-    let written = told(alloc, &depth_72(), SQLITE, &item, "room=262144")?;
-    assert_eq!(rt; written.as_str().starts_with("0|"), true);
-    let query = output_of(&written).unwrap_or("");
+    assert!(rt;
+        of_longest(alloc, &depth_72(), "room=262144")?
+            .as_str()
+            .starts_with("0|")
+    );
     assert_eq!(rt;
-        told(alloc, &depth_72(), ASK, query, "")?.as_str(),
+        longest_asked(alloc)?.as_str(),
         r#"1|{"A":"x"}¶|events:1: 25 EventJson¶"#
     );
     Ok(())
@@ -139,30 +152,46 @@ fn few_leaves() -> Limits {
     limits
 }
 
-/// 2,000 texts have a query of SQL of depth 70, and more clauses than one of Lucene may have; where a rule may have a test fewer, it's too large
-/// for both.
+/// What is answered of a rule of 2,000 texts.
+fn of_two_thousand(
+    alloc: Global,
+    limits: &Limits,
+    scene: Scene,
+    room: &str,
+) -> Result<String, Fail> {
+    told(alloc, limits, scene, &list_of(alloc, "Image", 2000)?, room)
+}
+
+/// 2,000 texts have a query of SQL of depth 70, and more clauses than one of Lucene may have.
 #[test]
 fn counts_two_thousand_texts(rt: HostRuntime) -> Result<(), Fail> {
     let alloc = rt.alloc();
-    let item = list_of(alloc, "Image", 2000)?;
     assert_eq!(rt;
-        told(alloc, &Limits::standard(), LUCENE, &item, "")?.as_str(),
+        of_two_thousand(alloc, &Limits::standard(), LUCENE, "")?.as_str(),
         "1||r.yml:1:1: 113 TooManyClauses 2000 1024¶"
     );
-    let written = told(alloc, &depth_70(), SQLITE, &item, "room=262144")?;
-    assert_eq!(rt; written.as_str().starts_with("0|"), true);
     assert_eq!(rt;
-        told(alloc, &depth_69(), SQLITE, &item, "")?.as_str(),
+        of_two_thousand(alloc, &depth_69(), SQLITE, "")?.as_str(),
         "1||r.yml:1:1: 112 QueryTooDeep 70 69¶"
     );
-    let many = "1||r.yml:1:1: 110 TooManyLeaves 2000 1999¶";
+    let written = of_two_thousand(alloc, &depth_70(), SQLITE, "room=262144")?;
+    assert!(rt; written.as_str().starts_with("0|"));
+    Ok(())
+}
+
+const TOO_MANY: &str = "1||r.yml:1:1: 110 TooManyLeaves 2000 1999¶";
+
+/// Where a rule may have a test fewer, it's too large for both languages.
+#[test]
+fn counts_one_text_too_many(rt: HostRuntime) -> Result<(), Fail> {
+    let alloc = rt.alloc();
     assert_eq!(rt;
-        told(alloc, &few_leaves(), SQLITE, &item, "")?.as_str(),
-        many
+        of_two_thousand(alloc, &few_leaves(), SQLITE, "")?.as_str(),
+        TOO_MANY
     );
     assert_eq!(rt;
-        told(alloc, &few_leaves(), LUCENE, &item, "")?.as_str(),
-        many
+        of_two_thousand(alloc, &few_leaves(), LUCENE, "")?.as_str(),
+        TOO_MANY
     );
     Ok(())
 }

@@ -208,10 +208,14 @@ const UNBUILT: &str = r#"0|{"n":6,"Image":"a_b%","Id":0}¶{"n":7,"Image":"axb[*"
 #[test]
 fn sql_is_refused_by_the_builder(rt: HostRuntime) -> Result<(), Fail> {
     let alloc = rt.alloc();
-    let wrong = first_untold(alloc, SQLITE, SELECT, BUILT_FIRST, "1")?;
-    assert_eq!(rt; wrong.as_str(), "");
-    let wrong = first_untold(alloc, SQLITE, SELECT, BUILT_SECOND, "2")?;
-    assert_eq!(rt; wrong.as_str(), "");
+    assert_eq!(rt;
+        first_untold(alloc, SQLITE, SELECT, BUILT_FIRST, "1")?.as_str(),
+        ""
+    );
+    assert_eq!(rt;
+        first_untold(alloc, SQLITE, SELECT, BUILT_SECOND, "2")?.as_str(),
+        ""
+    );
     let query = "SELECT * FROM \"events\" WHERE \"Image\" REGEXP 'b'";
     let ran = told(alloc, &Limits::standard(), SQLITE, query, "2")?;
     assert_eq!(rt; ran.as_str(), UNBUILT);

@@ -190,16 +190,19 @@ fn patterns(rt: HostRuntime) -> Result<(), Fail> {
     Ok(())
 }
 
-#[test]
-fn short_places(rt: HostRuntime) -> Result<(), Fail> {
-    let alloc = rt.alloc();
+/// Where a comparison with a name that is no column's is refused, when no places are known.
+fn place_without_places(alloc: Global) -> Result<Option<Place>, Fail> {
     let fields = fields(alloc)?;
     let columns = Columns::of(alloc, fields.as_slice())?;
-    let Some(leaf) = leaf(alloc, "\"Image\" = \"Nope\"")? else {
-        assert_eq!(rt; 1, 2);
-        return Ok(());
-    };
-    let place = judge(&columns, &leaf, &[]).map(|refusal| refusal.place);
+    match leaf(alloc, "\"Image\" = \"Nope\"")? {
+        Some(leaf) => Ok(judge(&columns, &leaf, &[]).map(|refusal| refusal.place)),
+        None => Err(Fail::new("no test")),
+    }
+}
+
+#[test]
+fn short_places(rt: HostRuntime) -> Result<(), Fail> {
+    let place = place_without_places(rt.alloc())?;
     assert_eq!(rt; place, Some(Place::START));
     Ok(())
 }
@@ -297,40 +300,57 @@ fn depths(rt: HostRuntime) -> Result<(), Fail> {
     Ok(())
 }
 
-#[test]
-fn columns_by_their_names(rt: HostRuntime) -> Result<(), Fail> {
-    let alloc = rt.alloc();
+/// The number of a name's column, where it has a kind as well, or `-`.
+fn column_told(alloc: Global, columns: &Columns<'_>, name: &str) -> Result<String, Fail> {
+    let name = Text::copy(alloc, name)?;
+    match (columns.find(&name), columns.kind(&name)) {
+        (Some(number), Some(_)) => Ok(format!(in alloc; "{number} ")?),
+        (None, None) => Ok(String::from_str(alloc, "- ")?),
+        _ => Ok(String::from_str(alloc, "a column or a kind alone ")?),
+    }
+}
+
+fn letters(alloc: Global) -> Result<FieldList, Fail> {
     let mut all = FieldList::new(alloc);
     for name in "b B a É ba c".split(' ') {
         all.push(field(alloc, name, FieldKind::Text)?)?;
     }
-    let columns = Columns::of(alloc, all.as_slice())?;
-    for (name, want) in [
-        ("b", Some(0)),
-        ("B", Some(0)),
-        ("A", Some(2)),
-        ("É", Some(3)),
-        ("é", None),
-        ("BA", Some(4)),
-        ("bA", Some(4)),
-        ("C", Some(5)),
-        ("", None),
-        ("bab", None),
-    ] {
-        let name = Text::copy(alloc, name)?;
-        assert_eq!(rt; columns.find(&name), want, "{}", name.as_str());
-        assert_eq!(rt; columns.kind(&name).is_some(), want.is_some());
+    Ok(all)
+}
+
+/// The columns of names with spaces between, of which one may be empty.
+fn columns_told(alloc: Global, names: &str) -> Result<String, Fail> {
+    let letters = letters(alloc)?;
+    let columns = Columns::of(alloc, letters.as_slice())?;
+    let mut all = String::new(alloc);
+    for name in names.split(' ') {
+        all.push_str(column_told(alloc, &columns, name)?.as_str())?;
     }
+    Ok(all)
+}
+
+#[test]
+fn columns_by_their_names(rt: HostRuntime) -> Result<(), Fail> {
+    let alloc = rt.alloc();
+    let known = columns_told(alloc, "b B A É BA bA C")?;
+    assert_eq!(rt; known.as_str(), "0 0 2 3 4 4 5 ");
+    let unknown = columns_told(alloc, "é  bab")?;
+    assert_eq!(rt; unknown.as_str(), "- - - ");
     Ok(())
+}
+
+/// Whether a name is `Image_é[` but for the case of its letters from `a` to `z`.
+fn is_image(alloc: Global, name: &str) -> Result<bool, Fail> {
+    let image = Text::copy(alloc, "Image_é[")?;
+    Ok(is_named(&image, &Text::copy(alloc, name)?))
 }
 
 #[test]
 fn names_that_are_equal(rt: HostRuntime) -> Result<(), Fail> {
     let alloc = rt.alloc();
-    let name = Text::copy(alloc, "Image_é[")?;
-    assert_eq!(rt; is_named(&name, &Text::copy(alloc, "iMAGE_é[")?), true);
-    assert_eq!(rt; is_named(&name, &Text::copy(alloc, "image_É[")?), false);
-    assert_eq!(rt; is_named(&name, &Text::copy(alloc, "image_é{")?), false);
-    assert_eq!(rt; is_named(&name, &Text::copy(alloc, "image_é[[")?), false);
+    assert!(rt; is_image(alloc, "iMAGE_é[")?);
+    assert!(rt; !is_image(alloc, "image_É[")?);
+    assert!(rt; !is_image(alloc, "image_é{")?);
+    assert!(rt; !is_image(alloc, "image_é[[")?);
     Ok(())
 }

@@ -138,24 +138,49 @@ const TOO_DEEP: &str = "6 1:33| ~ [[[[[[[[[[[[[[[[[[[[[[[[[[[[[[[[[[[[[[[[";
 const TWO: &str = r"7 9:1 ~ [␊---␊# c␊---␊b␊---␊␊# c␊ - x␊
 4 1:1|'b'@3:1| ~ [␊---␊b␊---␊";
 
+fn two_deep() -> Limits {
+    Limits {
+        yaml_depth: 2,
+        ..Limits::standard()
+    }
+}
+
+fn two_documents() -> Limits {
+    Limits {
+        documents: 2,
+        ..two_deep()
+    }
+}
+
+fn five_bytes() -> Limits {
+    Limits {
+        file_bytes: 5,
+        ..two_documents()
+    }
+}
+
+/// What is answered of a file within five bytes.
+fn shown_in_five(alloc: Global, bytes: &[u8]) -> Result<String, Fail> {
+    shown_in(alloc, &five_bytes(), bytes)
+}
+
 #[test]
 fn keeps_limits(rt: HostRuntime) -> Result<(), Fail> {
     let alloc = rt.alloc();
-    let mut limits = Limits::standard();
-    assert_eq!(rt; wrong_row(alloc, &limits, TOO_DEEP)?.as_str(), "");
-    limits.yaml_depth = 2;
-    assert_eq!(rt;
-        wrong_row(alloc, &limits, "6 1:5| ~ a: [[1]]")?.as_str(),
-        ""
-    );
-    limits.documents = 2;
-    assert_eq!(rt; wrong_row(alloc, &limits, TWO)?.as_str(), "");
-    limits.file_bytes = 5;
-    assert_eq!(rt; shown_in(alloc, &limits, b"a: \xFFxx")?.as_str(), "2 1:1");
-    assert_eq!(rt; shown_in(alloc, &limits, b"a: \xFFx")?.as_str(), "1 1:4");
-    assert_eq!(rt;
-        wrong_row(alloc, &limits, "{a@1:1=1@1:4 }@1:1| ~ a: 1␊")?.as_str(),
-        ""
-    );
+    let standard = Limits::standard();
+    assert_eq!(rt; wrong_row(alloc, &standard, TOO_DEEP)?.as_str(), "");
+    let lists = "6 1:5| ~ a: [[1]]";
+    assert_eq!(rt; wrong_row(alloc, &two_deep(), lists)?.as_str(), "");
+    assert_eq!(rt; wrong_row(alloc, &two_documents(), TWO)?.as_str(), "");
+    Ok(())
+}
+
+#[test]
+fn keeps_the_limit_of_bytes(rt: HostRuntime) -> Result<(), Fail> {
+    let alloc = rt.alloc();
+    assert_eq!(rt; shown_in_five(alloc, b"a: \xFFxx")?.as_str(), "2 1:1");
+    assert_eq!(rt; shown_in_five(alloc, b"a: \xFFx")?.as_str(), "1 1:4");
+    let whole = shown_in_five(alloc, b"a: 1\n")?;
+    assert_eq!(rt; whole.as_str(), "{a@1:1=1@1:4 }@1:1|");
     Ok(())
 }

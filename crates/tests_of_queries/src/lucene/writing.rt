@@ -110,18 +110,39 @@ const SHALLOW: &str = r"1:1 112 2 1~fits:4@9:1 fits:5:2 not not any
 a:12345678 OR b:12345678~fits:4:12345678 fits:5:12345678 any
 1:1 114 25 24~fits:4:12345678 fits:5:123456789 any";
 
+fn short() -> Limits {
+    Limits {
+        query_bytes: 24,
+        ..Limits::standard()
+    }
+}
+
+fn short_of_few_clauses() -> Limits {
+    Limits {
+        lucene_clauses: 2,
+        ..short()
+    }
+}
+
+fn short_and_shallow() -> Limits {
+    Limits {
+        lucene_depth: 1,
+        ..short_of_few_clauses()
+    }
+}
+
+const LONG: &str = "1:1 114 38 24~fits:4@9:1 fits:5:2 not not any";
+
+const MANY: &str = "1:1 113 4 2~fits:4@9:1 fits:5:2 not not any";
+
 #[test]
 fn refusals_in_their_order(rt: HostRuntime) -> Result<(), Fail> {
     let alloc = rt.alloc();
-    let mut limits = Limits::standard();
-    limits.query_bytes = 24;
-    let long = "1:1 114 38 24~fits:4@9:1 fits:5:2 not not any";
-    assert_eq!(rt; wrong_row(alloc, FIELDS, &limits, long)?.as_str(), "");
-    limits.lucene_clauses = 2;
-    let many = "1:1 113 4 2~fits:4@9:1 fits:5:2 not not any";
-    assert_eq!(rt; wrong_row(alloc, FIELDS, &limits, many)?.as_str(), "");
-    limits.lucene_depth = 1;
-    assert_eq!(rt; wrong_row(alloc, FIELDS, &limits, SHALLOW)?.as_str(), "");
+    assert_eq!(rt; wrong_row(alloc, FIELDS, &short(), LONG)?.as_str(), "");
+    let few = short_of_few_clauses();
+    assert_eq!(rt; wrong_row(alloc, FIELDS, &few, MANY)?.as_str(), "");
+    let shallow = short_and_shallow();
+    assert_eq!(rt; wrong_row(alloc, FIELDS, &shallow, SHALLOW)?.as_str(), "");
     Ok(())
 }
 

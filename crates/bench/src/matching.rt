@@ -1,13 +1,13 @@
-//! Shows how long matching takes: the words `SHAPE PIECES CHARACTERS` are a pattern of that many pieces and a
-//! text of that many `a`s, which are matched without and with a `b` behind the text. The shape `runs` is `*a` for
-//! each piece and then `b`; `letters` is a `*`, then `a` for each piece and then `b`, which is the slowest that
-//! there is. (Run it by hand with a clock around it: `time out/bench_matching runs 4000 60000`.)
-#![tactic(auto)]
+//! The matcher: the words `SHAPE PIECES CHARACTERS` are a pattern of that many pieces and a text of that many `a`s, which are
+//! matched without and with a `b` behind the text. The shape `runs` is `*a` for each piece and then `b`; `letters` is a `*`, then `a`
+//! for each piece and then `b`, which is the slowest that there is. As in `time out/bench matching runs 4000 60000`.
 
+use crate::{no_memory, number, unknown};
 use sig_base::Fault;
 use sig_strings::{Part, Pattern};
 use std::alloc::{AllocError, Global};
-use std::{env, io};
+use std::env::Args;
+use std::io;
 
 /// The pattern of this many pieces, with a run before each or before the first alone.
 fn pattern_of(alloc: Global, runs: bool, pieces: usize) -> Result<Pattern, Fault> {
@@ -43,22 +43,24 @@ fn answers(
     Ok((without, pattern.fits(text.as_str(), true)))
 }
 
-fn number(word: Option<String>) -> Option<usize> {
-    word?.as_str().parse::<usize>().ok()
+pub(crate) fn line(
+    alloc: Global,
+    runs: bool,
+    pieces: usize,
+    characters: usize,
+) -> io::Result<String> {
+    match answers(alloc, runs, pieces, characters) {
+        Ok((without, with)) => Ok(format!(in alloc; "without b: {without}, with b: {with}")?),
+        Err(_) => Err(no_memory()),
+    }
 }
 
-fn main(rt: HostRuntime) -> io::Result<()> {
-    let mut words = env::args(&rt)?;
-    let _program = words.next();
-    let runs = match words.next() {
-        Some(shape) => shape.as_str() == "runs",
-        None => false,
+pub(crate) fn told(alloc: Global, words: &mut Args) -> io::Result<String> {
+    let Some(shape) = words.next() else {
+        return Err(unknown());
     };
     let (Some(pieces), Some(characters)) = (number(words.next()), number(words.next())) else {
-        return Err(io::Error::from(io::ErrorKind::InvalidInput));
+        return Err(unknown());
     };
-    match answers(rt.alloc(), runs, pieces, characters) {
-        Ok((without, with)) => println!(rt; "without b: {without}, with b: {with}"),
-        Err(_) => Err(io::Error::from(io::ErrorKind::OutOfMemory)),
-    }
+    line(alloc, shape.as_str() == "runs", pieces, characters)
 }

@@ -1,14 +1,14 @@
-//! Shows how long a query of Lucene takes to be read: the words `UNIT COUNT FIELDS` are a text, how often it stands in the
-//! query, which may have 4,194,304 bytes, and how many fields the schema has, all of texts: `winlog.event_data.0` and so on, and
-//! `a`, which is the last. Written is the code of the query's refusal and its place, or how many clauses were read. (Run it by hand
-//! with a clock around it: `time out/bench_lucene 'a:x OR ' 500000 512`.)
-#![tactic(auto)]
+//! Queries of Lucene: the words `UNIT COUNT FIELDS` are a text, how often it stands in the query, which may have 4,194,304 bytes, and
+//! how many fields the schema has, all of texts: `winlog.event_data.0` and so on, and `a`, which is the last. Written is the code of
+//! the query's refusal and its place, or how many clauses were read. As in `time out/bench lucene 'a:x OR ' 500000 512`.
 
+use crate::{number, shown, unknown};
 use event_schema::{Field, FieldKind, FieldList, Schema};
 use lucene_read::read_query;
 use sig_base::{Fault, Limits, Text, Texts};
 use std::alloc::Global;
-use std::{env, io};
+use std::env::Args;
+use std::io;
 
 fn field(alloc: Global, name: &str) -> Result<Field, Fault> {
     Ok(Field {
@@ -56,27 +56,19 @@ fn clauses(alloc: Global, unit: &str, count: usize, others: usize) -> Result<usi
     Ok(group.clauses.len())
 }
 
-fn number(word: Option<String>) -> Option<usize> {
-    word?.as_str().parse::<usize>().ok()
+pub(crate) fn line(alloc: Global, unit: &str, count: usize, fields: usize) -> io::Result<String> {
+    match clauses(alloc, unit, count, fields.saturating_sub(1)) {
+        Ok(count) => Ok(format!(in alloc; "{count} clauses")?),
+        Err(fault) => shown(alloc, &fault),
+    }
 }
 
-fn main(rt: HostRuntime) -> io::Result<()> {
-    let mut words = env::args(&rt)?;
-    let _program = words.next();
-    let (Some(unit), Some(count)) = (words.next(), number(words.next())) else {
-        return Err(io::Error::from(io::ErrorKind::InvalidInput));
+pub(crate) fn told(alloc: Global, words: &mut Args) -> io::Result<String> {
+    let Some(unit) = words.next() else {
+        return Err(unknown());
     };
-    let Some(fields) = number(words.next()) else {
-        return Err(io::Error::from(io::ErrorKind::InvalidInput));
+    let (Some(count), Some(fields)) = (number(words.next()), number(words.next())) else {
+        return Err(unknown());
     };
-    match clauses(rt.alloc(), unit.as_str(), count, fields.saturating_sub(1)) {
-        Ok(count) => println!(rt; "{count} clauses"),
-        Err(Fault::Memory) => println!(rt; "no memory, or more bytes than a query may have"),
-        Err(Fault::Refused(refusal)) => {
-            let code = refusal.code.number();
-            let line = refusal.place.line;
-            let column = refusal.place.column;
-            println!(rt; "{line}:{column}: {code}")
-        }
-    }
+    line(alloc, unit.as_str(), count, fields)
 }

@@ -1,16 +1,16 @@
-//! Shows how long reading events takes. The word `lines` reads the lines of standard input, `json` reads each as a JSON value
-//! too, and `events` reads each as an event of a small schema, which finds its values in nested objects after the word
-//! `nested`. It prints how many lines there were and how many were read so. (Run it by hand with a clock around it, as
-//! `bench/events.py` does.)
-#![tactic(auto)]
+//! Events: the word `lines` reads the lines of standard input, `json` reads each as a JSON value too, and `events` reads each as an event
+//! of a small schema, which finds its values in nested objects after the word `nested`. Written is how many lines there were and how many
+//! were read so. `bench/events.py` runs it beside other readers.
 
+use crate::unknown;
 use event_lines::LineReader;
 use event_reading::{read_event, read_schema};
 use event_schema::Schema;
 use serde_json::Value;
-use sig_base::{Fault, InputSource, Limits, LineFault, LineStep, Source};
+use sig_base::{Fault, Limits, LineFault, LineStep, Source};
 use std::alloc::Global;
-use std::{env, io};
+use std::env::Args;
+use std::io;
 
 /// Five texts, two numbers and the time.
 const SCHEMA: &str =
@@ -94,20 +94,27 @@ fn schema(alloc: Global, word: Option<String>) -> Result<Schema, Fault> {
     read_schema(alloc, &Limits::standard(), text.as_bytes())
 }
 
-fn main(rt: HostRuntime) -> io::Result<()> {
-    let mut words = env::args(&rt)?;
-    let _program = words.next();
-    let mode = mode_of(words.next());
-    let Ok(schema) = schema(rt.alloc(), words.next()) else {
-        return Err(io::Error::from(io::ErrorKind::InvalidInput));
-    };
-    match read_all(
-        rt.alloc(),
-        mode,
-        &schema,
-        &mut InputSource::new(rt.reader()),
-    ) {
-        Ok(counts) => println!(rt; "{} lines, {} read", counts.lines, counts.read),
+/// What is told of a source, once it's read to its end.
+fn line<S: Source>(
+    alloc: Global,
+    mode: Mode,
+    schema: &Schema,
+    source: &mut S,
+) -> io::Result<String> {
+    match read_all(alloc, mode, schema, source) {
+        Ok(counts) => Ok(format!(in alloc; "{} lines, {} read", counts.lines, counts.read)?),
         Err(_) => Err(io::Error::from(io::ErrorKind::Other)),
+    }
+}
+
+pub(crate) fn told<S: Source>(
+    alloc: Global,
+    words: &mut Args,
+    source: &mut S,
+) -> io::Result<String> {
+    let mode = mode_of(words.next());
+    match schema(alloc, words.next()) {
+        Ok(schema) => line(alloc, mode, &schema, source),
+        Err(_) => Err(unknown()),
     }
 }

@@ -1,0 +1,77 @@
+//! Shows how long parts of the program take, with a clock around it. The first word is the part, `matching`, `sql`, `lucene` or `events`;
+//! what the words behind it are tells the part's module. The word `small` makes a small run of each.
+#![tactic(auto)]
+
+use sig_base::{Fault, InputSource, Source};
+use std::alloc::Global;
+use std::env::Args;
+use std::{env, io};
+
+mod events;
+mod lucene;
+mod matching;
+mod sql;
+
+/// The error for words that ask for nothing.
+fn unknown() -> io::Error {
+    io::Error::from(io::ErrorKind::InvalidInput)
+}
+
+fn no_memory() -> io::Error {
+    io::Error::from(io::ErrorKind::OutOfMemory)
+}
+
+fn number(word: Option<String>) -> Option<usize> {
+    word?.as_str().parse::<usize>().ok()
+}
+
+/// Where a query is refused, and the number of the code.
+fn shown(alloc: Global, fault: &Fault) -> io::Result<String> {
+    match fault {
+        Fault::Memory => Ok(String::from_str(
+            alloc,
+            "no memory, or more bytes than a query may have",
+        )?),
+        Fault::Refused(refusal) => {
+            let code = refusal.code.number();
+            let place = refusal.place;
+            Ok(format!(in alloc; "{}:{}: {code}", place.line, place.column)?)
+        }
+    }
+}
+
+/// A line of each part, at a small size.
+fn small<S: Source>(alloc: Global, words: &mut Args, source: &mut S) -> io::Result<String> {
+    let matching = matching::line(alloc, true, 40, 600)?;
+    let sql = sql::line(alloc, "SELECT*FROM\"t\"WHERE", "(", 1000, "1", ")")?;
+    let lucene = lucene::line(alloc, "(", 1001, 3)?;
+    let events = events::told(alloc, words, source)?;
+    Ok(format!(in alloc;
+        "{}\n{}\n{}\n{}",
+        matching.as_str(),
+        sql.as_str(),
+        lucene.as_str(),
+        events.as_str()
+    )?)
+}
+
+fn told<S: Source>(alloc: Global, words: &mut Args, source: &mut S) -> io::Result<String> {
+    let Some(part) = words.next() else {
+        return Err(unknown());
+    };
+    match part.as_str() {
+        "small" => small(alloc, words, source),
+        "matching" => matching::told(alloc, words),
+        "sql" => sql::told(alloc, words),
+        "lucene" => lucene::told(alloc, words),
+        "events" => events::told(alloc, words, source),
+        _ => Err(unknown()),
+    }
+}
+
+fn main(rt: HostRuntime) -> io::Result<()> {
+    let mut words = env::args(&rt)?;
+    let _program = words.next();
+    let line = told(rt.alloc(), &mut words, &mut InputSource::new(rt.reader()))?;
+    println!(rt; "{}", line.as_str())
+}
