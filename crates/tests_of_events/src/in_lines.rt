@@ -122,10 +122,8 @@ fn no_lines(rt: HostRuntime) -> Result<(), Fail> {
 
 /// What the lines are read as where one may have so many bytes.
 fn told_within(alloc: Global, line_bytes: usize) -> Result<String, Fail> {
-    let limits = Limits {
-        line_bytes,
-        ..Limits::standard()
-    };
+    let mut limits = Limits::standard();
+    limits.line_bytes = line_bytes;
     images_told(alloc, IMAGES, 65_536, &limits)
 }
 

@@ -336,14 +336,13 @@ fn moment(alloc: Global, form: &str, value: &str) -> Result<String, Fail> {
 #[test]
 fn moments(rt: HostRuntime) -> Result<(), Fail> {
     let alloc = rt.alloc();
-    for (form, value, want) in [
-        ("text", "\"1970-01-01 00:00:01Z\"", "1000000000"),
-        ("text", "7", "none"),
-        ("seconds", "-1", "-1000000000"),
-        ("millis", "1500", "1500000000"),
-    ] {
-        assert_eq!(rt; moment(alloc, form, value)?.as_str(), want, "{}", value);
-    }
+    assert_eq!(rt;
+        moment(alloc, "text", "\"1970-01-01 00:00:01Z\"")?.as_str(),
+        "1000000000"
+    );
+    assert_eq!(rt; moment(alloc, "text", "7")?.as_str(), "none");
+    assert_eq!(rt; moment(alloc, "seconds", "-1")?.as_str(), "-1000000000");
+    assert_eq!(rt; moment(alloc, "millis", "1500")?.as_str(), "1500000000");
     Ok(())
 }
 
@@ -451,19 +450,15 @@ fn schemas(rt: HostRuntime) -> Result<(), Fail> {
 
 /// What is told of a schema where it may have one field.
 fn told_of_one_field(alloc: Global, text: &str) -> Result<String, Fail> {
-    let limits = Limits {
-        schema_fields: 1,
-        ..Limits::standard()
-    };
+    let mut limits = Limits::standard();
+    limits.schema_fields = 1;
     told_schema(alloc, &limits, text)
 }
 
 /// What is told of a schema of one byte at most.
 fn told_of_one_byte(alloc: Global, text: &str) -> Result<String, Fail> {
-    let limits = Limits {
-        file_bytes: 1,
-        ..Limits::standard()
-    };
+    let mut limits = Limits::standard();
+    limits.file_bytes = 1;
     told_schema(alloc, &limits, text)
 }
 

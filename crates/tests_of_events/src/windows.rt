@@ -94,6 +94,17 @@ fn what_a_timespan_reaches_is_kept(rt: HostRuntime) -> Result<(), Fail> {
     Ok(())
 }
 
+/// What is shown of each user with a line feed behind it.
+fn users_shown(alloc: Global, events: &[(u32, i128, &str)], users: &str) -> Result<String, Fail> {
+    let queues = take_all(alloc, events)?;
+    let mut all = String::new(alloc);
+    for user in users.split(' ') {
+        all.push_str(shown(alloc, &queues, user)?.as_str())?;
+        all.push('\n')?;
+    }
+    Ok(all)
+}
+
 #[test]
 fn older_matches_of_every_group_go(rt: HostRuntime) -> Result<(), Fail> {
     let events = [
@@ -103,14 +114,9 @@ fn older_matches_of_every_group_go(rt: HostRuntime) -> Result<(), Fail> {
         (4, 2, "b"),
         (5, MINUTE + 1, "c"),
     ];
-    let queues = take_all(rt.alloc(), &events)?;
-    for (user, want) in [
-        ("a", "of 3"),
-        ("b", "4 of 3"),
-        ("A", "3 of 3"),
-        ("c", "5 of 3"),
-    ] {
-        assert_eq!(rt; shown(rt.alloc(), &queues, user)?.as_str(), want);
-    }
+    assert_eq!(rt;
+        users_shown(rt.alloc(), &events, "a b A c")?.as_str(),
+        "of 3\n4 of 3\n3 of 3\n5 of 3\n"
+    );
     Ok(())
 }

@@ -181,11 +181,10 @@ fn answers_lines_in_pieces(rt: HostRuntime) -> Result<(), Fail> {
 
 /// A line of 4 bytes, and 20 in all.
 pub(crate) fn small_limits() -> Limits {
-    Limits {
-        line_bytes: 4,
-        events_bytes: 20,
-        ..Limits::standard()
-    }
+    let mut limits = Limits::standard();
+    limits.line_bytes = 4;
+    limits.events_bytes = 20;
+    limits
 }
 
 const PAST_LIMITS: &str = "3,0,4096,0,0~+abc/+abcd/+e~found|+abc/+e/|events:2: 30 LineTooLong/

@@ -207,10 +207,9 @@ fn tests_become_others(rt: HostRuntime) -> Result<(), Fail> {
 }
 
 fn few_and_short() -> Limits {
-    Limits {
-        value_chars: 4,
-        ..few_limits()
-    }
+    let mut limits = few_limits();
+    limits.value_chars = 4;
+    limits
 }
 
 #[test]

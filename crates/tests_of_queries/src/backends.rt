@@ -193,7 +193,10 @@ fn each_backend_has_its_own_lacks(rt: HostRuntime) -> Result<(), Fail> {
     let alloc = rt.alloc();
     let query = "SELECT * FROM \"events\" WHERE \"Image\" = 'cmd.exe' COLLATE NOCASE";
     assert_eq!(rt; by_name(alloc, name_of_a_file(alloc)?)?.as_str(), query);
-    assert_eq!(rt; without_values(alloc, name_of_a_file(alloc)?)?.as_str(), query);
+    assert_eq!(rt;
+        without_values(alloc, name_of_a_file(alloc)?)?.as_str(),
+        query
+    );
     let query = "SELECT * FROM \"events\" WHERE \"Image\" IS NULL";
     assert_eq!(rt; of_null(alloc)?.as_str(), query);
     assert_eq!(rt;

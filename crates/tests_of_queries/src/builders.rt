@@ -14,24 +14,42 @@ fn small(alloc: Global, builder: &mut CrateBuilder, bytes: &[u8]) -> Result<Stri
     answer::<Small, CrateBuilder>(alloc, builder, value, bytes)
 }
 
-/// By a builder that fails at its second call.
+/// A builder that fails at these calls.
+fn builder_failing(alloc: Global, calls: &[u64]) -> Result<CrateBuilder, Fail> {
+    let mut all = Vec::new(alloc);
+    all.extend_from_slice(calls)?;
+    Ok(CrateBuilder::new(alloc, all))
+}
+
+/// The first row, `what is answered~a pattern`, that is answered otherwise, by one builder for all.
+fn wrong_small(alloc: Global, failing: &[u64], table: &str) -> Result<String, Fail> {
+    let mut builder = builder_failing(alloc, failing)?;
+    for row in table.lines() {
+        let Some((want, given)) = row.split_once('~') else {
+            return Ok(format!(in alloc; "no row: {row}")?);
+        };
+        if small(alloc, &mut builder, given.as_bytes())?.as_str() != want {
+            return Ok(String::from_str(alloc, row)?);
+        }
+    }
+    Ok(String::new(alloc))
+}
+
+const SMALL: &str = "yes~cmd
+48 at 1:1~cmd
+no~CMD
+yes~(?i)s.CMD[.]
+47 at 1:1~(cmd";
+
+/// What is answered to bytes that are no text.
+fn no_text(alloc: Global) -> Result<String, Fail> {
+    small(alloc, &mut builder_failing(alloc, &[])?, b"\xff")
+}
+
 #[test]
 fn the_small_language(rt: HostRuntime) -> Result<(), Fail> {
-    let alloc = rt.alloc();
-    let mut failing = Vec::new(alloc);
-    failing.push(2)?;
-    let mut builder = CrateBuilder::new(alloc, failing);
-    let all: [(&[u8], &str); 6] = [
-        (b"cmd", "yes"),
-        (b"cmd", "48 at 1:1"),
-        (b"CMD", "no"),
-        (b"(?i)s.CMD[.]", "yes"),
-        (b"(cmd", "47 at 1:1"),
-        (b"\xff", "1 at 1:1"),
-    ];
-    for (bytes, want) in all {
-        assert_eq!(rt; small(alloc, &mut builder, bytes)?.as_str(), want);
-    }
+    assert_eq!(rt; wrong_small(rt.alloc(), &[2], SMALL)?.as_str(), "");
+    assert_eq!(rt; no_text(rt.alloc())?.as_str(), "1 at 1:1");
     Ok(())
 }
 
@@ -44,24 +62,31 @@ fn built(alloc: Global, builder: &mut CrateBuilder, text: &str) -> Result<&'stat
     }
 }
 
+/// The first row, `what is answered~a regular expression`, that is answered otherwise, by one builder for all.
+fn wrong_built(alloc: Global, failing: &[u64], table: &str) -> Result<String, Fail> {
+    let mut builder = builder_failing(alloc, failing)?;
+    for row in table.lines() {
+        let Some((want, given)) = row.split_once('~') else {
+            return Ok(format!(in alloc; "no row: {row}")?);
+        };
+        if built(alloc, &mut builder, given)? != want {
+            return Ok(String::from_str(alloc, row)?);
+        }
+    }
+    Ok(String::new(alloc))
+}
+
+const BUILT: &str = r"refused~(?i)a+b
+built~(?i)a+b
+refused~(
+syntax~(
+built~(?P<n>\d{4})-[[:alpha:]]
+refused~(?:a{1000}){1000}
+syntax~(a)\1";
+
 #[test]
 fn builders(rt: HostRuntime) -> Result<(), Fail> {
-    let alloc = rt.alloc();
-    let mut failing = Vec::new(alloc);
-    failing.push(1)?;
-    failing.push(3)?;
-    let mut builder = CrateBuilder::new(alloc, failing);
-    for (text, want) in [
-        ("(?i)a+b", "refused"),
-        ("(?i)a+b", "built"),
-        ("(", "refused"),
-        ("(", "syntax"),
-        (r"(?P<n>\d{4})-[[:alpha:]]", "built"),
-        ("(?:a{1000}){1000}", "refused"),
-        (r"(a)\1", "syntax"),
-    ] {
-        assert_eq!(rt; built(alloc, &mut builder, text)?, want);
-    }
+    assert_eq!(rt; wrong_built(rt.alloc(), &[1, 3], BUILT)?.as_str(), "");
     Ok(())
 }
 
@@ -73,20 +98,34 @@ fn is_found(alloc: Global, text: &str, value: &str) -> Result<bool, Fail> {
     }
 }
 
+/// The first row, `whether it's found~a regular expression~a value`, that is answered otherwise; `/` stands for a line feed.
+fn wrong_search(alloc: Global, table: &str) -> Result<String, Fail> {
+    for row in table.lines() {
+        let mut parts = row.split('~');
+        let (Some(want), Some(text), Some(value)) = (parts.next(), parts.next(), parts.next())
+        else {
+            return Ok(format!(in alloc; "no row: {row}")?);
+        };
+        let value = value.replace(alloc, "/", "\n")?;
+        let found = is_found(alloc, text, value.as_str())?;
+        if want != (if found { "yes" } else { "no" }) {
+            return Ok(String::from_str(alloc, row)?);
+        }
+    }
+    Ok(String::new(alloc))
+}
+
+const SEARCHES: &str = "yes~a+b~xaab
+no~a+b~xa b
+yes~^a$~a
+no~^a$~a/
+no~a.c~a/c
+yes~~
+yes~(?i)É~né
+no~[^a]~";
+
 #[test]
 fn searches(rt: HostRuntime) -> Result<(), Fail> {
-    let alloc = rt.alloc();
-    for (text, value, want) in [
-        ("a+b", "xaab", true),
-        ("a+b", "xa b", false),
-        ("^a$", "a", true),
-        ("^a$", "a\n", false),
-        ("a.c", "a\nc", false),
-        ("", "", true),
-        ("(?i)É", "né", true),
-        ("[^a]", "", false),
-    ] {
-        assert_eq!(rt; is_found(alloc, text, value)?, want);
-    }
+    assert_eq!(rt; wrong_search(rt.alloc(), SEARCHES)?.as_str(), "");
     Ok(())
 }

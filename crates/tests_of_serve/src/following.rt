@@ -1,6 +1,8 @@
 //! Events that are followed by an engine that is lent.
 
-ghost use Rattle.std.specs.Prelude.{IfOk};
+ghost use Rattle.std.specs.Prelude.{IfOk, List};
+ghost use Rattle.correlation_windows.specs.History.{Taken};
+ghost use Rattle.correlation_windows.specs.Kept.{StandsFor};
 ghost use Rattle.sigma_serve.specs.Sourced.{IsFound};
 
 use crate::correlating::{BOTH, EARLY, EVENTS, REPORTS, SCHEMA};
@@ -37,43 +39,61 @@ fn found_in(rt: &impl Abort, alloc: Global, schema: &Schema, rules: &str) -> Res
     Ok(found)
 }
 
-/// The engine that is lent holds the four matches that the timespan reaches back from the last event that was taken.
-#[test]
-fn follows_events_by_an_engine(rt: HostRuntime) -> Result<(), Fail> {
-    let alloc = rt.alloc();
-    let limits = Limits::standard();
-    let schema = read_schema(alloc, &limits, SCHEMA.as_bytes())?;
-    let found = found_in(&rt, alloc, &schema, BOTH)?;
-    let bindings = found.bind(alloc, &schema)?;
-    let Bindings {
-        bounds,
-        names,
-        unbound,
-    } = bindings;
-    assert!(rt; unbound.is_empty());
-    let mut engine = Engine::make(alloc, bounds)?;
-    let mut events = MemorySource::new(
-        Bytes::copy(alloc, EVENTS.as_bytes())?,
-        4096,
-        Vec::new(alloc),
-    );
-    let mut out = MemorySink::new(alloc, 4096, 4096, Vec::new(alloc))?;
-    let mut err = MemorySink::new(alloc, 4096, 4096, Vec::new(alloc))?;
+fn events(alloc: Global) -> Result<MemorySource, Fail> {
+    let bytes = Bytes::copy(alloc, EVENTS.as_bytes())?;
+    Ok(MemorySource::new(bytes, 4096, Vec::new(alloc)))
+}
+
+fn sink(alloc: Global) -> Result<MemorySink, Fail> {
+    Ok(MemorySink::new(alloc, 4096, 4096, Vec::new(alloc))?)
+}
+
+/// How following the events ended, and whether the reports were written and the event that came too early was told.
+fn followed(
+    alloc: Global,
+    schema: &Schema,
+    found: &Found,
+    names: &[Text],
+    engine: &mut Engine,
+) -> Result<(Status, bool, bool), Fail>
+    requires found { IsFound schema.now found.now }
+    requires stands { (history : List Taken) × StandsFor engine.old history }
+{
+    let mut events = events(alloc)?;
+    let mut out = sink(alloc)?;
+    let mut err = sink(alloc)?;
     let status = follow(
         alloc,
-        &limits,
-        &schema,
+        &Limits::standard(),
+        schema,
         found.rules.as_slice(),
         found.ready.as_slice(),
-        names.as_slice(),
-        &mut engine,
+        names,
+        engine,
         &mut events,
         &mut out,
         &mut err,
     );
-    assert_eq!(rt; status, Status::Found);
+    let reported = out.taken() == REPORTS.as_bytes();
+    let told = err.taken() == EARLY.as_bytes();
+    Ok((status, reported, told))
+}
+
+/// The engine that is lent holds the four matches that the timespan reaches back from the last event that was taken.
+#[test]
+fn follows_events_by_an_engine(rt: HostRuntime) -> Result<(), Fail> {
+    let alloc = rt.alloc();
+    let schema = read_schema(alloc, &Limits::standard(), SCHEMA.as_bytes())?;
+    let found = found_in(&rt, alloc, &schema, BOTH)?;
+    let Bindings {
+        bounds,
+        names,
+        unbound,
+    } = found.bind(alloc, &schema)?;
+    assert!(rt; unbound.is_empty());
+    let mut engine = Engine::make(alloc, bounds)?;
+    let followed = followed(alloc, &schema, &found, names.as_slice(), &mut engine)?;
+    assert_eq!(rt; followed, (Status::Found, true, true));
     assert_eq!(rt; engine.held(), 4);
-    assert_eq!(rt; out.taken(), REPORTS.as_bytes());
-    assert_eq!(rt; err.taken(), EARLY.as_bytes());
     Ok(())
 }

@@ -139,24 +139,21 @@ const TWO: &str = r"7 9:1 ~ [␊---␊# c␊---␊b␊---␊␊# c␊ - x␊
 4 1:1|'b'@3:1| ~ [␊---␊b␊---␊";
 
 fn two_deep() -> Limits {
-    Limits {
-        yaml_depth: 2,
-        ..Limits::standard()
-    }
+    let mut limits = Limits::standard();
+    limits.yaml_depth = 2;
+    limits
 }
 
 fn two_documents() -> Limits {
-    Limits {
-        documents: 2,
-        ..two_deep()
-    }
+    let mut limits = two_deep();
+    limits.documents = 2;
+    limits
 }
 
 fn five_bytes() -> Limits {
-    Limits {
-        file_bytes: 5,
-        ..two_documents()
-    }
+    let mut limits = two_documents();
+    limits.file_bytes = 5;
+    limits
 }
 
 /// What is answered of a file within five bytes.

@@ -111,24 +111,21 @@ a:12345678 OR b:12345678~fits:4:12345678 fits:5:12345678 any
 1:1 114 25 24~fits:4:12345678 fits:5:123456789 any";
 
 fn short() -> Limits {
-    Limits {
-        query_bytes: 24,
-        ..Limits::standard()
-    }
+    let mut limits = Limits::standard();
+    limits.query_bytes = 24;
+    limits
 }
 
 fn short_of_few_clauses() -> Limits {
-    Limits {
-        lucene_clauses: 2,
-        ..short()
-    }
+    let mut limits = short();
+    limits.lucene_clauses = 2;
+    limits
 }
 
 fn short_and_shallow() -> Limits {
-    Limits {
-        lucene_depth: 1,
-        ..short_of_few_clauses()
-    }
+    let mut limits = short_of_few_clauses();
+    limits.lucene_depth = 1;
+    limits
 }
 
 const LONG: &str = "1:1 114 38 24~fits:4@9:1 fits:5:2 not not any";
