@@ -1,5 +1,6 @@
 //! Shows how long parts of the program take, with a clock around it. The first word is the part, `matching`, `sql`, `lucene` or `events`;
-//! what the words behind it are tells the part's module. The word `small` makes a small run of each.
+//! what the words behind it are tells the part's module. The word `small` makes a small run of each; the words behind it are those of
+//! `events`.
 #![tactic(auto)]
 
 use sig_base::{Fault, InputSource, Source};
@@ -25,7 +26,7 @@ fn number(word: Option<String>) -> Option<usize> {
     word?.as_str().parse::<usize>().ok()
 }
 
-/// Where a query is refused, and the number of the code.
+/// Where a query is refused and the number of the code, or that memory was wanted or the query is too long.
 fn shown(alloc: Global, fault: &Fault) -> io::Result<String> {
     match fault {
         Fault::Memory => Ok(String::from_str(
@@ -40,7 +41,7 @@ fn shown(alloc: Global, fault: &Fault) -> io::Result<String> {
     }
 }
 
-/// A line of each part, at a small size.
+/// A line of each part, at a small size; events by the words and of the source.
 fn small<S: Source>(alloc: Global, words: &mut Args, source: &mut S) -> io::Result<String> {
     let matching = matching::line(alloc, true, 40, 600)?;
     let sql = sql::line(alloc, "SELECT*FROM\"t\"WHERE", "(", 1000, "1", ")")?;

@@ -99,7 +99,7 @@ fn values_by_names_and_numbers(rt: HostRuntime) -> Result<(), Fail> {
         values_told(alloc)?.as_str(),
         "0, a.exe, a.exe , a.exe \n1, -40, -40 7 0 , -40 7 0 \n2, none, , \nnone, \nnone"
     );
-    assert_eq!(rt; event(alloc)?.moment(), Some(-5));
+    assert_eq!(rt; event(alloc)?.copy(alloc)?.moment(), Some(-5));
     Ok(())
 }
 

@@ -289,7 +289,7 @@ null~25 at 7:1
     Ok(())
 }
 
-/// A line whose second value stands in 200 lists.
+/// A line whose second value is 200 lists, one inside the other.
 fn deep_line(alloc: Global) -> Result<String, Fail> {
     let mut line = String::from_str(alloc, "{\"N\":1,\"x\":")?;
     for _ in 0..200 {
@@ -455,9 +455,10 @@ fn told_of_one_field(alloc: Global, text: &str) -> Result<String, Fail> {
     told_schema(alloc, &limits, text)
 }
 
-/// What is told of a schema of one byte at most.
+/// .. and of one byte at most.
 fn told_of_one_byte(alloc: Global, text: &str) -> Result<String, Fail> {
     let mut limits = Limits::standard();
+    limits.schema_fields = 1;
     limits.file_bytes = 1;
     told_schema(alloc, &limits, text)
 }

@@ -55,6 +55,7 @@ struct World<'a> {
     err: u64,
 }
 
+/// A number that stands in a row.
 pub(crate) fn number(text: Option<&str>) -> Result<u64, Fail> {
     let Some(text) = text else {
         return Err(Fail::new("no number"));
@@ -65,7 +66,7 @@ pub(crate) fn number(text: Option<&str>) -> Result<u64, Fail> {
     }
 }
 
-/// The world of these numbers, in the order of its fields and with commas between.
+/// The world of these events and of these numbers, which stand in the order of its other fields with commas between.
 fn world<'a>(events: &'a str, numbers: &str) -> Result<World<'a>, Fail> {
     let mut numbers = numbers.split(',');
     Ok(World {
@@ -133,14 +134,14 @@ fn told(alloc: Global, limits: &Limits, world: World<'_>) -> Result<String, Fail
     Ok(all)
 }
 
-/// What is told of a row's events, with `/` for a line feed there and in the answer.
+/// What is told of a row's events, with `/` for a line feed there.
 fn row_told(alloc: Global, limits: &Limits, numbers: &str, events: &str) -> Result<String, Fail> {
     let events = events.replace(alloc, "/", "\n")?;
-    let got = told(alloc, limits, world(events.as_str(), numbers)?)?;
-    Ok(got.as_str().replace(alloc, "\n", "/")?)
+    told(alloc, limits, world(events.as_str(), numbers)?)
 }
 
-/// The first row, `numbers of the world~events~what is told`, that is told otherwise; see `row_told`.
+/// The first row, `numbers of the world~events~what is told`, that is told otherwise; in what is told, too, `/` stands for a line
+/// feed.
 fn wrong_row(alloc: Global, limits: &Limits, table: &str) -> Result<String, Fail> {
     for row in table.lines() {
         let mut parts = row.split('~');
@@ -148,7 +149,8 @@ fn wrong_row(alloc: Global, limits: &Limits, table: &str) -> Result<String, Fail
         else {
             return Ok(format!(in alloc; "no row: {row}")?);
         };
-        if row_told(alloc, limits, numbers, events)?.as_str() != want {
+        let want = want.replace(alloc, "/", "\n")?;
+        if row_told(alloc, limits, numbers, events)?.as_str() != want.as_str() {
             return Ok(String::from_str(alloc, row)?);
         }
     }

@@ -89,7 +89,7 @@ fn told(
     Ok(all)
 }
 
-/// What is told of a row's events, with `/` for a line feed there and in the answer.
+/// What is told of a row's events, with `/` for a line feed there.
 fn row_told(
     alloc: Global,
     limits: &Limits,
@@ -99,19 +99,18 @@ fn row_told(
     unread: u64,
 ) -> Result<String, Fail> {
     let events = events.replace(alloc, "/", "\n")?;
-    let got = told(
+    told(
         alloc,
         limits,
         command,
         events.as_str(),
         read as usize,
         unread,
-    )?;
-    Ok(got.as_str().replace(alloc, "\n", "/")?)
+    )
 }
 
-/// The first row, `bytes of a read~which read fails~events~what is told`, that is told otherwise. Behind an empty row the
-/// command has no history.
+/// The first row, `bytes of a read~which read fails~events~what is told`, that is told otherwise; in what is told, too, `/`
+/// stands for a line feed. Behind an empty row the command has no history.
 fn wrong_row(alloc: Global, limits: &Limits, table: &str) -> Result<String, Fail> {
     let mut command = Turns { last: None };
     for row in table.lines() {
@@ -125,7 +124,9 @@ fn wrong_row(alloc: Global, limits: &Limits, table: &str) -> Result<String, Fail
         let (Some(events), Some(want)) = (parts.next(), parts.next()) else {
             return Ok(format!(in alloc; "no row: {row}")?);
         };
-        if row_told(alloc, limits, &mut command, events, read, unread)?.as_str() != want {
+        let want = want.replace(alloc, "/", "\n")?;
+        let got = row_told(alloc, limits, &mut command, events, read, unread)?;
+        if got.as_str() != want.as_str() {
             return Ok(String::from_str(alloc, row)?);
         }
     }

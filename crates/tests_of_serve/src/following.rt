@@ -85,11 +85,12 @@ fn follows_events_by_an_engine(rt: HostRuntime) -> Result<(), Fail> {
     let alloc = rt.alloc();
     let schema = read_schema(alloc, &Limits::standard(), SCHEMA.as_bytes())?;
     let found = found_in(&rt, alloc, &schema, BOTH)?;
+    let bindings = found.bind(alloc, &schema)?;
     let Bindings {
         bounds,
         names,
         unbound,
-    } = found.bind(alloc, &schema)?;
+    } = bindings;
     assert!(rt; unbound.is_empty());
     let mut engine = Engine::make(alloc, bounds)?;
     let followed = followed(alloc, &schema, &found, names.as_slice(), &mut engine)?;

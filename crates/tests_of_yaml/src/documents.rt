@@ -138,18 +138,21 @@ const TOO_DEEP: &str = "6 1:33| ~ [[[[[[[[[[[[[[[[[[[[[[[[[[[[[[[[[[[[[[[[";
 const TWO: &str = r"7 9:1 ~ [␊---␊# c␊---␊b␊---␊␊# c␊ - x␊
 4 1:1|'b'@3:1| ~ [␊---␊b␊---␊";
 
+/// Trees of a depth of at most 2.
 fn two_deep() -> Limits {
     let mut limits = Limits::standard();
     limits.yaml_depth = 2;
     limits
 }
 
+/// .. and of two documents at most.
 fn two_documents() -> Limits {
     let mut limits = two_deep();
     limits.documents = 2;
     limits
 }
 
+/// .. and of five bytes at most.
 fn five_bytes() -> Limits {
     let mut limits = two_documents();
     limits.file_bytes = 5;

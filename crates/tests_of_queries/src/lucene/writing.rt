@@ -110,18 +110,21 @@ const SHALLOW: &str = r"1:1 112 2 1~fits:4@9:1 fits:5:2 not not any
 a:12345678 OR b:12345678~fits:4:12345678 fits:5:12345678 any
 1:1 114 25 24~fits:4:12345678 fits:5:123456789 any";
 
+/// Queries of at most 24 bytes.
 fn short() -> Limits {
     let mut limits = Limits::standard();
     limits.query_bytes = 24;
     limits
 }
 
+/// .. and of two clauses at most.
 fn short_of_few_clauses() -> Limits {
     let mut limits = short();
     limits.lucene_clauses = 2;
     limits
 }
 
+/// .. and of one open parenthesis at most.
 fn short_and_shallow() -> Limits {
     let mut limits = short_of_few_clauses();
     limits.lucene_depth = 1;
