@@ -67,7 +67,7 @@ pub(crate) fn number(text: Option<&str>) -> Result<u64, Fail> {
 }
 
 /// The world of these events and of these numbers, which stand in the order of its other fields with commas between.
-fn world<'a>(events: &'a str, numbers: &str) -> Result<World<'a>, Fail> {
+fn world_of<'a>(events: &'a str, numbers: &str) -> Result<World<'a>, Fail> {
     let mut numbers = numbers.split(',');
     Ok(World {
         events,
@@ -137,7 +137,7 @@ fn told(alloc: Global, limits: &Limits, world: World<'_>) -> Result<String, Fail
 /// What is told of a row's events, with `/` for a line feed there.
 fn row_told(alloc: Global, limits: &Limits, numbers: &str, events: &str) -> Result<String, Fail> {
     let events = events.replace(alloc, "/", "\n")?;
-    told(alloc, limits, world(events.as_str(), numbers)?)
+    told(alloc, limits, world_of(events.as_str(), numbers)?)
 }
 
 /// The first row, `numbers of the world~events~what is told`, that is told otherwise; in what is told, too, `/` stands for a line
