@@ -10,7 +10,7 @@ use std::{env, io};
 
 mod events;
 mod lucene;
-mod matching;
+mod patterns;
 mod sql;
 
 /// The error for words that ask for nothing.
@@ -43,7 +43,7 @@ fn shown(alloc: Global, fault: &Fault) -> io::Result<String> {
 
 /// A line of each part, at a small size; events by the words and of the source.
 fn small<S: Source>(alloc: Global, words: &mut Args, source: &mut S) -> io::Result<String> {
-    let matching = matching::line(alloc, true, 40, 600)?;
+    let matching = patterns::line(alloc, true, 40, 600)?;
     let sql = sql::line(alloc, "SELECT*FROM\"t\"WHERE", "(", 1000, "1", ")")?;
     let lucene = lucene::line(alloc, "(", 1001, 3)?;
     let events = events::told(alloc, words, source)?;
@@ -62,7 +62,7 @@ fn told<S: Source>(alloc: Global, words: &mut Args, source: &mut S) -> io::Resul
     };
     match part.as_str() {
         "small" => small(alloc, words, source),
-        "matching" => matching::told(alloc, words),
+        "matching" => patterns::told(alloc, words),
         "sql" => sql::told(alloc, words),
         "lucene" => lucene::told(alloc, words),
         "events" => events::told(alloc, words, source),
