@@ -8,7 +8,7 @@ use Rattle.sigma_serve.proofs.Hits.{bare_ready}
 use Rattle.tests_of_serve.proofs.following.followed.Goals as goal
 
 pub follow-status-requires-clause-ready : goal.follow-status-requires-clause-ready
-follow-status-requires-clause-ready g c =
+follow-status-requires-clause-ready c =
     let fields = c.args.schema.now.fields in
     let found = c.requires.found in
     let all = bare_ready fields found.0 c.args.found.now.rules.items c.args.found.now.ready.items found.2.bare found.2.ready in
