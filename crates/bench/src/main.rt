@@ -1,6 +1,6 @@
-//! Shows how long parts of the program take, with a clock around it. The first word is the part, `matching`, `sql`, `lucene` or `events`;
-//! what the words behind it are tells the part's module. The word `small` makes a small run of each; the words behind it are those of
-//! `events`.
+//! Shows how long parts of the program take, with a clock around it. The first word is the part, `matching`, `sql`, `lucene`, `events` or
+//! `correlation`, or `agree`, which compares the engine of correlations with plain windows; what the words behind it are tells the part's
+//! module. The word `small` makes a small run of each; the words behind it are those of `events`.
 #![tactic(auto)]
 
 use sig_base::{Fault, InputSource, Source};
@@ -8,9 +8,14 @@ use std::alloc::Global;
 use std::env::Args;
 use std::{env, io};
 
+mod agreement;
 mod events;
+mod histories;
+mod load;
 mod lucene;
 mod patterns;
+mod plain;
+mod random;
 mod sql;
 
 /// The error for words that ask for nothing.
@@ -24,6 +29,11 @@ fn no_memory() -> io::Error {
 
 fn number(word: Option<String>) -> Option<usize> {
     word?.as_str().parse::<usize>().ok()
+}
+
+/// The same of numbers below 2^32.
+fn small_number(word: Option<String>) -> Option<u32> {
+    word?.as_str().parse::<u32>().ok()
 }
 
 /// Where a query is refused and the number of the code, or that memory was wanted or the query is too long.
@@ -41,18 +51,22 @@ fn shown(alloc: Global, fault: &Fault) -> io::Result<String> {
     }
 }
 
-/// A line of each part, at a small size; events by the words and of the source.
+/// A line of each part at a small size, and of the comparison; events by the words and of the source.
 fn small<S: Source>(alloc: Global, words: &mut Args, source: &mut S) -> io::Result<String> {
     let matching = patterns::line(alloc, true, 40, 600)?;
     let sql = sql::line(alloc, "SELECT*FROM\"t\"WHERE", "(", 1000, "1", ")")?;
     let lucene = lucene::line(alloc, "(", 1001, 3)?;
     let events = events::told(alloc, words, source)?;
+    let correlation = load::line(alloc, 1000, 3, 60)?;
+    let agreement = agreement::line(alloc, 2000)?;
     Ok(format!(in alloc;
-        "{}\n{}\n{}\n{}",
+        "{}\n{}\n{}\n{}\n{}\n{}",
         matching.as_str(),
         sql.as_str(),
         lucene.as_str(),
-        events.as_str()
+        events.as_str(),
+        correlation.as_str(),
+        agreement.as_str()
     )?)
 }
 
@@ -66,6 +80,8 @@ fn told<S: Source>(alloc: Global, words: &mut Args, source: &mut S) -> io::Resul
         "sql" => sql::told(alloc, words),
         "lucene" => lucene::told(alloc, words),
         "events" => events::told(alloc, words, source),
+        "correlation" => load::told(alloc, words),
+        "agree" => agreement::told(alloc, words),
         _ => Err(unknown()),
     }
 }

@@ -1,6 +1,9 @@
-//! Tests of texts, patterns, encodings, conditions, trees of tests, events, lines, numbers of fields and words of the command line.
+//! Tests of texts, patterns, encodings, conditions, trees of tests, events, lines, numbers of fields, words of the command line and those that
+//! the program is called with.
 #![tactic(auto)]
 
+#[cfg(test)]
+mod arguments;
 #[cfg(test)]
 mod base;
 #[cfg(test)]

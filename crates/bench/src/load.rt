@@ -1,9 +1,11 @@
-//! Many events of many groups.
+//! Correlations: the words `EVENTS GROUPS SECONDS` are so many events, ten milliseconds apart, over so many groups, with a timespan of so many
+//! seconds. As in `time out/bench correlation 1000000 100000 3600`.
 
 ghost use Rattle.std.specs.Prelude.{◌≡◌, ◌≤ℤ◌, ◌^◌, pos, IfOk};
 ghost use Rattle.event_schema.specs.Occurrence.{IsMoment};
 ghost use Rattle.correlation_engine.specs.Limits.{IsWithinLimits};
 
+use crate::{no_memory, small_number, unknown};
 use correlation_engine::{Arrival, Engine, TakeFault};
 use correlation_windows::{Bound, CorrelationKind, Op};
 use event_schema::{Event, FieldValues, Value};
@@ -11,12 +13,14 @@ use rand_core::utils::NextWord;
 use rand_pcg::Pcg32;
 use sig_base::{Fault, Sequence};
 use std::alloc::Global;
+use std::env::Args;
+use std::io;
 
 /// How many reports there were, and how many matches are held at the end.
 #[derive(Drop)]
-pub(crate) struct Load {
-    pub reports: u64,
-    pub held: u64,
+struct Load {
+    reports: u64,
+    held: u64,
 }
 
 /// So many seconds, at least one.
@@ -86,7 +90,7 @@ fn take(alloc: Global, engine: &mut Engine, line: u32, group: u32) -> Result<u64
 }
 
 /// Takes so many events of so many groups, with a timespan of so many seconds.
-pub(crate) fn run(alloc: Global, events: u32, groups: u32, seconds: u32) -> Result<Load, Fault> {
+fn run(alloc: Global, events: u32, groups: u32, seconds: u32) -> Result<Load, Fault> {
     let mut engine = engine(alloc, seconds)?;
     let mut rng = Pcg32::new(1, 1);
     let mut reports: u64 = 0;
@@ -99,4 +103,25 @@ pub(crate) fn run(alloc: Global, events: u32, groups: u32, seconds: u32) -> Resu
     }
     let held = engine.held();
     Ok(Load { reports, held })
+}
+
+pub(crate) fn line(alloc: Global, events: u32, groups: u32, seconds: u32) -> io::Result<String> {
+    match run(alloc, events, groups, seconds) {
+        Ok(found) => Ok(format!(in alloc;
+            "{} reports, {} matches held",
+            found.reports, found.held
+        )?),
+        Err(_) => Err(no_memory()),
+    }
+}
+
+pub(crate) fn told(alloc: Global, words: &mut Args) -> io::Result<String> {
+    let (Some(events), Some(groups), Some(seconds)) = (
+        small_number(words.next()),
+        small_number(words.next()),
+        small_number(words.next()),
+    ) else {
+        return Err(unknown());
+    };
+    line(alloc, events, groups, seconds)
 }

@@ -1,6 +1,6 @@
 //! The words of the program.
 
-use crate::words_of;
+use program_words::words_of;
 use std::env::FillError;
 use std::rt::Env;
 use std::test::Fail;

@@ -1,4 +1,6 @@
-//! The engine's answers beside those of plain windows.
+//! The engine's answers beside those of plain windows. The word `HISTORIES` is how many random histories of events there are, with
+//! correlations of all four types; each answer is compared with that of plain windows over all events before, which share no code with the
+//! engine.
 
 ghost use Rattle.std.specs.Prelude.{◌≡◌, ◌<◌, ◌≤◌, length, IfOk};
 ghost use Rattle.std.specs.List.{AllByRecursion};
@@ -8,19 +10,22 @@ ghost use Rattle.correlation_engine.specs.Limits.{IsWithinLimits};
 use crate::histories::{Happening, correlation, digit, event_of, random_event};
 use crate::plain::{self, Told};
 use crate::random::below;
+use crate::{no_memory, small_number, unknown};
 use correlation_engine::{Arrival, Engine, TakeFault};
 use correlation_windows::{Bound, Report};
 use rand_pcg::Pcg32;
 use sig_base::{Fault, Text};
 use std::alloc::Global;
+use std::env::Args;
+use std::io;
 
 /// What came of the histories.
 #[derive(Drop)]
-pub(crate) struct Found {
-    pub agreed: u32,
-    pub events: u64,
-    pub refused: u64,
-    pub reports: u64,
+struct Found {
+    agreed: u32,
+    events: u64,
+    refused: u64,
+    reports: u64,
 }
 
 /// What the engine answers to an event.
@@ -240,7 +245,7 @@ fn compare(alloc: Global, seed: u64, found: &mut Found) -> Result<bool, Fault> {
 }
 
 /// Compares so many histories.
-pub(crate) fn compare_all(alloc: Global, histories: u32) -> Result<Found, Fault> {
+fn compare_all(alloc: Global, histories: u32) -> Result<Found, Fault> {
     let mut found = Found {
         agreed: 0,
         events: 0,
@@ -253,4 +258,21 @@ pub(crate) fn compare_all(alloc: Global, histories: u32) -> Result<Found, Fault>
         }
     }
     Ok(found)
+}
+
+pub(crate) fn line(alloc: Global, histories: u32) -> io::Result<String> {
+    match compare_all(alloc, histories) {
+        Ok(found) => Ok(format!(in alloc;
+            "{} of {histories} histories agree, {} events, {} refused, {} reports",
+            found.agreed, found.events, found.refused, found.reports
+        )?),
+        Err(_) => Err(no_memory()),
+    }
+}
+
+pub(crate) fn told(alloc: Global, words: &mut Args) -> io::Result<String> {
+    match small_number(words.next()) {
+        Some(histories) => line(alloc, histories),
+        None => Err(unknown()),
+    }
 }
