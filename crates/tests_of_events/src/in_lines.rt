@@ -120,21 +120,31 @@ fn no_lines(rt: HostRuntime) -> Result<(), Fail> {
     Ok(())
 }
 
-/// What the lines are read as where one may have so many bytes.
-fn told_within(alloc: Global, line_bytes: usize) -> Result<String, Fail> {
+fn lines_of_eight() -> Limits {
     let mut limits = Limits::standard();
-    limits.line_bytes = line_bytes;
-    images_told(alloc, IMAGES, 65_536, &limits)
+    limits.line_bytes = 8;
+    limits
+}
+
+fn lines_of_thirteen() -> Limits {
+    let mut limits = Limits::standard();
+    limits.line_bytes = 13;
+    limits
+}
+
+/// What the images are read as within such limits.
+fn told_within(alloc: Global, limits: &Limits) -> Result<String, Fail> {
+    images_told(alloc, IMAGES, 65_536, limits)
 }
 
 #[test]
 fn long_lines(rt: HostRuntime) -> Result<(), Fail> {
     assert_eq!(rt;
-        told_within(rt.alloc(), 8)?.as_str(),
+        told_within(rt.alloc(), &lines_of_eight())?.as_str(),
         "1 too long 2 too long 3 too long 4 too long 5 too long end"
     );
     assert_eq!(rt;
-        told_within(rt.alloc(), 13)?.as_str(),
+        told_within(rt.alloc(), &lines_of_thirteen())?.as_str(),
         "1 too long 2:2:1: 25 EventJson 3 too long 4 too long 5=x end"
     );
     Ok(())
