@@ -27,11 +27,12 @@ fn no_memory() -> io::Error {
     io::Error::from(io::ErrorKind::OutOfMemory)
 }
 
+/// The number that a word is, if it's one.
 fn number(word: Option<String>) -> Option<usize> {
     word?.as_str().parse::<usize>().ok()
 }
 
-/// The same of numbers below 2^32.
+/// The number below 2^32 that a word is, if it's one.
 fn small_number(word: Option<String>) -> Option<u32> {
     word?.as_str().parse::<u32>().ok()
 }
