@@ -41,7 +41,8 @@ fn within_a_minute(alloc: Global, kind: CorrelationKind, rules: u32) -> Result<B
     })
 }
 
-fn engine(alloc: Global, bound: Bound) -> Result<Engine, Fail>
+/// The engine of one correlation.
+pub fn engine(alloc: Global, bound: Bound) -> Result<Engine, Fail>
     requires { IsWithinLimits bound }
 {
     let mut bounds = Vec::new(alloc);

@@ -3,43 +3,51 @@
 use event_lines::LineReader;
 use event_reading::{read_event, read_schema};
 use event_schema::{Event, Schema, Value};
-use sig_base::{Bytes, Fault, Limits, LineStep, MemorySource};
+use sig_base::{Bytes, Fault, Limits, LineFault, LineStep, MemorySource};
 use std::alloc::Global;
 use std::test::Fail;
 
-/// Adds the number of a line, and the value of its one field or the code for which it's refused.
-fn push_event(
-    alloc: Global,
-    all: &mut String,
-    number: u32,
-    read: Result<Event, Fault>,
-) -> Result<(), Fail> {
-    all.push_str(format!(in alloc; "{number}")?.as_str())?;
+fn value_shown(alloc: Global, number: u32, value: &Value) -> Result<String, Fail> {
+    let text = value.text(alloc)?;
+    let text = text.as_str();
+    Ok(format!(in alloc; "{number}={text} ")?)
+}
+
+/// The number of a line, and the value of its one field or the code for which it's refused.
+fn event_shown(alloc: Global, number: u32, read: &Result<Event, Fault>) -> Result<String, Fail> {
     match read {
         Ok(event) => match event.get(0) {
-            Some(value) => all.push_str(format!(in alloc;
-                "={} ",
-                value.text(alloc)?.as_str()
-            )?.as_str())?,
-            None => all.push_str("= ")?,
+            Some(value) => value_shown(alloc, number, value),
+            None => Ok(format!(in alloc; "{number}= ")?),
         },
-        Err(fault) => {
-            let Fault::Refused(refusal) = &fault else {
-                return Err(Fail::from(fault));
-            };
-            let place = refusal.place;
-            let code = refusal.code;
-            all.push_str(format!(in alloc;
-                ":{}:{}: {} {} ",
-                place.line,
-                place.column,
-                code.number(),
-                code.name()
-            )?
-            .as_str())?;
+        Err(Fault::Memory) => Ok(format!(in alloc; "{number} memory ")?),
+        Err(Fault::Refused(refusal)) => {
+            let line = refusal.place.line;
+            let column = refusal.place.column;
+            let code = refusal.code.number();
+            let name = refusal.code.name();
+            Ok(format!(in alloc; "{number}:{line}:{column}: {code} {name} ")?)
         }
     }
-    Ok(())
+}
+
+/// What a step along an input is read as.
+fn step_shown(
+    alloc: Global,
+    schema: &Schema,
+    step: &Result<LineStep, LineFault>,
+) -> Result<String, Fail> {
+    match step {
+        Ok(LineStep::Line { number, bytes }) => event_shown(
+            alloc,
+            *number,
+            &read_event(alloc, schema, *number, bytes.as_slice()),
+        ),
+        Ok(LineStep::TooLong { number }) => Ok(format!(in alloc; "{number} too long ")?),
+        Ok(LineStep::TooMuch { number }) => Ok(format!(in alloc; "{number} too much ")?),
+        Ok(LineStep::End) => Ok(String::from_str(alloc, "end")?),
+        Err(_) => Ok(String::from_str(alloc, "fault ")?),
+    }
 }
 
 /// What the lines of an input are read as, which a source gives in pieces of so many bytes at most.
@@ -55,24 +63,10 @@ fn told(
     let mut reader = LineReader::new(alloc, limits)?;
     let mut all = String::new(alloc);
     for _turn in 0..12 {
-        match reader.next_line(&mut source) {
-            Ok(LineStep::Line { number, bytes }) => push_event(
-                alloc,
-                &mut all,
-                number,
-                read_event(alloc, schema, number, bytes.as_slice()),
-            )?,
-            Ok(LineStep::TooLong { number }) => {
-                all.push_str(format!(in alloc; "{number} too long ")?.as_str())?;
-            }
-            Ok(LineStep::TooMuch { number }) => {
-                all.push_str(format!(in alloc; "{number} too much ")?.as_str())?;
-            }
-            Ok(LineStep::End) => {
-                all.push_str("end")?;
-                return Ok(all);
-            }
-            Err(_) => all.push_str("fault ")?,
+        let step = step_shown(alloc, schema, &reader.next_line(&mut source))?;
+        all.push_str(step.as_str())?;
+        if step.as_str() == "end" {
+            return Ok(all);
         }
     }
     Ok(all)

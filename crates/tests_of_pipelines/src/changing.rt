@@ -259,20 +259,27 @@ fn growth_is_refused(rt: HostRuntime) -> Result<(), Fail> {
     Ok(())
 }
 
-/// The log source of the rule that a step makes, its parts with `/` between.
-fn source_shown(alloc: Global, step_text: &str) -> Result<Text, Fail> {
-    let step = step(alloc, step_text)?;
-    let mut shown = Text::new(alloc);
-    if let Ok(made) = change(alloc, &Limits::standard(), &step, rule(alloc, "a:#1@0")?) {
-        if let Some(category) = &made.source.category {
-            shown.push_str(category.as_str())?;
-        }
-        shown.push_str("/")?;
-        if let Some(product) = &made.source.product {
-            shown.push_str(product.as_str())?;
-        }
+fn part_of(part: &Option<Text>) -> &str {
+    match part {
+        Some(text) => text.as_str(),
+        None => "",
     }
-    Ok(shown)
+}
+
+/// A log source's category and product with `/` between.
+fn show_source(alloc: Global, source: &LogSource) -> Result<String, Fail> {
+    let category = part_of(&source.category);
+    let product = part_of(&source.product);
+    Ok(format!(in alloc; "{category}/{product}")?)
+}
+
+/// The log source of the rule that a step makes.
+fn source_shown(alloc: Global, step_text: &str) -> Result<String, Fail> {
+    let step = step(alloc, step_text)?;
+    match change(alloc, &Limits::standard(), &step, rule(alloc, "a:#1@0")?) {
+        Ok(rule) => show_source(alloc, &rule.source),
+        Err(_) => Ok(String::from_str(alloc, "no rule")?),
+    }
 }
 
 #[test]

@@ -2,6 +2,7 @@
 
 use crate::asking::{answer, text};
 use crate::small::Small;
+use crate::tables::with_controls;
 use event_schema::FieldValues;
 use languages::{BuildFault, CrateBuilder, Search};
 use sig_base::Text;
@@ -98,15 +99,16 @@ fn is_found(alloc: Global, text: &str, value: &str) -> Result<bool, Fail> {
     }
 }
 
-/// The first row, `whether it's found~a regular expression~a value`, that is answered otherwise; `/` stands for a line feed.
-fn wrong_search(alloc: Global, table: &str) -> Result<String, Fail> {
+/// The first row, `whether it's found~a regular expression~a value`, that is answered otherwise; the value is written with pictures.
+fn wrong_search(alloc: Global, table: &'static str) -> Result<String, Fail> {
     for row in table.lines() {
-        let mut parts = row.split('~');
-        let (Some(want), Some(text), Some(value)) = (parts.next(), parts.next(), parts.next())
-        else {
+        let Some((want, rest)) = row.split_once('~') else {
             return Ok(format!(in alloc; "no row: {row}")?);
         };
-        let value = value.replace(alloc, "/", "\n")?;
+        let Some((text, value)) = rest.split_once('~') else {
+            return Ok(format!(in alloc; "no row: {row}")?);
+        };
+        let value = with_controls(alloc, value)?;
         let found = is_found(alloc, text, value.as_str())?;
         if want != (if found { "yes" } else { "no" }) {
             return Ok(String::from_str(alloc, row)?);
@@ -118,8 +120,8 @@ fn wrong_search(alloc: Global, table: &str) -> Result<String, Fail> {
 const SEARCHES: &str = "yes~a+b~xaab
 no~a+b~xa b
 yes~^a$~a
-no~^a$~a/
-no~a.c~a/c
+no~^a$~a␊
+no~a.c~a␊c
 yes~~
 yes~(?i)É~né
 no~[^a]~";

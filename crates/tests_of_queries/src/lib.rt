@@ -1,4 +1,4 @@
-//! Tests of queries: of Lucene's, of readers and builders of both languages, of a rule's, and of what they're compared with.
+//! Tests of queries: of SQL and of Lucene's, of readers and builders of both languages, of a rule's, and of what they're compared with.
 #![tactic(auto)]
 
 #[cfg(test)]
@@ -19,5 +19,11 @@ mod seeds;
 mod selecting;
 #[cfg(test)]
 mod small;
+#[cfg(test)]
+mod sql;
+#[cfg(test)]
+mod tables;
+#[cfg(test)]
+mod trees;
 #[cfg(test)]
 mod wanting;

@@ -3,6 +3,4 @@
 mod reading;
 mod scanning;
 mod selecting;
-mod tables;
-mod trees;
 mod writing;

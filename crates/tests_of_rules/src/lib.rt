@@ -1,4 +1,5 @@
-//! Tests of reading rules, of building their regular expressions, and of the schemas that they fit.
+//! Tests of files of YAML, of reading rules, of what modifiers make of values, of building regular expressions, and of the schemas that rules
+//! fit.
 #![tactic(auto)]
 
 #[cfg(test)]
@@ -13,3 +14,7 @@ mod rules;
 mod schemas;
 #[cfg(test)]
 mod tables;
+#[cfg(test)]
+mod values;
+#[cfg(test)]
+mod yaml;

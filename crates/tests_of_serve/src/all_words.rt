@@ -161,6 +161,20 @@ fn add(all: &mut String, before: &str, word: Option<&str>) -> Result<(), Fail> {
     Ok(())
 }
 
+/// What a command asks for with the words behind it.
+fn add_line(all: &mut String, command: &str, line: &Line<'_>) -> Result<(), Fail> {
+    all.push_str(command)?;
+    add(all, " for ", line.backend)?;
+    add(all, " under ", line.schema)?;
+    add(all, " by ", line.pipeline)?;
+    add(all, " from ", line.seed)?;
+    add(all, " so many ", line.events)?;
+    for file in line.files.as_slice() {
+        add(all, ", ", Some(*file))?;
+    }
+    Ok(())
+}
+
 /// What the words ask for, read from left to right; no text where they ask for nothing.
 fn read_apart(alloc: Global, words: &[&str]) -> Result<String, Fail> {
     let mut all = String::new(alloc);
@@ -171,17 +185,8 @@ fn read_apart(alloc: Global, words: &[&str]) -> Result<String, Fail> {
     for word in others {
         line.read(*word)?;
     }
-    if !line.is_of(*command) {
-        return Ok(all);
-    }
-    all.push_str(*command)?;
-    add(&mut all, " for ", line.backend)?;
-    add(&mut all, " under ", line.schema)?;
-    add(&mut all, " by ", line.pipeline)?;
-    add(&mut all, " from ", line.seed)?;
-    add(&mut all, " so many ", line.events)?;
-    for file in line.files.as_slice() {
-        add(&mut all, ", ", Some(*file))?;
+    if line.is_of(*command) {
+        add_line(&mut all, *command, &line)?;
     }
     Ok(all)
 }
@@ -216,17 +221,12 @@ fn decimal(number: u32) -> &'static str {
     }
 }
 
-/// What the words ask for, as the program reads them.
-fn read_whole(alloc: Global, words: &[&str]) -> Result<String, Fail> {
-    let mut all = String::new(alloc);
-    let words = words_of(alloc, words)?;
-    let Some(request) = read_words(alloc, words.as_slice())? else {
-        return Ok(all);
-    };
+/// What a request asks for.
+fn add_request(all: &mut String, request: &Request) -> Result<(), Fail> {
     match request {
         Request::Check { rules } => {
             all.push_str("check")?;
-            add_files(&mut all, rules.as_slice())?;
+            add_files(all, rules.as_slice())
         }
         Request::Convert {
             backend,
@@ -234,11 +234,10 @@ fn read_whole(alloc: Global, words: &[&str]) -> Result<String, Fail> {
             pipelines,
             rules,
         } => {
-            all.push_str("convert for ")?;
-            all.push_str(backend_word(backend))?;
-            add_text(&mut all, " under ", &schema)?;
-            add_text(&mut all, " by ", &pipelines)?;
-            add_files(&mut all, rules.as_slice())?;
+            add(all, "convert for ", Some(backend_word(*backend)))?;
+            add_text(all, " under ", schema)?;
+            add_text(all, " by ", pipelines)?;
+            add_files(all, rules.as_slice())
         }
         Request::Run {
             schema,
@@ -246,34 +245,41 @@ fn read_whole(alloc: Global, words: &[&str]) -> Result<String, Fail> {
             rule,
         } => {
             all.push_str("run")?;
-            add_text(&mut all, " under ", &schema)?;
-            add_text(&mut all, " by ", &pipelines)?;
-            add(&mut all, ", ", Some(rule.as_str()))?;
+            add_text(all, " under ", schema)?;
+            add_text(all, " by ", pipelines)?;
+            add(all, ", ", Some(rule.as_str()))
         }
         Request::Query {
             backend,
             schema,
             query,
         } => {
-            all.push_str("query for ")?;
-            all.push_str(backend_word(backend))?;
-            add(&mut all, " under ", Some(schema.as_str()))?;
-            add(&mut all, ", ", Some(query.as_str()))?;
+            add(all, "query for ", Some(backend_word(*backend)))?;
+            add(all, " under ", Some(schema.as_str()))?;
+            add(all, ", ", Some(query.as_str()))
         }
         Request::Correlate {
             schema,
             pipelines,
             rules,
         } => {
-            all.push_str("correlate under ")?;
-            all.push_str(schema.as_str())?;
-            add_text(&mut all, " by ", &pipelines)?;
-            add_files(&mut all, rules.as_slice())?;
+            add(all, "correlate under ", Some(schema.as_str()))?;
+            add_text(all, " by ", pipelines)?;
+            add_files(all, rules.as_slice())
         }
         Request::Generate { seed, events } => {
-            add(&mut all, "generate from ", Some(decimal(seed)))?;
-            add(&mut all, " so many ", Some(decimal(events)))?;
+            add(all, "generate from ", Some(decimal(*seed)))?;
+            add(all, " so many ", Some(decimal(*events)))
         }
+    }
+}
+
+/// What the words ask for, as the program reads them; no text where they ask for nothing.
+fn read_whole(alloc: Global, words: &[&str]) -> Result<String, Fail> {
+    let mut all = String::new(alloc);
+    let words = words_of(alloc, words)?;
+    if let Some(request) = &read_words(alloc, words.as_slice())? {
+        add_request(&mut all, request)?;
     }
     Ok(all)
 }

@@ -1,6 +1,6 @@
 //! The reader, by hand.
 
-use super::tables::with_blanks;
+use crate::tables::with_controls;
 use event_schema::{Field, FieldKind, FieldList, Schema};
 use lucene_lang::{Atom, Clause, Glyph, Group, Sought, Word};
 use lucene_read::read_query;
@@ -187,7 +187,7 @@ fn wrong_row(
         let Some((want, text)) = row.split_once('~') else {
             return Ok(format!(in alloc; "no row: {row}")?);
         };
-        let text = with_blanks(alloc, text)?;
+        let text = with_controls(alloc, text)?;
         let text = repeated(alloc, text.as_str(), count)?;
         if told(alloc, depth, text.as_str().as_bytes())?.as_str() != want {
             return Ok(String::from_str(alloc, row)?);

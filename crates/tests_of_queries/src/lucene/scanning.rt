@@ -1,6 +1,6 @@
 //! The scanner, by hand.
 
-use super::tables::with_blanks;
+use crate::tables::with_controls;
 use lucene_lang::{Word, Written};
 use lucene_scan::{Sort, Tokens, first_outside, opens_too_far, scan};
 use sig_base::Text;
@@ -123,7 +123,7 @@ fn wrong_row(alloc: Global, what: &str, table: &'static str) -> Result<String, F
         let Some((want, text)) = row.split_once('~') else {
             return Ok(format!(in alloc; "no row: {row}")?);
         };
-        let text = with_blanks(alloc, text)?;
+        let text = with_controls(alloc, text)?;
         if answer(alloc, what, text.as_str())?.as_str() != want {
             return Ok(String::from_str(alloc, row)?);
         }

@@ -1,6 +1,6 @@
 //! Texts and refusals that are known by hand, of trees made by hand.
 
-use super::trees::{leaf, told, wrong_row};
+use crate::trees::{Writer, leaf, told, wrong_row};
 use backend_core::Tree;
 use sig_base::Limits;
 use std::alloc::Global;
@@ -71,10 +71,22 @@ a:1 OR (*:* AND NOT (*:* AND NOT b:2))~fits:4@9:1 fits:5:2 not not any";
 fn trees_are_written(rt: HostRuntime) -> Result<(), Fail> {
     let alloc = rt.alloc();
     let limits = Limits::standard();
-    assert_eq!(rt; wrong_row(alloc, FIELDS, &limits, LEAVES)?.as_str(), "");
-    assert_eq!(rt; wrong_row(alloc, FIELDS, &limits, LACKING)?.as_str(), "");
-    assert_eq!(rt; wrong_row(alloc, FIELDS, &limits, LISTS)?.as_str(), "");
-    assert_eq!(rt; wrong_row(alloc, FIELDS, &limits, NEGATIONS)?.as_str(), "");
+    assert_eq!(rt;
+        wrong_row(alloc, &Writer::Lucene, FIELDS, &limits, LEAVES)?.as_str(),
+        ""
+    );
+    assert_eq!(rt;
+        wrong_row(alloc, &Writer::Lucene, FIELDS, &limits, LACKING)?.as_str(),
+        ""
+    );
+    assert_eq!(rt;
+        wrong_row(alloc, &Writer::Lucene, FIELDS, &limits, LISTS)?.as_str(),
+        ""
+    );
+    assert_eq!(rt;
+        wrong_row(alloc, &Writer::Lucene, FIELDS, &limits, NEGATIONS)?.as_str(),
+        ""
+    );
     Ok(())
 }
 
@@ -90,7 +102,7 @@ fn of_two_thousand(alloc: Global, denied: bool) -> Result<String, Fail> {
     } else {
         any
     };
-    told(alloc, FIELDS, &Limits::standard(), &tree)
+    told(alloc, &Writer::Lucene, FIELDS, &Limits::standard(), &tree)
 }
 
 #[test]
@@ -138,11 +150,20 @@ const MANY: &str = "1:1 113 4 2~fits:4@9:1 fits:5:2 not not any";
 #[test]
 fn refusals_in_their_order(rt: HostRuntime) -> Result<(), Fail> {
     let alloc = rt.alloc();
-    assert_eq!(rt; wrong_row(alloc, FIELDS, &short(), LONG)?.as_str(), "");
+    assert_eq!(rt;
+        wrong_row(alloc, &Writer::Lucene, FIELDS, &short(), LONG)?.as_str(),
+        ""
+    );
     let few = short_of_few_clauses();
-    assert_eq!(rt; wrong_row(alloc, FIELDS, &few, MANY)?.as_str(), "");
+    assert_eq!(rt;
+        wrong_row(alloc, &Writer::Lucene, FIELDS, &few, MANY)?.as_str(),
+        ""
+    );
     let shallow = short_and_shallow();
-    assert_eq!(rt; wrong_row(alloc, FIELDS, &shallow, SHALLOW)?.as_str(), "");
+    assert_eq!(rt;
+        wrong_row(alloc, &Writer::Lucene, FIELDS, &shallow, SHALLOW)?.as_str(),
+        ""
+    );
     Ok(())
 }
 
@@ -157,7 +178,14 @@ const ENCODED_COMMAND: &str =
 fn a_rule_of_many_tests(rt: HostRuntime) -> Result<(), Fail> {
     let limits = Limits::standard();
     assert_eq!(rt;
-        wrong_row(rt.alloc(), PROCESS, &limits, ENCODED_COMMAND)?.as_str(),
+        wrong_row(
+            rt.alloc(),
+            &Writer::Lucene,
+            PROCESS,
+            &limits,
+            ENCODED_COMMAND
+        )?
+        .as_str(),
         ""
     );
     Ok(())

@@ -1,0 +1,6 @@
+use Rattle.std.proofs.Common.{refl, inr}
+use Rattle.answer_parts.specs.Parts.{no_share}
+use Rattle.tests_of_events.proofs.files.answering.PickLineCommand.each_line.Goals as goal
+
+pub returns : goal.returns
+returns c = λ number line. (no_share, inr (inr refl))

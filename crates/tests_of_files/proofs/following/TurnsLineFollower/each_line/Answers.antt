@@ -1,6 +1,0 @@
-use Rattle.std.proofs.Common.{refl, inr}
-use Rattle.answer_parts.specs.Parts.{no_share}
-use Rattle.tests_of_files.proofs.following.TurnsLineFollower.each_line.Goals as goal
-
-pub returns : goal.returns
-returns c = λ history number line. (no_share, history, inr (inr (refl, refl)))

@@ -1,0 +1,44 @@
+//! Queries on fields of whole numbers, and of what never holds, known by hand.
+
+use crate::trees::{Writer, within, wrong_row};
+use sig_base::Limits;
+use std::test::Fail;
+
+/// A text `Image` and the whole numbers `EventID` and `Code`.
+const FIELDS: &str = "Image:text EventID:whole Code:whole";
+
+const CONDITIONS: &str = r#""EventID" = 4624~=:1:4624
+"Code" = -7~=:2:-7
+"Code" = 0~=:2:0
+"Code" = -9223372036854775807~=:2:-9223372036854775807
+"EventID" LIKE '46%' ESCAPE '\'~fits:1:46*
+"EventID" GLOB '-?6*'~cased:1:-?6*
+NOT ("Code" IS NOT NULL AND "Code" = 5)~=:2:5 not
+NOT NOT "Code" = 5~=:2:5 not not
+0~never
+NOT 0~never not
+0 AND "Code" = 5~never =:2:5 all
+"Code" = 5 OR 0~=:2:5 never any
+NOT ("Image" IS NOT NULL AND "Image" = 'b' OR 0)~cased:0:b never any not"#;
+
+/// What is written or how deep it is where a depth of 1 is allowed.
+const DEPTHS: &str = r"0~never
+1:1 112 2 1~never not
+1:1 112 2 1~=:1:1
+1:1 112 4 1~=:1:1 not";
+
+#[test]
+fn numbers_and_never(rt: HostRuntime) -> Result<(), Fail> {
+    let alloc = rt.alloc();
+    let limits = Limits::standard();
+    assert_eq!(rt;
+        wrong_row(alloc, &Writer::Sql, FIELDS, &limits, CONDITIONS)?.as_str(),
+        ""
+    );
+    let shallow = within(1, 4_194_304);
+    assert_eq!(rt;
+        wrong_row(alloc, &Writer::Sql, FIELDS, &shallow, DEPTHS)?.as_str(),
+        ""
+    );
+    Ok(())
+}
