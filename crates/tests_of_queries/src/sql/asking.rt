@@ -51,14 +51,15 @@ fn places(alloc: Global, text: &str) -> Result<Vec<Place>, Fail> {
     Ok(places)
 }
 
-/// A refusal's code and its column, counted from the test; 0 where nothing is wrong.
+/// A refusal's code and its place, counted from the test; 0 where nothing is wrong.
 fn shown(alloc: Global, refusal: &Option<Refusal>) -> Result<String, Fail> {
     let Some(refusal) = refusal else {
         return Ok(String::from_str(alloc, "0")?);
     };
     let code = refusal.code.number();
+    let line = refusal.place.line;
     let column = refusal.place.column;
-    Ok(format!(in alloc; "{code} {column}")?)
+    Ok(format!(in alloc; "{code} {line}:{column}")?)
 }
 
 /// What is shown of the refusal of a condition's one test, whose tokens stand at these places, or `no test`.
@@ -112,47 +113,47 @@ fn names_and_kinds(rt: HostRuntime) -> Result<(), Fail> {
 0~1
 0~"Image" = 'a'
 0~"iMAGE" = 'a'
-122 1~"Images" = 'a'
-122 1~"Imag" = 1
-123 1~"Pid" = 'a'
-123 1~"PID" = 'a'
-123 1~"Image" = 1
-123 1~"Ip" = 1
+122 1:1~"Images" = 'a'
+122 1:1~"Imag" = 1
+123 1:1~"Pid" = 'a'
+123 1:1~"PID" = 'a'
+123 1:1~"Image" = 1
+123 1:1~"Ip" = 1
 0~"Pid" < 1
-123 1~"Image" < 'a'
-123 1~"Ip" >= 'a'
+123 1:1~"Image" < 'a'
+123 1:1~"Ip" >= 'a'
 0~"Image" <> 'a' COLLATE NOCASE
 0~"Image" COLLATE BINARY = 'a'
-123 1~"Pid" COLLATE NOCASE = 1
-123 1~"Pid" = 1 COLLATE BINARY
-123 1~"Image" = 1 COLLATE BINARY
+123 1:1~"Pid" COLLATE NOCASE = 1
+123 1:1~"Pid" = 1 COLLATE BINARY
+123 1:1~"Image" = 1 COLLATE BINARY
 0~"Image" = "Ip"
-123 1~"Image" = "Pid"
-123 1~"Pid" = "Ip"
+123 1:1~"Image" = "Pid"
+123 1:1~"Pid" = "Ip"
 0~"Pid" = "Pid"
 0~"Pid" >= "Pid"
-123 1~"Image" >= "Ip"
-123 1~"Pid" = "Pid" COLLATE NOCASE
-122 11~"Image" = "Nope"
-122 26~"Image" COLLATE NOCASE = "Nope"
-122 9~"Pid" < "Nope"
-123 1~"Image" < "Nope"
-122 1~"Nope" = "None"
+123 1:1~"Image" >= "Ip"
+123 1:1~"Pid" = "Pid" COLLATE NOCASE
+122 1:11~"Image" = "Nope"
+122 1:26~"Image" COLLATE NOCASE = "Nope"
+122 1:9~"Pid" < "Nope"
+123 1:1~"Image" < "Nope"
+122 1:1~"Nope" = "None"
 0~"Pid" IS NULL
-122 1~"Nope" IS NOT NULL
+122 1:1~"Nope" IS NOT NULL
 0~"Image" IN ('a', 'b')
-123 1~"Image" IN ('a', 1)
-123 1~"Image" IN (1, 'a')
-123 1~"Pid" IN (1, 'a', 2)
+123 1:1~"Image" IN ('a', 1)
+123 1:1~"Image" IN (1, 'a')
+123 1:1~"Pid" IN (1, 'a', 2)
 0~"Pid" NOT IN (1, -2)
-123 1~"Pid" COLLATE NOCASE IN (1)
+123 1:1~"Pid" COLLATE NOCASE IN (1)
 0~"Image" COLLATE NOCASE NOT IN ('a')
-122 1~"Nope" IN (1, 'a')
+122 1:1~"Nope" IN (1, 'a')
 0~"Pid" BETWEEN 1 AND 2
-123 1~"Image" BETWEEN 1 AND 2
-123 1~"Ip" NOT BETWEEN 1 AND 2
-123 1~"Pid" COLLATE BINARY BETWEEN 1 AND 2
-122 1~"Nope" BETWEEN 1 AND 2"#;
+123 1:1~"Image" BETWEEN 1 AND 2
+123 1:1~"Ip" NOT BETWEEN 1 AND 2
+123 1:1~"Pid" COLLATE BINARY BETWEEN 1 AND 2
+122 1:1~"Nope" BETWEEN 1 AND 2"#;
     assert_eq!(rt; wrong_row(alloc, table)?.as_str(), "");
     Ok(())
 }
@@ -161,62 +162,47 @@ fn names_and_kinds(rt: HostRuntime) -> Result<(), Fail> {
 fn patterns(rt: HostRuntime) -> Result<(), Fail> {
     let alloc = rt.alloc();
     let table = r#"0~"Pid" LIKE 'a%'
-122 1~"Nope" LIKE 'a%'
+122 1:1~"Nope" LIKE 'a%'
 0~"Image" LIKE 'a\'
 0~"Image" LIKE 'a\%\_' ESCAPE '\'
-125 14~"Image" LIKE 'a\b' ESCAPE '\'
-125 14~"Image" LIKE 'a\' ESCAPE '\'
+125 1:14~"Image" LIKE 'a\b' ESCAPE '\'
+125 1:14~"Image" LIKE 'a\' ESCAPE '\'
 0~"Image" LIKE 'a\\' ESCAPE '\'
-125 14~"Image" LIKE '\\\' ESCAPE '\'
+125 1:14~"Image" LIKE '\\\' ESCAPE '\'
 0~"Image" LIKE '%%' ESCAPE '%'
-125 14~"Image" LIKE '%a' ESCAPE '%'
-125 25~"Image" LIKE 'a' ESCAPE '\\'
-125 27~"Image" LIKE 'a\b' ESCAPE ''
-125 18~"Image" NOT LIKE 'a\b' ESCAPE '\'
-125 29~"Image" NOT LIKE 'a' ESCAPE 'xy'
-122 1~"Nope" LIKE 'a\b' ESCAPE '\'
+125 1:14~"Image" LIKE '%a' ESCAPE '%'
+125 1:25~"Image" LIKE 'a' ESCAPE '\\'
+125 1:27~"Image" LIKE 'a\b' ESCAPE ''
+125 1:18~"Image" NOT LIKE 'a\b' ESCAPE '\'
+125 1:29~"Image" NOT LIKE 'a' ESCAPE 'xy'
+122 1:1~"Nope" LIKE 'a\b' ESCAPE '\'
 0~"Image" GLOB 'a[*]b[?]c[[]*?'
 0~"Image" GLOB 'a]'
-125 14~"Image" GLOB 'a['
-125 14~"Image" GLOB 'a[*'
-125 14~"Image" GLOB '[]'
-125 14~"Image" GLOB '[a]'
-125 14~"Image" GLOB '[*b'
-125 14~"Image" GLOB '[*]['
-125 18~"Image" NOT GLOB '['
-122 1~"Nope" GLOB '['
+125 1:14~"Image" GLOB 'a['
+125 1:14~"Image" GLOB 'a[*'
+125 1:14~"Image" GLOB '[]'
+125 1:14~"Image" GLOB '[a]'
+125 1:14~"Image" GLOB '[*b'
+125 1:14~"Image" GLOB '[*]['
+125 1:18~"Image" NOT GLOB '['
+122 1:1~"Nope" GLOB '['
 0~"Image" REGEXP '('
-122 1~"Nope" REGEXP '('"#;
+122 1:1~"Nope" REGEXP '('"#;
     assert_eq!(rt; wrong_row(alloc, table)?.as_str(), "");
     Ok(())
 }
 
-/// Where the one test of a condition is refused, when no places are known.
-fn place_without_places(columns: &Columns<'_>, condition: &Option<Ors>) -> Option<Place> {
-    let Some(condition) = condition else {
-        return None;
-    };
-    let Some(leaf) = leaf(condition) else {
-        return None;
-    };
-    match judge(columns, leaf, &[]) {
-        Some(refusal) => Some(refusal.place),
-        None => None,
-    }
-}
-
-/// Where a comparison with a name that is no column's is refused.
-fn place_of_no_column(alloc: Global) -> Result<Option<Place>, Fail> {
+/// What is told of a comparison with a name that is no column's, when no places are known.
+fn told_without_places(alloc: Global) -> Result<String, Fail> {
     let fields = trees::fields(alloc, FIELDS)?;
     let columns = Columns::of(alloc, fields.as_slice())?;
     let compared = condition(alloc, "\"Image\" = \"Nope\"")?;
-    Ok(place_without_places(&columns, &compared))
+    told(alloc, &columns, &compared, &[])
 }
 
 #[test]
 fn short_places(rt: HostRuntime) -> Result<(), Fail> {
-    let place = place_of_no_column(rt.alloc())?;
-    assert_eq!(rt; place, Some(Place::START));
+    assert_eq!(rt; told_without_places(rt.alloc())?.as_str(), "122 1:1");
     Ok(())
 }
 
@@ -232,13 +218,17 @@ fn printed(alloc: Global, columns: &Columns<'_>, condition: &Option<Ors>) -> Res
     Ok(format!(in alloc; "{test:?}")?)
 }
 
+fn made(alloc: Global, columns: &Columns<'_>, text: &str) -> Result<String, Fail> {
+    printed(alloc, columns, &condition(alloc, text)?)
+}
+
 /// The first test of a table that is made into another one than the next row says.
 fn wrong_making(alloc: Global, columns: &Columns<'_>, table: &'static str) -> Result<String, Fail> {
     for row in table.lines() {
         let Some((test, want)) = row.split_once('~') else {
             return Ok(String::from_str(alloc, row)?);
         };
-        if printed(alloc, columns, &condition(alloc, test)?)?.as_str() != want {
+        if made(alloc, columns, test)?.as_str() != want {
             return Ok(String::from_str(alloc, row)?);
         }
     }
