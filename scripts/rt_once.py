@@ -4,11 +4,14 @@
     scripts/rt_once.py all check --jobs 4
     scripts/rt_once.py run -- convert --backend sqlite data/r.yml
 
-All is proved as by rt itself. Three things differ. Before the proofs rt reads the sources of all crates once, to tell mistakes
-early; here it doesn't. Each time that rt asks which crates stand below one it goes every way down to them, some hundred
-thousand ways, and for each sum of sources it reads all files below; here a crate's list is made once, and its sum again only where
-a file of theirs, or the toolchain's, was touched. And of the crates that rt works on side by side some only wait for others; here
-only those count that are proved, and the one with the longest chain of others above it goes first. Where rt lacks the parts that this exchanges, and for all other words, it's run as it is.
+All is proved as by rt itself. Four things differ. Before the proofs rt reads the sources of all crates once, to tell mistakes
+early; here it doesn't. Of a library that is proved rt keeps the proofs and the work of its check, too, and the check of each crate
+above reads these proofs; here, as for `rt verdict`, only what the library states is kept, so that a crate that changed is proved
+anew as a whole. Each time that rt asks which crates stand below one it goes every way down to them, some hundred thousand ways, and
+for each sum of sources it reads all files below; here a crate's list is made once, and its sum again only where a file of theirs, or
+the toolchain's, was touched. And of the crates that rt works on side by side some only wait for others; here only those count that
+are proved, and the one with the longest chain of others above it goes first. Where rt lacks the parts that this exchanges, and for
+all other words, it's run as it is.
 """
 
 import contextlib
@@ -34,12 +37,13 @@ def loaded(path):
         module = importlib.util.module_from_spec(importlib.util.spec_from_loader(loader.name, loader))
         loader.exec_module(module)
         crate = module.rtlib.Crate
-        for part in (module.main, module.share_work, module.rtlib.files_of, module.rtlib.crates_below, crate.stamp, crate.below, crate.front_end, crate.is_built):
+        for part in (module.main, module.share_work, module.rtlib.files_of, module.rtlib.crates_below, module.rtlib.help_of, crate.stamp, crate.below, crate.front_end, crate.is_built):
             inspect.signature(part).bind(None)
         inspect.signature(crate.build_rlib).bind(None, [], anew=False)
         inspect.signature(crate.check).bind(None, [])
         # a run of `all check` shares work, and builds and checks by these two
-        for part, called in ((module.main, "share_work"), (module.rtlib.every, "build_rlib"), (module.rtlib.every, "check")):
+        uses = ((module.main, "share_work"), (module.rtlib.every, "build_rlib"), (module.rtlib.every, "check"), (crate.build_rlib, "libraries_keep"))
+        for part, called in uses:
             if called not in names_in(part.__code__):
                 return None
         module.STAMPS.seen = None
@@ -106,6 +110,15 @@ def chains(rtlib, crates):
     return found
 
 
+def statements_alone(rtlib):
+    """Has rt keep of a proved library what it states alone, and gives the words for that; none where the toolchain can't."""
+    if "--statements" not in rtlib.help_of("build"):
+        return []
+    # the toolchain doesn't take these words beside those for the work of a check, which programs alone keep then
+    rtlib.libraries_keep = lambda: False
+    return ["--statements"]
+
+
 class Lanes:
     """How many crates are proved at once, and which is next: that with the longest chain of those that are ready. A place that
     a crate gives back is free a while later, when those that became ready by it wait too."""
@@ -162,12 +175,13 @@ class Lanes:
 
     def building(self, build):
         """rt's way to build a library, which waits for its turn where it isn't built yet."""
+        alone = statements_alone(self.rtlib)
 
         def ask(crate, flags, anew):
             if not anew and crate.is_built():
                 return build(crate, flags, anew)
             with self.place_of(crate):
-                return build(crate, flags, anew)
+                return build(crate, [*flags, *alone], anew)
 
         return ask
 
