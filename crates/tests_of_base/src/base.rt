@@ -1,5 +1,6 @@
 //! What no clause says: that the calls succeed, and that the fakes do what a reader of them expects.
 
+use crate::tables::assert_told;
 use sig_base::{
     Bytes, Code, Limits, MemoryShelf, MemorySink, MemorySource, Sequence, Shelf, ShelfFault, Sink,
     Source, Text, Texts, TryCopy, fold, put_all,
@@ -79,14 +80,14 @@ fn shown(alloc: Global, bytes: &[u8]) -> Result<String, Fail> {
 #[test]
 fn keeps_texts_bytes_and_codes(rt: HostRuntime) -> Result<(), Fail> {
     assert!(rt; is_pushed(rt.alloc())?);
-    assert_eq!(rt; grown_told(rt.alloc())?.as_str(), "true true false");
+    assert_told(&rt, grown_told(rt.alloc()), "true true false")?;
     assert_eq!(rt; texts_count(rt.alloc())?, 1);
-    assert_eq!(rt;
-        codes_told(rt.alloc())?.as_str(),
-        "TooLarge 114 QueryTooLong FmtTooLong 4194304"
-    );
-    assert_eq!(rt; folded(rt.alloc(), "AZ@[Ä")?.as_str(), "az@[Ä");
-    Ok(())
+    assert_told(
+        &rt,
+        codes_told(rt.alloc()),
+        "TooLarge 114 QueryTooLong FmtTooLong 4194304",
+    )?;
+    assert_told(&rt, folded(rt.alloc(), "AZ@[Ä"), "az@[Ä")
 }
 
 /// Bytes that were copied, taken out and added to.
@@ -115,10 +116,9 @@ fn text_bytes(alloc: Global) -> Result<String, Fail> {
 
 #[test]
 fn keeps_bytes(rt: HostRuntime) -> Result<(), Fail> {
-    assert_eq!(rt; bytes_told(rt.alloc())?.as_str(), "ab 97;98;10;");
+    assert_told(&rt, bytes_told(rt.alloc()), "ab 97;98;10;")?;
     // 61, C3 BC, 21
-    assert_eq!(rt; text_bytes(rt.alloc())?.as_str(), "97;195;188;33;");
-    Ok(())
+    assert_told(&rt, text_bytes(rt.alloc()), "97;195;188;33;")
 }
 
 /// A list of two texts, the second empty, and an empty list.
@@ -180,11 +180,12 @@ fn texts_differ(alloc: Global) -> Result<bool, Fail> {
 
 #[test]
 fn copies_lists_and_compares_texts(rt: HostRuntime) -> Result<(), Fail> {
-    assert_eq!(rt; copy_told(rt.alloc())?.as_str(), "2: 2 0");
-    assert_eq!(rt;
-        texts_told(rt.alloc())?.as_str(),
-        "true false true;false true false;"
-    );
+    assert_told(&rt, copy_told(rt.alloc()), "2: 2 0")?;
+    assert_told(
+        &rt,
+        texts_told(rt.alloc()),
+        "true false true;false true false;",
+    )?;
     assert!(rt; texts_differ(rt.alloc())?);
     Ok(())
 }
@@ -256,8 +257,7 @@ fn sink_told(alloc: Global) -> Result<String, Fail> {
 
 #[test]
 fn fails_where_it_is_told_to(rt: HostRuntime) -> Result<(), Fail> {
-    assert_eq!(rt; shelf_told(rt.alloc())?.as_str(), "ab;failed;failed;abc;");
-    assert_eq!(rt; source_told(rt.alloc())?.as_str(), "failed;2;1;0;");
-    assert_eq!(rt; sink_told(rt.alloc())?.as_str(), "false false abc true");
-    Ok(())
+    assert_told(&rt, shelf_told(rt.alloc()), "ab;failed;failed;abc;")?;
+    assert_told(&rt, source_told(rt.alloc()), "failed;2;1;0;")?;
+    assert_told(&rt, sink_told(rt.alloc()), "false false abc true")
 }

@@ -1,6 +1,6 @@
 //! Conditions of rules, as users write them.
 
-use crate::tables::{Asked, answer, meant, number, truth, wrong_row};
+use crate::tables::{Asked, answer, assert_told, meant, number, truth, wrong_row};
 use sig_base::{Detail, Fault, Limits, Place, Refusal, Text, Texts};
 use sig_conditions::{Formula, Names, is_identifier, read_condition, resolve_condition};
 use std::alloc::{AllocError, Global};
@@ -164,8 +164,7 @@ const CONDITIONS: &str = "0~selection_a
 
 #[test]
 fn conditions_are_answered(rt: HostRuntime) -> Result<(), Fail> {
-    assert_eq!(rt; wrong_row(rt.alloc(), &Formulas, CONDITIONS)?.as_str(), "");
-    Ok(())
+    assert_told(&rt, wrong_row(rt.alloc(), &Formulas, CONDITIONS), "")
 }
 
 /// So many times a piece, and then an end.
@@ -220,8 +219,7 @@ formula~69905~selection_a or ~selection_b
 
 #[test]
 fn nested_and_long_conditions_are_answered(rt: HostRuntime) -> Result<(), Fail> {
-    assert_eq!(rt; wrong_row(rt.alloc(), &Repetitions, REPEATED)?.as_str(), "");
-    Ok(())
+    assert_told(&rt, wrong_row(rt.alloc(), &Repetitions, REPEATED), "")
 }
 
 /// Asks whether a name is an identifier.
@@ -247,11 +245,7 @@ no~";
 
 #[test]
 fn identifiers_are_no_keywords(rt: HostRuntime) -> Result<(), Fail> {
-    assert_eq!(rt;
-        wrong_row(rt.alloc(), &Identifiers, IDENTIFIERS)?.as_str(),
-        ""
-    );
-    Ok(())
+    assert_told(&rt, wrong_row(rt.alloc(), &Identifiers, IDENTIFIERS), "")
 }
 
 /// One name so many times, as a rule's names.
@@ -306,8 +300,7 @@ memory~1023~3";
 
 #[test]
 fn names_that_are_taken_are_bounded(rt: HostRuntime) -> Result<(), Fail> {
-    assert_eq!(rt; wrong_row(rt.alloc(), &Takes, TAKEN)?.as_str(), "");
-    Ok(())
+    assert_told(&rt, wrong_row(rt.alloc(), &Takes, TAKEN), "")
 }
 
 /// Asks of `length~times~end` whether a selector of so many letters, and then the end, has a formula so many times over a name
@@ -340,6 +333,5 @@ memory~32767~1~ or all of them";
 
 #[test]
 fn steps_of_comparing_are_bounded(rt: HostRuntime) -> Result<(), Fail> {
-    assert_eq!(rt; wrong_row(rt.alloc(), &Compares, COMPARED)?.as_str(), "");
-    Ok(())
+    assert_told(&rt, wrong_row(rt.alloc(), &Compares, COMPARED), "")
 }

@@ -1,6 +1,6 @@
 //! Choices of dashes that were written down by hand.
 
-use crate::tables::{Asked, answer, wrong_row};
+use crate::tables::{Asked, answer, assert_told, wrong_row};
 use dash_choices::{choice, dash_count};
 use sig_base::{Limits, Place};
 use sig_strings::{Part, Pattern, SharedPattern};
@@ -92,9 +92,11 @@ fn two_places(alloc: Global) -> Result<Pattern, Fail> {
 
 #[test]
 fn the_first_of_two_places_varies_slowest(rt: HostRuntime) -> Result<(), Fail> {
-    let wrong = wrong_choice(rt.alloc(), two_places(rt.alloc())?, TWO_PLACES)?;
-    assert_eq!(rt; wrong.as_str(), "");
-    Ok(())
+    assert_told(
+        &rt,
+        wrong_choice(rt.alloc(), two_places(rt.alloc())?, TWO_PLACES),
+        "",
+    )
 }
 
 const LAST_PLACE: &str = "1~places
@@ -116,9 +118,11 @@ fn last_place(alloc: Global) -> Result<Pattern, Fail> {
 
 #[test]
 fn a_place_at_the_end(rt: HostRuntime) -> Result<(), Fail> {
-    let wrong = wrong_choice(rt.alloc(), last_place(rt.alloc())?, LAST_PLACE)?;
-    assert_eq!(rt; wrong.as_str(), "");
-    Ok(())
+    assert_told(
+        &rt,
+        wrong_choice(rt.alloc(), last_place(rt.alloc())?, LAST_PLACE),
+        "",
+    )
 }
 
 const NO_PLACES: &str = r"0~places
@@ -127,9 +131,7 @@ a-b?\*~0
 
 #[test]
 fn without_places_there_is_one_choice(rt: HostRuntime) -> Result<(), Fail> {
-    let wrong = wrong_dashed(rt.alloc(), r"a-b?\*", NO_PLACES)?;
-    assert_eq!(rt; wrong.as_str(), "");
-    Ok(())
+    assert_told(&rt, wrong_dashed(rt.alloc(), r"a-b?\*", NO_PLACES), "")
 }
 
 const FOUR_PLACES: &str = "4~places
@@ -145,9 +147,11 @@ const FOUR_PLACES: &str = "4~places
 
 #[test]
 fn four_places_make_625_choices(rt: HostRuntime) -> Result<(), Fail> {
-    let wrong = wrong_dashed(rt.alloc(), "-a /b -c /d", FOUR_PLACES)?;
-    assert_eq!(rt; wrong.as_str(), "");
-    Ok(())
+    assert_told(
+        &rt,
+        wrong_dashed(rt.alloc(), "-a /b -c /d", FOUR_PLACES),
+        "",
+    )
 }
 
 const MANY_PLACES: &str = "30~places
@@ -163,7 +167,9 @@ fn many_places(alloc: Global) -> Result<Pattern, Fail> {
 
 #[test]
 fn more_places_than_numbers_have_digits(rt: HostRuntime) -> Result<(), Fail> {
-    let wrong = wrong_choice(rt.alloc(), many_places(rt.alloc())?, MANY_PLACES)?;
-    assert_eq!(rt; wrong.as_str(), "");
-    Ok(())
+    assert_told(
+        &rt,
+        wrong_choice(rt.alloc(), many_places(rt.alloc())?, MANY_PLACES),
+        "",
+    )
 }

@@ -1,6 +1,6 @@
 //! Pieces, texts and networks known from elsewhere.
 
-use crate::tables::{Asked, answer, truth, wrong_row};
+use crate::tables::{Asked, answer, assert_told, truth, wrong_row};
 use sig_base::{Fault, Place, Refusal};
 use sig_encode::{Form, Network, base64_text, offset_pieces, utf16_bytes};
 use sig_strings::Pattern;
@@ -55,20 +55,20 @@ fn wide_base64(alloc: Global) -> Result<String, Fail> {
 #[test]
 fn texts_are_encoded(rt: HostRuntime) -> Result<(), Fail> {
     let alloc = rt.alloc();
-    assert_eq!(rt; wrong_row(alloc, &Base64, BASE64)?.as_str(), "");
-    assert_eq!(rt; wide_base64(alloc)?.as_str(), "YwBtAGQA");
+    assert_told(&rt, wrong_row(alloc, &Base64, BASE64), "")?;
+    assert_told(&rt, wide_base64(alloc), "YwBtAGQA")?;
     // FF FE, 3D D8, 00 DE
     let marked = Wide { form: Form::Marked };
-    assert_eq!(rt;
-        marked.told(alloc, "\u{1F600}")?.as_str(),
-        " 255 254 61 216 0 222"
-    );
+    assert_told(
+        &rt,
+        marked.told(alloc, "\u{1F600}"),
+        " 255 254 61 216 0 222",
+    )?;
     // 00 63, 20 AC
     let big = Wide { form: Form::Be };
-    assert_eq!(rt; big.told(alloc, "c\u{20AC}")?.as_str(), " 0 99 32 172");
+    assert_told(&rt, big.told(alloc, "c\u{20AC}"), " 0 99 32 172")?;
     let little = Wide { form: Form::Le };
-    assert_eq!(rt; little.told(alloc, "")?.as_str(), "");
-    Ok(())
+    assert_told(&rt, little.told(alloc, ""), "")
 }
 
 /// Asks for the pieces of a text of two bytes or more.
@@ -96,8 +96,7 @@ YW;Fi;hY;~ab";
 
 #[test]
 fn pieces_of_a_path(rt: HostRuntime) -> Result<(), Fail> {
-    assert_eq!(rt; wrong_row(rt.alloc(), &Pieces, PIECES)?.as_str(), "");
-    Ok(())
+    assert_told(&rt, wrong_row(rt.alloc(), &Pieces, PIECES), "")
 }
 
 /// Adds a pattern behind a space.
@@ -196,7 +195,6 @@ no~192.169.01.2";
 #[test]
 fn networks_and_their_patterns(rt: HostRuntime) -> Result<(), Fail> {
     let alloc = rt.alloc();
-    assert_eq!(rt; wrong_row(alloc, &Networks, NETWORKS)?.as_str(), "");
-    assert_eq!(rt; wrong_address(alloc, HELD)?.as_str(), "");
-    Ok(())
+    assert_told(&rt, wrong_row(alloc, &Networks, NETWORKS), "")?;
+    assert_told(&rt, wrong_address(alloc, HELD), "")
 }

@@ -1,5 +1,6 @@
 //! Events and their values, by hand.
 
+use crate::tables::assert_told;
 use event_schema::{Event, Field, FieldKind, FieldList, FieldValues, Schema, Value, decimal};
 use sig_base::{Text, Texts};
 use std::alloc::Global;
@@ -95,21 +96,25 @@ fn values_told(alloc: Global) -> Result<String, Fail> {
 #[test]
 fn values_by_names_and_numbers(rt: HostRuntime) -> Result<(), Fail> {
     let alloc = rt.alloc();
-    assert_eq!(rt;
-        values_told(alloc)?.as_str(),
-        "0, a.exe, a.exe , a.exe \n1, -40, -40 7 0 , -40 7 0 \n2, none, , \nnone, \nnone"
-    );
+    assert_told(
+        &rt,
+        values_told(alloc),
+        "0, a.exe, a.exe , a.exe \n1, -40, -40 7 0 , -40 7 0 \n2, none, , \nnone, \nnone",
+    )?;
     assert_eq!(rt; event(alloc)?.copy(alloc)?.moment(), Some(-5));
     Ok(())
+}
+
+fn decimal_told(alloc: Global, number: i64) -> Result<String, Fail> {
+    Ok(String::from_str(alloc, decimal(alloc, number)?.as_str())?)
 }
 
 #[test]
 fn decimals(rt: HostRuntime) -> Result<(), Fail> {
     let alloc = rt.alloc();
-    assert_eq!(rt; decimal(alloc, 0)?.as_str(), "0");
-    assert_eq!(rt; decimal(alloc, 7)?.as_str(), "7");
-    assert_eq!(rt; decimal(alloc, -10)?.as_str(), "-10");
-    assert_eq!(rt; decimal(alloc, i64::MIN)?.as_str(), "-9223372036854775808");
-    assert_eq!(rt; decimal(alloc, i64::MAX)?.as_str(), "9223372036854775807");
-    Ok(())
+    assert_told(&rt, decimal_told(alloc, 0), "0")?;
+    assert_told(&rt, decimal_told(alloc, 7), "7")?;
+    assert_told(&rt, decimal_told(alloc, -10), "-10")?;
+    assert_told(&rt, decimal_told(alloc, i64::MIN), "-9223372036854775808")?;
+    assert_told(&rt, decimal_told(alloc, i64::MAX), "9223372036854775807")
 }

@@ -1,6 +1,6 @@
 //! First numbers of texts, by hand.
 
-use crate::tables::{Asked, answer, wrong_row};
+use crate::tables::{Asked, answer, assert_told, wrong_row};
 use sig_base::{Text, Texts};
 use std::alloc::Global;
 use std::test::Fail;
@@ -42,8 +42,7 @@ none~ab";
 
 #[test]
 fn first_numbers_are_found(rt: HostRuntime) -> Result<(), Fail> {
-    assert_eq!(rt; wrong_number(rt.alloc(), "b a  é a", FEW)?.as_str(), "");
-    Ok(())
+    assert_told(&rt, wrong_number(rt.alloc(), "b a  é a", FEW), "")
 }
 
 const MANY: &str = "0~q
@@ -58,6 +57,5 @@ none~ü";
 #[test]
 fn first_numbers_of_many_are_found(rt: HostRuntime) -> Result<(), Fail> {
     let words = "q w e r t y u i o p a s d f g h w é";
-    assert_eq!(rt; wrong_number(rt.alloc(), words, MANY)?.as_str(), "");
-    Ok(())
+    assert_told(&rt, wrong_number(rt.alloc(), words, MANY), "")
 }

@@ -1,6 +1,6 @@
 //! Lines of small sources.
 
-use crate::tables::{Asked, answer, meant, number, wrong_row};
+use crate::tables::{Asked, answer, assert_told, meant, number, wrong_row};
 use event_lines::LineReader;
 use sig_base::{Bytes, Limits, LineFault, LineStep, MemorySource};
 use std::alloc::Global;
@@ -151,23 +151,26 @@ const FAILING_ONE_PIECE: &str = "read end~8 100 1~ab␊cd␊ef␊
 #[test]
 fn each_call_fails_once(rt: HostRuntime) -> Result<(), Fail> {
     let alloc = rt.alloc();
-    assert_eq!(rt;
-        wrong_row(alloc, &Pieces { most: 1 }, FAILING_ONE_BYTE)?.as_str(),
-        ""
-    );
-    assert_eq!(rt;
-        wrong_row(alloc, &Pieces { most: 2 }, FAILING_TWO_BYTES)?.as_str(),
-        ""
-    );
-    assert_eq!(rt;
-        wrong_row(alloc, &Pieces { most: 3 }, FAILING_THREE_BYTES)?.as_str(),
-        ""
-    );
-    assert_eq!(rt;
-        wrong_row(alloc, &Pieces { most: 65_536 }, FAILING_ONE_PIECE)?.as_str(),
-        ""
-    );
-    Ok(())
+    assert_told(
+        &rt,
+        wrong_row(alloc, &Pieces { most: 1 }, FAILING_ONE_BYTE),
+        "",
+    )?;
+    assert_told(
+        &rt,
+        wrong_row(alloc, &Pieces { most: 2 }, FAILING_TWO_BYTES),
+        "",
+    )?;
+    assert_told(
+        &rt,
+        wrong_row(alloc, &Pieces { most: 3 }, FAILING_THREE_BYTES),
+        "",
+    )?;
+    assert_told(
+        &rt,
+        wrong_row(alloc, &Pieces { most: 65_536 }, FAILING_ONE_PIECE),
+        "",
+    )
 }
 
 const TOO_MUCH: &str = "1:2 2:2 3:much end~8 7 3~ab␊cd␊ef␊
@@ -175,9 +178,11 @@ const TOO_MUCH: &str = "1:2 2:2 3:much end~8 7 3~ab␊cd␊ef␊
 
 #[test]
 fn too_much_before_a_failure(rt: HostRuntime) -> Result<(), Fail> {
-    let wrong = wrong_row(rt.alloc(), &Pieces { most: 4 }, TOO_MUCH)?;
-    assert_eq!(rt; wrong.as_str(), "");
-    Ok(())
+    assert_told(
+        &rt,
+        wrong_row(rt.alloc(), &Pieces { most: 4 }, TOO_MUCH),
+        "",
+    )
 }
 
 /// A line of 65,536 bytes, one of 131,074 and one of a single byte.
@@ -199,10 +204,7 @@ fn long_told(alloc: Global, most: usize) -> Result<String, Fail> {
 #[test]
 fn a_line_longer_than_a_piece(rt: HostRuntime) -> Result<(), Fail> {
     for most in [1_000, 65_536] {
-        assert_eq!(rt;
-            long_told(rt.alloc(), most)?.as_str(),
-            "1:65536 2:long 3:1 end"
-        );
+        assert_told(&rt, long_told(rt.alloc(), most), "1:65536 2:long 3:1 end")?;
     }
     Ok(())
 }

@@ -1,6 +1,6 @@
 //! Numbers of fields by hand.
 
-use crate::tables::{Asked, wrong_row};
+use crate::tables::{Asked, assert_told, wrong_row};
 use event_schema::{Field, FieldKind, FieldList};
 use field_numbers::FieldNumbers;
 use sig_base::{Text, Texts};
@@ -69,9 +69,8 @@ none 5~B";
 #[test]
 fn names_have_numbers(rt: HostRuntime) -> Result<(), Fail> {
     let among = Among { words: FEW };
-    assert_eq!(rt; wrong_row(rt.alloc(), &among, FEW_NUMBERS)?.as_str(), "");
-    assert_eq!(rt; searched(rt.alloc(), FEW)?.as_str(), "1;3;");
-    Ok(())
+    assert_told(&rt, wrong_row(rt.alloc(), &among, FEW_NUMBERS), "")?;
+    assert_told(&rt, searched(rt.alloc(), FEW), "1;3;")
 }
 
 const MANY: &str =
@@ -85,7 +84,6 @@ none 34~s1";
 #[test]
 fn more_than_a_few_are_indexed(rt: HostRuntime) -> Result<(), Fail> {
     let among = Among { words: MANY };
-    assert_eq!(rt; wrong_row(rt.alloc(), &among, MANY_NUMBERS)?.as_str(), "");
-    assert_eq!(rt; searched(rt.alloc(), MANY)?.as_str(), "33;");
-    Ok(())
+    assert_told(&rt, wrong_row(rt.alloc(), &among, MANY_NUMBERS), "")?;
+    assert_told(&rt, searched(rt.alloc(), MANY), "33;")
 }

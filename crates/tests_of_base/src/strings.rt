@@ -1,6 +1,6 @@
 //! Patterns that were written down by hand, and texts that they fit.
 
-use crate::tables::{Asked, answer, truth, wrong_row};
+use crate::tables::{Asked, answer, assert_told, truth, wrong_row};
 use sig_base::{Detail, Fault, Limits, Place, Text};
 use sig_strings::{HoleName, Part, Pattern, SharedPattern};
 use std::alloc::Global;
@@ -73,13 +73,9 @@ const EXPANDED_PARTS: &str = "'a{x}~a%x%
 #[test]
 fn texts_spell_patterns(rt: HostRuntime) -> Result<(), Fail> {
     let plain = Parts { expand: false };
-    assert_eq!(rt; wrong_row(rt.alloc(), &plain, PLAIN_PARTS)?.as_str(), "");
+    assert_told(&rt, wrong_row(rt.alloc(), &plain, PLAIN_PARTS), "")?;
     let expanded = Parts { expand: true };
-    assert_eq!(rt;
-        wrong_row(rt.alloc(), &expanded, EXPANDED_PARTS)?.as_str(),
-        ""
-    );
-    Ok(())
+    assert_told(&rt, wrong_row(rt.alloc(), &expanded, EXPANDED_PARTS), "")
 }
 
 /// Asks of `pattern~text` whether the pattern fits the text.
@@ -121,18 +117,17 @@ fn patterns_fit_texts(rt: HostRuntime) -> Result<(), Fail> {
         expand: false,
         cased: true,
     };
-    assert_eq!(rt; wrong_row(rt.alloc(), &cased, CASED)?.as_str(), "");
+    assert_told(&rt, wrong_row(rt.alloc(), &cased, CASED), "")?;
     let uncased = Fits {
         expand: false,
         cased: false,
     };
-    assert_eq!(rt; wrong_row(rt.alloc(), &uncased, UNCASED)?.as_str(), "");
+    assert_told(&rt, wrong_row(rt.alloc(), &uncased, UNCASED), "")?;
     let expanded = Fits {
         expand: true,
         cased: true,
     };
-    assert_eq!(rt; wrong_row(rt.alloc(), &expanded, EXPANDED)?.as_str(), "");
-    Ok(())
+    assert_told(&rt, wrong_row(rt.alloc(), &expanded, EXPANDED), "")
 }
 
 /// Asks for the number of a text's refusal where a value has at most two characters.
@@ -159,8 +154,7 @@ const LENGTHS: &str = "yes~éé
 
 #[test]
 fn long_texts_are_refused(rt: HostRuntime) -> Result<(), Fail> {
-    assert_eq!(rt; wrong_row(rt.alloc(), &Short, LENGTHS)?.as_str(), "");
-    Ok(())
+    assert_told(&rt, wrong_row(rt.alloc(), &Short, LENGTHS), "")
 }
 
 /// Asks for the parts of a text's pattern with dashes.
@@ -187,9 +181,8 @@ fn dash_told(alloc: Global) -> Result<String, Fail> {
 
 #[test]
 fn dashes_begin_words(rt: HostRuntime) -> Result<(), Fail> {
-    assert_eq!(rt; wrong_row(rt.alloc(), &Dashes, DASHES)?.as_str(), "");
-    assert_eq!(rt; dash_told(rt.alloc())?.as_str(), "true false false");
-    Ok(())
+    assert_told(&rt, wrong_row(rt.alloc(), &Dashes, DASHES), "")?;
+    assert_told(&rt, dash_told(rt.alloc()), "true false false")
 }
 
 /// How a pattern is written, if it can be.
@@ -272,18 +265,15 @@ fn around_told(alloc: Global) -> Result<String, Fail> {
 
 #[test]
 fn patterns_are_edited_and_written(rt: HostRuntime) -> Result<(), Fail> {
-    assert_eq!(rt; read_told(rt.alloc())?.as_str(), "false a*");
-    assert_eq!(rt; copy_written(rt.alloc())?.as_str(), r"a\**");
-    assert_eq!(rt;
-        shared_told(rt.alloc())?.as_str(),
-        "true false true false 2"
-    );
-    assert_eq!(rt; shared_plain(rt.alloc())?.as_str(), "true a*");
-    assert_eq!(rt;
-        around_told(rt.alloc())?.as_str(),
-        r"true true no plain text *a\**"
-    );
-    Ok(())
+    assert_told(&rt, read_told(rt.alloc()), "false a*")?;
+    assert_told(&rt, copy_written(rt.alloc()), r"a\**")?;
+    assert_told(&rt, shared_told(rt.alloc()), "true false true false 2")?;
+    assert_told(&rt, shared_plain(rt.alloc()), "true a*")?;
+    assert_told(
+        &rt,
+        around_told(rt.alloc()),
+        r"true true no plain text *a\**",
+    )
 }
 
 /// How a pattern of three characters and a single one is written.
@@ -307,7 +297,6 @@ fn cloned_hole(alloc: Global) -> Result<String, Fail> {
 
 #[test]
 fn parts_make_patterns(rt: HostRuntime) -> Result<(), Fail> {
-    assert_eq!(rt; special_written(rt.alloc())?.as_str(), r"\\\?\*?");
-    assert_eq!(rt; cloned_hole(rt.alloc())?.as_str(), "{name}");
-    Ok(())
+    assert_told(&rt, special_written(rt.alloc()), r"\\\?\*?")?;
+    assert_told(&rt, cloned_hole(rt.alloc()), "{name}")
 }

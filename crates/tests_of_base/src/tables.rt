@@ -1,6 +1,7 @@
 //! Tables of rows, and the first row that is told otherwise than it says.
 
 use std::alloc::Global;
+use std::process::Abort;
 use std::test::Fail;
 
 /// What the rows of a table ask for.
@@ -62,4 +63,11 @@ pub(crate) fn number(text: &str) -> Option<usize> {
         Ok(number) => Some(number),
         Err(_) => None,
     }
+}
+
+/// Asserts that this is told. A test that ends in it holds nothing that has to be dropped.
+pub fn assert_told(rt: &impl Abort, told: Result<String, Fail>, want: &str) -> Result<(), Fail> {
+    let told = told?;
+    assert_eq!(rt; told.as_str(), want);
+    Ok(())
 }

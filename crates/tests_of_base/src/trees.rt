@@ -1,5 +1,6 @@
 //! Copies of trees, once each.
 
+use crate::tables::assert_told;
 use backend_core::{Leaf, LeafTest, Op, Tree};
 use sig_base::{Limits, Place, Text};
 use sig_strings::{Pattern, SharedPattern};
@@ -53,13 +54,14 @@ fn shown(alloc: Global, tree: &Tree) -> Result<String, Fail> {
     Ok(format!(in alloc; "{tree:?}")?)
 }
 
+fn copy_shown(alloc: Global) -> Result<String, Fail> {
+    let copy = tree(alloc)?.copy(alloc)?;
+    shown(alloc, &copy)
+}
+
 #[test]
 fn copies_are_the_same(rt: HostRuntime) -> Result<(), Fail> {
-    let tree = tree(rt.alloc())?;
-    let copy = tree.copy(rt.alloc())?;
-    assert_eq!(rt;
-        shown(rt.alloc(), &copy)?.as_str(),
-        shown(rt.alloc(), &tree)?.as_str()
-    );
-    Ok(())
+    let whole = tree(rt.alloc())?;
+    let whole = shown(rt.alloc(), &whole)?;
+    assert_told(&rt, copy_shown(rt.alloc()), whole.as_str())
 }

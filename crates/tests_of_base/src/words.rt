@@ -1,6 +1,6 @@
 //! Words that are taken, with what they give, and words that aren't.
 
-use crate::tables::{Asked, answer, wrong_row};
+use crate::tables::{Asked, answer, assert_told, wrong_row};
 use command_words::{CommandName, read};
 use std::alloc::Global;
 use std::test::Fail;
@@ -184,6 +184,5 @@ not taken~generate";
 #[test]
 fn words_of_commands(rt: HostRuntime) -> Result<(), Fail> {
     assert_eq!(rt; COMMAND_LINES.lines().count(), 98);
-    assert_eq!(rt; wrong_row(rt.alloc(), &Lines, COMMAND_LINES)?.as_str(), "");
-    Ok(())
+    assert_told(&rt, wrong_row(rt.alloc(), &Lines, COMMAND_LINES), "")
 }

@@ -2,6 +2,7 @@
 //! own from line 3 on: its key stands in column 3 and its value in column 10. What a value holds stands in the columns
 //! behind, one for each part.
 
+use crate::telling::assert_told;
 use correlation_rules::{Correlation, RuleIndex, span_of};
 use correlation_windows::Bound;
 use event_schema::{Field, FieldKind, FieldList, Schema};
@@ -220,11 +221,7 @@ type=temporal|rules=a|timespan=5m|window=5m~140 6 3";
 
 #[test]
 fn the_first_cause_is_told(rt: HostRuntime) -> Result<(), Fail> {
-    assert_eq!(rt;
-        wrong_row(rt.alloc(), Question::Refusal, READ)?.as_str(),
-        ""
-    );
-    Ok(())
+    assert_told(&rt, wrong_row(rt.alloc(), Question::Refusal, READ), "")
 }
 
 /// The row of a correlation that lists so many rules.
@@ -239,10 +236,9 @@ fn listing(alloc: Global, count: u32) -> Result<String, Fail> {
 #[test]
 fn up_to_sixty_four_rules_are_listed(rt: HostRuntime) -> Result<(), Fail> {
     let row = listing(rt.alloc(), 64)?;
-    assert_eq!(rt; refusal(rt.alloc(), row.as_str())?.as_str(), "");
+    assert_told(&rt, refusal(rt.alloc(), row.as_str()), "")?;
     let row = listing(rt.alloc(), 65)?;
-    assert_eq!(rt; refusal(rt.alloc(), row.as_str())?.as_str(), "140 5 10");
-    Ok(())
+    assert_told(&rt, refusal(rt.alloc(), row.as_str()), "140 5 10")
 }
 
 /// The comparisons of a correlation, with a blank behind each.
@@ -264,11 +260,11 @@ fn comparisons_of(alloc: Global, row: &str) -> Result<String, Fail> {
 #[test]
 fn comparisons_are_read(rt: HostRuntime) -> Result<(), Fail> {
     let row = "type=event_count|rules=a|timespan=5m|condition={lte=#4,gt=#1,lt=#3,gte=#2,eq=#0";
-    assert_eq!(rt;
-        comparisons_of(rt.alloc(), row)?.as_str(),
-        "Lte 4 Gt 1 Lt 3 Gte 2 Eq 0 "
-    );
-    Ok(())
+    assert_told(
+        &rt,
+        comparisons_of(rt.alloc(), row),
+        "Lte 4 Gt 1 Lt 3 Gte 2 Eq 0 ",
+    )
 }
 
 fn nanoseconds(alloc: Global, text: &str) -> Result<String, Fail> {
@@ -299,8 +295,7 @@ m~-
 
 #[test]
 fn timespans_are_read(rt: HostRuntime) -> Result<(), Fail> {
-    assert_eq!(rt; wrong_row(rt.alloc(), Question::Span, SPANS)?.as_str(), "");
-    Ok(())
+    assert_told(&rt, wrong_row(rt.alloc(), Question::Span, SPANS), "")
 }
 
 fn head(alloc: Global, name: &str, id: &str) -> Result<Head, Fail> {
@@ -394,8 +389,7 @@ type=value_count|rules=a|timespan=5m|condition={gte=#1,field=v|aliases={v=a:User
 
 #[test]
 fn rules_and_fields_are_found(rt: HostRuntime) -> Result<(), Fail> {
-    assert_eq!(rt; wrong_row(rt.alloc(), Question::Bound, BOUND)?.as_str(), "");
-    Ok(())
+    assert_told(&rt, wrong_row(rt.alloc(), Question::Bound, BOUND), "")
 }
 
 fn identifier(alloc: Global, number: u32) -> Result<String, Fail> {
@@ -451,18 +445,20 @@ fn found_among(alloc: Global, count: u32, words: &str) -> Result<String, Fail> {
 fn rules_are_found_by_an_index(rt: HostRuntime) -> Result<(), Fail> {
     let alloc = rt.alloc();
     let words = "r0 i0 r4 i4 r5 i5 r9 i9 r3 r20 i20 r38 r39 R0";
-    assert_eq!(rt;
-        found_among(alloc, 40, words)?.as_str(),
-        "0 0 4 4 5 - - - 3 20 - 38 - - "
-    );
-    assert_eq!(rt;
-        found_among(alloc, 17, "r0 i4 r5 i5 r16 i16 r17")?.as_str(),
-        "0 4 5 - 16 - - "
-    );
-    assert_eq!(rt;
-        found_among(alloc, 16, "r0 i4 r5 i5 r15 i16 r16")?.as_str(),
-        "0 4 5 - 15 - - "
-    );
-    assert_eq!(rt; found_among(alloc, 0, "r0")?.as_str(), "- ");
-    Ok(())
+    assert_told(
+        &rt,
+        found_among(alloc, 40, words),
+        "0 0 4 4 5 - - - 3 20 - 38 - - ",
+    )?;
+    assert_told(
+        &rt,
+        found_among(alloc, 17, "r0 i4 r5 i5 r16 i16 r17"),
+        "0 4 5 - 16 - - ",
+    )?;
+    assert_told(
+        &rt,
+        found_among(alloc, 16, "r0 i4 r5 i5 r15 i16 r16"),
+        "0 4 5 - 15 - - ",
+    )?;
+    assert_told(&rt, found_among(alloc, 0, "r0"), "- ")
 }

@@ -2,6 +2,7 @@ ghost use Rattle.std.specs.Prelude.{◌≡◌, ◌<◌, ◌≤◌, length, IfOk}
 ghost use Rattle.event_schema.specs.Occurrence.{IsMoment};
 ghost use Rattle.correlation_engine.specs.Limits.{IsWithinLimits};
 
+use crate::telling::assert_told;
 use correlation_engine::{Arrival, Engine, TakeFault};
 use correlation_windows::{Bound, CorrelationKind, Op, Report};
 use event_schema::{Event, FieldValues, Value};
@@ -126,11 +127,11 @@ fn burst_of_one_rule(alloc: Global) -> Result<String, Fail> {
 
 #[test]
 fn a_burst_is_reported_and_then_forgotten(rt: HostRuntime) -> Result<(), Fail> {
-    assert_eq!(rt;
-        burst_of_one_rule(rt.alloc())?.as_str(),
-        "4 2 3 a;5 2 4 a;59000000000 before 61000000000; 4 held; 0 held"
-    );
-    Ok(())
+    assert_told(
+        &rt,
+        burst_of_one_rule(rt.alloc()),
+        "4 2 3 a;5 2 4 a;59000000000 before 61000000000; 4 held; 0 held",
+    )
 }
 
 /// What an event gives that two rules match, which are to match in their order.
@@ -144,6 +145,5 @@ fn two_in_order(alloc: Global) -> Result<String, Fail> {
 
 #[test]
 fn one_event_meets_two_rules_in_their_order(rt: HostRuntime) -> Result<(), Fail> {
-    assert_eq!(rt; two_in_order(rt.alloc())?.as_str(), "1 1 2 a;");
-    Ok(())
+    assert_told(&rt, two_in_order(rt.alloc()), "1 1 2 a;")
 }

@@ -1,5 +1,6 @@
 //! Lines of a source, read as events.
 
+use crate::telling::assert_told;
 use event_lines::LineReader;
 use event_reading::{read_event, read_schema};
 use event_schema::{Event, Schema, Value};
@@ -99,8 +100,11 @@ const IMAGES_TOLD: &str =
 #[test]
 fn lines_are_events_or_refused(rt: HostRuntime) -> Result<(), Fail> {
     for most in [1, 2, 3, 65_536] {
-        let got = images_told(rt.alloc(), IMAGES, most, &Limits::standard())?;
-        assert_eq!(rt; got.as_str(), IMAGES_TOLD);
+        assert_told(
+            &rt,
+            images_told(rt.alloc(), IMAGES, most, &Limits::standard()),
+            IMAGES_TOLD,
+        )?;
     }
     Ok(())
 }
@@ -108,8 +112,11 @@ fn lines_are_events_or_refused(rt: HostRuntime) -> Result<(), Fail> {
 #[test]
 fn no_lines(rt: HostRuntime) -> Result<(), Fail> {
     for most in [1, 2, 3, 65_536] {
-        let got = images_told(rt.alloc(), "", most, &Limits::standard())?;
-        assert_eq!(rt; got.as_str(), "end");
+        assert_told(
+            &rt,
+            images_told(rt.alloc(), "", most, &Limits::standard()),
+            "end",
+        )?;
     }
     Ok(())
 }
@@ -133,15 +140,16 @@ fn told_within(alloc: Global, limits: &Limits) -> Result<String, Fail> {
 
 #[test]
 fn long_lines(rt: HostRuntime) -> Result<(), Fail> {
-    assert_eq!(rt;
-        told_within(rt.alloc(), &lines_of_eight())?.as_str(),
-        "1 too long 2 too long 3 too long 4 too long 5 too long end"
-    );
-    assert_eq!(rt;
-        told_within(rt.alloc(), &lines_of_thirteen())?.as_str(),
-        "1 too long 2:2:1: 25 EventJson 3 too long 4 too long 5=x end"
-    );
-    Ok(())
+    assert_told(
+        &rt,
+        told_within(rt.alloc(), &lines_of_eight()),
+        "1 too long 2 too long 3 too long 4 too long 5 too long end",
+    )?;
+    assert_told(
+        &rt,
+        told_within(rt.alloc(), &lines_of_thirteen()),
+        "1 too long 2:2:1: 25 EventJson 3 too long 4 too long 5=x end",
+    )
 }
 
 /// Of keys that are equal the last counts, at each step and whatever the first one has.
@@ -158,7 +166,9 @@ fn equal_keys(rt: HostRuntime) -> Result<(), Fail> {
 {"a":{"b":1},"\u0061":{"b":3}}
 {"a":{"b":"x"},"a":{"b":2}}
 {"a":{"b":1},"a":{"b":"x"}}"#;
-    let got = told(alloc, &schema, input, 65_536, &Limits::standard())?;
-    assert_eq!(rt; got.as_str(), "1=2 2=2 3= 4=3 5=2 6:6:1: 26 EventKind end");
-    Ok(())
+    assert_told(
+        &rt,
+        told(alloc, &schema, input, 65_536, &Limits::standard()),
+        "1=2 2=2 3= 4=3 5=2 6:6:1: 26 EventKind end",
+    )
 }

@@ -17,4 +17,6 @@ mod reading;
 #[cfg(test)]
 mod reports;
 #[cfg(test)]
+mod telling;
+#[cfg(test)]
 mod windows;

@@ -1,5 +1,6 @@
 //! Moments by tables that were reckoned by hand.
 
+use crate::telling::assert_told;
 use event_moments::moment_in;
 use event_schema::TimeForm;
 use serde_json::Value;
@@ -58,8 +59,7 @@ fn moments_of_texts(rt: HostRuntime) -> Result<(), Fail> {
 "2000-03-01T00:00"~none
 "2000-03-01T00:00:00Zx"~none
 7~none"#;
-    assert_eq!(rt; wrong_moment(alloc, TimeForm::Text, table)?.as_str(), "");
-    Ok(())
+    assert_told(&rt, wrong_moment(alloc, TimeForm::Text, table), "")
 }
 
 #[test]
@@ -72,8 +72,7 @@ fn moments_of_seconds(rt: HostRuntime) -> Result<(), Fail> {
 1.5~none
 "1"~none
 null~none"#;
-    assert_eq!(rt; wrong_moment(alloc, TimeForm::Seconds, table)?.as_str(), "");
-    Ok(())
+    assert_told(&rt, wrong_moment(alloc, TimeForm::Seconds, table), "")
 }
 
 #[test]
@@ -81,6 +80,5 @@ fn moments_of_milliseconds(rt: HostRuntime) -> Result<(), Fail> {
     let alloc = rt.alloc();
     let table = r#"1500~1500000000
 true~none"#;
-    assert_eq!(rt; wrong_moment(alloc, TimeForm::Millis, table)?.as_str(), "");
-    Ok(())
+    assert_told(&rt, wrong_moment(alloc, TimeForm::Millis, table), "")
 }

@@ -1,5 +1,6 @@
 //! Events and schemas by tables that were reckoned by hand.
 
+use crate::telling::assert_told;
 use event_reading::{read_event, read_schema};
 use event_schema::{Field, FieldKind, Schema, TimeForm, Value};
 use sig_base::{Fault, Limits, Text};
@@ -102,8 +103,7 @@ false~|false
 [1]~26 at 7:1
 {}~26 at 7:1
 1,"b":2~|2"#;
-    assert_eq!(rt; wrong_value(alloc, &schema, table)?.as_str(), "");
-    Ok(())
+    assert_told(&rt, wrong_value(alloc, &schema, table), "")
 }
 
 #[test]
@@ -145,8 +145,7 @@ false~26 at 7:1
 [1]~26 at 7:1
 {}~26 at 7:1
 1,"b":2~#2"#;
-    assert_eq!(rt; wrong_value(alloc, &schema, table)?.as_str(), "");
-    Ok(())
+    assert_told(&rt, wrong_value(alloc, &schema, table), "")
 }
 
 #[test]
@@ -189,8 +188,7 @@ false~26 at 7:1
 [1]~26 at 7:1
 {}~26 at 7:1
 1,"b":2~26 at 7:1"#;
-    assert_eq!(rt; wrong_value(alloc, &schema, table)?.as_str(), "");
-    Ok(())
+    assert_told(&rt, wrong_value(alloc, &schema, table), "")
 }
 
 #[test]
@@ -214,8 +212,7 @@ null~
 [[2],9223372036854775808]~26 at 7:1
 ["a\u0000",[1]]~28 at 7:1
 {}~26 at 7:1"#;
-    assert_eq!(rt; wrong_value(alloc, &schema, table)?.as_str(), "");
-    Ok(())
+    assert_told(&rt, wrong_value(alloc, &schema, table), "")
 }
 
 #[test]
@@ -239,8 +236,7 @@ null~
 [[2],9223372036854775808]~26 at 7:1
 ["a\u0000",[1]]~26 at 7:1
 {}~26 at 7:1"#;
-    assert_eq!(rt; wrong_value(alloc, &schema, table)?.as_str(), "");
-    Ok(())
+    assert_told(&rt, wrong_value(alloc, &schema, table), "")
 }
 
 fn told_text(alloc: Global, schema: &Schema, line: &str) -> Result<String, Fail> {
@@ -281,12 +277,8 @@ null~25 at 7:1
 ~25 at 7:1
 {"N":1}x~25 at 7:1
 {"N":1,}~25 at 7:1"#;
-    assert_eq!(rt; wrong_line(alloc, &schema, table)?.as_str(), "");
-    assert_eq!(rt;
-        told(alloc, &schema, &[b'"', 0xff, b'"'])?.as_str(),
-        "25 at 7:1"
-    );
-    Ok(())
+    assert_told(&rt, wrong_line(alloc, &schema, table), "")?;
+    assert_told(&rt, told(alloc, &schema, &[b'"', 0xff, b'"']), "25 at 7:1")
 }
 
 /// A line whose second value is 200 lists, one inside the other.
@@ -310,8 +302,7 @@ fn deep_line_told(alloc: Global) -> Result<String, Fail> {
 
 #[test]
 fn deep_lines(rt: HostRuntime) -> Result<(), Fail> {
-    assert_eq!(rt; deep_line_told(rt.alloc())?.as_str(), "25 at 7:1");
-    Ok(())
+    assert_told(&rt, deep_line_told(rt.alloc()), "25 at 7:1")
 }
 
 fn shown_moment(alloc: Global, moment: Option<i128>) -> Result<String, Fail> {
@@ -336,14 +327,14 @@ fn moment(alloc: Global, form: &str, value: &str) -> Result<String, Fail> {
 #[test]
 fn moments(rt: HostRuntime) -> Result<(), Fail> {
     let alloc = rt.alloc();
-    assert_eq!(rt;
-        moment(alloc, "text", "\"1970-01-01 00:00:01Z\"")?.as_str(),
-        "1000000000"
-    );
-    assert_eq!(rt; moment(alloc, "text", "7")?.as_str(), "none");
-    assert_eq!(rt; moment(alloc, "seconds", "-1")?.as_str(), "-1000000000");
-    assert_eq!(rt; moment(alloc, "millis", "1500")?.as_str(), "1500000000");
-    Ok(())
+    assert_told(
+        &rt,
+        moment(alloc, "text", "\"1970-01-01 00:00:01Z\""),
+        "1000000000",
+    )?;
+    assert_told(&rt, moment(alloc, "text", "7"), "none")?;
+    assert_told(&rt, moment(alloc, "seconds", "-1"), "-1000000000")?;
+    assert_told(&rt, moment(alloc, "millis", "1500"), "1500000000")
 }
 
 fn push_field(all: &mut Text, field: &Field) -> Result<(), Fail> {
@@ -444,8 +435,7 @@ fn schemas(rt: HostRuntime) -> Result<(), Fail> {
 {"fields":[{"name":"A","kind":"text"}],"time":{"at":[],"form":"text"}}~21 at 1:1
 {"fields":[{"name":"User","kind":"text"},{"name":"user","kind":"text"}]}~22 at 1:1
 {"fields":[{"name":"a.CASED","kind":"whole"},{"name":"A","kind":"text","cased":true}]}~22 at 1:1"#;
-    assert_eq!(rt; wrong_schema(alloc, &limits, table)?.as_str(), "");
-    Ok(())
+    assert_told(&rt, wrong_schema(alloc, &limits, table), "")
 }
 
 /// What is told of a schema where it may have one field.
@@ -468,12 +458,12 @@ const TWO_FIELDS: &str = r#"{"fields":[{"name":"A","kind":"text"},{"name":"A","k
 #[test]
 fn limits(rt: HostRuntime) -> Result<(), Fail> {
     let alloc = rt.alloc();
-    assert_eq!(rt; told_of_one_field(alloc, TWO_FIELDS)?.as_str(), "23 at 1:1");
-    assert_eq!(rt;
-        told_of_one_field(alloc, r#"{"fields":[1,2]}"#)?.as_str(),
-        "21 at 1:1"
-    );
-    assert_eq!(rt; told_of_one_byte(alloc, "{")?.as_str(), "20 at 1:1");
-    assert_eq!(rt; told_of_one_byte(alloc, "{ ")?.as_str(), "23 at 1:1");
-    Ok(())
+    assert_told(&rt, told_of_one_field(alloc, TWO_FIELDS), "23 at 1:1")?;
+    assert_told(
+        &rt,
+        told_of_one_field(alloc, r#"{"fields":[1,2]}"#),
+        "21 at 1:1",
+    )?;
+    assert_told(&rt, told_of_one_byte(alloc, "{"), "20 at 1:1")?;
+    assert_told(&rt, told_of_one_byte(alloc, "{ "), "23 at 1:1")
 }

@@ -1,3 +1,4 @@
+use crate::telling::assert_told;
 use correlation_reports::write_report;
 use correlation_windows::Report;
 use sig_base::{Text, Texts};
@@ -33,42 +34,39 @@ fn line_of(
 
 #[test]
 fn a_burst_is_written(rt: HostRuntime) -> Result<(), Fail> {
-    let first = line_of(rt.alloc(), "Burst", 4, 2, 3, &["a"])?;
-    assert_eq!(rt;
-        first.as_str(),
-        r#"{"correlation":"Burst","line":4,"from":2,"count":3,"group":["a"]}"#
-    );
-    let second = line_of(rt.alloc(), "Burst", 5, 2, 4, &["a"])?;
-    assert_eq!(rt;
-        second.as_str(),
-        r#"{"correlation":"Burst","line":5,"from":2,"count":4,"group":["a"]}"#
-    );
-    Ok(())
+    assert_told(
+        &rt,
+        line_of(rt.alloc(), "Burst", 4, 2, 3, &["a"]),
+        r#"{"correlation":"Burst","line":4,"from":2,"count":3,"group":["a"]}"#,
+    )?;
+    assert_told(
+        &rt,
+        line_of(rt.alloc(), "Burst", 5, 2, 4, &["a"]),
+        r#"{"correlation":"Burst","line":5,"from":2,"count":4,"group":["a"]}"#,
+    )
 }
 
 #[test]
 fn without_a_group_the_list_is_empty(rt: HostRuntime) -> Result<(), Fail> {
-    let line = line_of(rt.alloc(), "both", 1, 1, 2, &[])?;
-    assert_eq!(rt;
-        line.as_str(),
-        r#"{"correlation":"both","line":1,"from":1,"count":2,"group":[]}"#
-    );
-    Ok(())
+    assert_told(
+        &rt,
+        line_of(rt.alloc(), "both", 1, 1, 2, &[]),
+        r#"{"correlation":"both","line":1,"from":1,"count":2,"group":[]}"#,
+    )
 }
 
 #[test]
 fn names_and_texts_are_strings_of_json(rt: HostRuntime) -> Result<(), Fail> {
-    let line = line_of(
-        rt.alloc(),
-        "a \"b\" \\ c",
-        4_294_967_295,
-        0,
-        18_446_744_073_709_551_615,
-        &["\n\u{1}\t", "", "\u{e9}/\u{1f600}"],
-    )?;
-    assert_eq!(rt;
-        line.as_str(),
-        "{\"correlation\":\"a \\\"b\\\" \\\\ c\",\"line\":4294967295,\"from\":0,\"count\":18446744073709551615,\"group\":[\"\\n\\u0001\\t\",\"\",\"\u{e9}/\u{1f600}\"]}"
-    );
-    Ok(())
+    assert_told(
+        &rt,
+        line_of(
+            rt.alloc(),
+            "a \"b\" \\ c",
+            4_294_967_295,
+            0,
+            18_446_744_073_709_551_615,
+            &["\n\u{1}\t", "", "\u{e9}/\u{1f600}"],
+        ),
+        "{\"correlation\":\"a \\\"b\\\" \\\\ c\",\"line\":4294967295,\"from\":0,\"count\":18446744073709551615,\"group\":[\"\\n\\u0001\\t\",\"\",\"\u{e9}/\u{1f600}\"]}",
+    )
 }

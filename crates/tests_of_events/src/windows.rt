@@ -1,6 +1,7 @@
 ghost use Rattle.std.specs.Prelude.{◌≡◌, ◌≤ℤ◌, ℕ, ℤ, pos, List, length, IfOk, OnOk};
 ghost use Rattle.correlation_windows.specs.Ready.{AllAt, AllFresh, UntilEach};
 
+use crate::telling::assert_told;
 use correlation_windows::{Found, Group, Match, Queues};
 use sig_base::{Text, Texts};
 use std::alloc::Global;
@@ -90,8 +91,7 @@ const BURST: [(u32, i128, &str); 5] = [
 #[test]
 fn what_a_timespan_reaches_is_kept(rt: HostRuntime) -> Result<(), Fail> {
     let queues = take_all(rt.alloc(), &BURST)?;
-    assert_eq!(rt; shown(rt.alloc(), &queues, "a")?.as_str(), "2 3 4 5 of 4");
-    Ok(())
+    assert_told(&rt, shown(rt.alloc(), &queues, "a"), "2 3 4 5 of 4")
 }
 
 /// What is shown of each user with a line feed behind it.
@@ -114,9 +114,9 @@ fn older_matches_of_every_group_go(rt: HostRuntime) -> Result<(), Fail> {
         (4, 2, "b"),
         (5, MINUTE + 1, "c"),
     ];
-    assert_eq!(rt;
-        users_shown(rt.alloc(), &events, "a b A c")?.as_str(),
-        "of 3\n4 of 3\n3 of 3\n5 of 3\n"
-    );
-    Ok(())
+    assert_told(
+        &rt,
+        users_shown(rt.alloc(), &events, "a b A c"),
+        "of 3\n4 of 3\n3 of 3\n5 of 3\n",
+    )
 }

@@ -3,7 +3,9 @@
 //! an `and` and an `or` of parts, `all0,1` and `one0,1` for those of numbers. In a rule that is made `(1 0)` is an `and`.
 
 use crate::shown::{show_detections, show_fault};
-use crate::tables::{columns, detections, difference, few_limits, is_step, rule_of, step};
+use crate::tables::{
+    assert_text, assert_told, columns, detections, difference, few_limits, is_step, rule_of, step,
+};
 use pipeline_steps::change;
 use rule_head::LogSource;
 use rule_model::Rule;
@@ -243,7 +245,7 @@ fn wrong(alloc: Global, limits: &Limits, row: &str) -> Result<Text, Fail> {
 fn rules_are_changed(rt: HostRuntime) -> Result<(), Fail> {
     let limits = Limits::standard();
     for row in STEPS.lines() {
-        assert_eq!(rt; wrong(rt.alloc(), &limits, row)?.as_str(), "");
+        assert_text(&rt, wrong(rt.alloc(), &limits, row), "")?;
     }
     assert_eq!(rt; STEPS.lines().count(), 40);
     Ok(())
@@ -253,7 +255,7 @@ fn rules_are_changed(rt: HostRuntime) -> Result<(), Fail> {
 fn growth_is_refused(rt: HostRuntime) -> Result<(), Fail> {
     let limits = few_limits();
     for row in GROWN.lines() {
-        assert_eq!(rt; wrong(rt.alloc(), &limits, row)?.as_str(), "");
+        assert_text(&rt, wrong(rt.alloc(), &limits, row), "")?;
     }
     assert_eq!(rt; GROWN.lines().count(), 12);
     Ok(())
@@ -284,9 +286,10 @@ fn source_shown(alloc: Global, step_text: &str) -> Result<String, Fail> {
 
 #[test]
 fn log_sources_are_replaced(rt: HostRuntime) -> Result<(), Fail> {
-    let made = source_shown(rt.alloc(), "source windows@b")?;
-    assert_eq!(rt; made.as_str(), "/windows");
-    let same = source_shown(rt.alloc(), "add c:#1")?;
-    assert_eq!(rt; same.as_str(), "process/");
-    Ok(())
+    assert_told(
+        &rt,
+        source_shown(rt.alloc(), "source windows@b"),
+        "/windows",
+    )?;
+    assert_told(&rt, source_shown(rt.alloc(), "add c:#1"), "process/")
 }

@@ -2,7 +2,8 @@
 
 use crate::shown::show_answer;
 use crate::tables::{
-    at, bare_rule, columns, detections, difference, few_limits, is_step, item_of, step, vars,
+    assert_text, at, bare_rule, columns, detections, difference, few_limits, is_step, item_of,
+    step, vars,
 };
 use pipeline_model::Var;
 use pipeline_values::change_tests;
@@ -200,7 +201,7 @@ fn wrong(alloc: Global, limits: &Limits, row: &str) -> Result<Text, Fail> {
 fn tests_become_others(rt: HostRuntime) -> Result<(), Fail> {
     let limits = Limits::standard();
     for row in STEPS.lines() {
-        assert_eq!(rt; wrong(rt.alloc(), &limits, row)?.as_str(), "");
+        assert_text(&rt, wrong(rt.alloc(), &limits, row), "")?;
     }
     assert_eq!(rt; STEPS.lines().count(), 45);
     Ok(())
@@ -216,7 +217,7 @@ fn few_and_short() -> Limits {
 fn growth_is_refused(rt: HostRuntime) -> Result<(), Fail> {
     let limits = few_and_short();
     for row in GROWN.lines() {
-        assert_eq!(rt; wrong(rt.alloc(), &limits, row)?.as_str(), "");
+        assert_text(&rt, wrong(rt.alloc(), &limits, row), "")?;
     }
     assert_eq!(rt; GROWN.lines().count(), 48);
     Ok(())
@@ -234,7 +235,7 @@ fn narrow_limits() -> Limits {
 fn growth_together_is_refused(rt: HostRuntime) -> Result<(), Fail> {
     let limits = narrow_limits();
     for row in TOGETHER.lines() {
-        assert_eq!(rt; wrong(rt.alloc(), &limits, row)?.as_str(), "");
+        assert_text(&rt, wrong(rt.alloc(), &limits, row), "")?;
     }
     assert_eq!(rt; TOGETHER.lines().count(), 51);
     Ok(())
@@ -302,8 +303,7 @@ fn product_told(alloc: Global) -> Result<Text, Fail> {
 
 #[test]
 fn a_product_is_refused_before_it_is_made(rt: HostRuntime) -> Result<(), Fail> {
-    assert_eq!(rt; product_told(rt.alloc())?.as_str(), "99 3 5");
-    Ok(())
+    assert_text(&rt, product_told(rt.alloc()), "99 3 5")
 }
 
 /// 128 values of 4,000 characters.
@@ -323,6 +323,5 @@ fn long_told(alloc: Global) -> Result<Text, Fail> {
 /// As many tests as a rule may have, none of them too long by itself, with 131,072,000 parts together.
 #[test]
 fn long_patterns_are_refused_together(rt: HostRuntime) -> Result<(), Fail> {
-    assert_eq!(rt; long_told(rt.alloc())?.as_str(), "99 3 5");
-    Ok(())
+    assert_text(&rt, long_told(rt.alloc()), "99 3 5")
 }

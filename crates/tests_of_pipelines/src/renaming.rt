@@ -1,7 +1,9 @@
 //! Steps on names, in the notation of `tables`: a row has a step, a rule before it and the rule after it.
 
 use crate::shown::show_answer;
-use crate::tables::{bare_rule, columns, detections, difference, few_limits, is_step, step};
+use crate::tables::{
+    assert_text, bare_rule, columns, detections, difference, few_limits, is_step, step,
+};
 use pipeline_names::rename;
 use sig_base::{Limits, Text};
 use std::alloc::Global;
@@ -164,7 +166,7 @@ fn short_limits() -> Limits {
 fn names_become_others(rt: HostRuntime) -> Result<(), Fail> {
     let limits = Limits::standard();
     for row in STEPS.lines() {
-        assert_eq!(rt; wrong(rt.alloc(), &limits, row)?.as_str(), "");
+        assert_text(&rt, wrong(rt.alloc(), &limits, row), "")?;
     }
     assert_eq!(rt; STEPS.lines().count(), 39);
     Ok(())
@@ -174,7 +176,7 @@ fn names_become_others(rt: HostRuntime) -> Result<(), Fail> {
 fn growth_is_refused(rt: HostRuntime) -> Result<(), Fail> {
     let limits = few_limits();
     for row in GROWN.lines() {
-        assert_eq!(rt; wrong(rt.alloc(), &limits, row)?.as_str(), "");
+        assert_text(&rt, wrong(rt.alloc(), &limits, row), "")?;
     }
     assert_eq!(rt; GROWN.lines().count(), 16);
     Ok(())
@@ -184,7 +186,7 @@ fn growth_is_refused(rt: HostRuntime) -> Result<(), Fail> {
 fn long_patterns_are_refused(rt: HostRuntime) -> Result<(), Fail> {
     let limits = short_limits();
     for row in PATTERNS.lines() {
-        assert_eq!(rt; wrong(rt.alloc(), &limits, row)?.as_str(), "");
+        assert_text(&rt, wrong(rt.alloc(), &limits, row), "")?;
     }
     assert_eq!(rt; PATTERNS.lines().count(), 7);
     Ok(())
@@ -200,7 +202,7 @@ fn wrong_of_many(alloc: Global, row: &str, count: u32) -> Result<Text, Fail> {
 fn many_names_become_others(rt: HostRuntime) -> Result<(), Fail> {
     for row in MANY.lines() {
         for count in [31, 32, 33, 40] {
-            assert_eq!(rt; wrong_of_many(rt.alloc(), row, count)?.as_str(), "");
+            assert_text(&rt, wrong_of_many(rt.alloc(), row, count), "")?;
         }
     }
     assert_eq!(rt; MANY.lines().count(), 20);

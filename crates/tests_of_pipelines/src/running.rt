@@ -3,7 +3,7 @@
 //! Before a rule's detections stand the product of its log source and `/`.
 
 use crate::shown::{show_detections, show_fault};
-use crate::tables::{columns, detections, difference, product, rule_of, step, vars};
+use crate::tables::{assert_text, columns, detections, difference, product, rule_of, step, vars};
 use pipeline_chain::{by_priority, run_pipelines};
 use pipeline_model::{Pipeline, Step, Var};
 use rule_model::Rule;
@@ -176,7 +176,7 @@ fn order_of(alloc: Global, text: &str) -> Result<Text, Fail> {
 #[test]
 fn pipelines_are_run_in_their_turn(rt: HostRuntime) -> Result<(), Fail> {
     for row in CHAINS.lines() {
-        assert_eq!(rt; wrong(rt.alloc(), row)?.as_str(), "");
+        assert_text(&rt, wrong(rt.alloc(), row), "")?;
     }
     assert_eq!(rt; CHAINS.lines().count(), 39);
     Ok(())

@@ -25,6 +25,7 @@ use sig_conditions::Formula;
 use sig_modifiers::{Test, Tests};
 use sig_strings::{Pattern, SharedPattern};
 use std::alloc::Global;
+use std::process::Abort;
 use std::test::Fail;
 
 const KINDS: &str = "map fronts text prefix suffix add not source fail item drop fill wild";
@@ -392,4 +393,18 @@ pub fn step(alloc: Global, text: &str) -> Result<Step, Fail> {
         field_any: field_any(held),
         place: at(1, 1),
     })
+}
+
+/// Asserts that this is told. A test that ends in it holds nothing that has to be dropped.
+pub fn assert_told(rt: &impl Abort, told: Result<String, Fail>, want: &str) -> Result<(), Fail> {
+    let told = told?;
+    assert_eq!(rt; told.as_str(), want);
+    Ok(())
+}
+
+/// .. of a text of this project's own.
+pub fn assert_text(rt: &impl Abort, told: Result<Text, Fail>, want: &str) -> Result<(), Fail> {
+    let told = told?;
+    assert_eq!(rt; told.as_str(), want);
+    Ok(())
 }

@@ -7,6 +7,7 @@ ghost use Rattle.sqlite_writer.specs.Lacking.{sqlite_lacks};
 ghost use Rattle.sqlite_writer.specs.Queries.{query_bytes};
 ghost use Rattle.sqlite_writer.specs.Refused.{deep_refusal};
 
+use crate::tables::assert_told;
 use backend_core::{Backend, Lack, Lacking, Leaf, LeafTest, Tree, judge_lacks};
 use event_schema::Schema;
 use languages::CrateBuilder;
@@ -192,18 +193,15 @@ fn of_null(alloc: Global) -> Result<String, Fail> {
 fn each_backend_has_its_own_lacks(rt: HostRuntime) -> Result<(), Fail> {
     let alloc = rt.alloc();
     let query = "SELECT * FROM \"events\" WHERE \"Image\" = 'cmd.exe' COLLATE NOCASE";
-    assert_eq!(rt; by_name(alloc, name_of_a_file(alloc)?)?.as_str(), query);
-    assert_eq!(rt;
-        without_values(alloc, name_of_a_file(alloc)?)?.as_str(),
-        query
-    );
+    assert_told(&rt, by_name(alloc, name_of_a_file(alloc)?), query)?;
+    assert_told(&rt, without_values(alloc, name_of_a_file(alloc)?), query)?;
     let query = "SELECT * FROM \"events\" WHERE \"Image\" IS NULL";
-    assert_eq!(rt; of_null(alloc)?.as_str(), query);
-    assert_eq!(rt;
-        without_values(alloc, Node::null(at(7, 12)))?.as_str(),
-        "7:5: 111 Many"
-    );
-    Ok(())
+    assert_told(&rt, of_null(alloc), query)?;
+    assert_told(
+        &rt,
+        without_values(alloc, Node::null(at(7, 12))),
+        "7:5: 111 Many",
+    )
 }
 
 /// `selection:` with `Image|re: a+` below it.
@@ -226,11 +224,10 @@ fn built(alloc: Global, failing: &[u64]) -> Result<String, Fail> {
 fn expressions_are_built_once_more(rt: HostRuntime) -> Result<(), Fail> {
     let alloc = rt.alloc();
     let query = "SELECT * FROM \"events\" WHERE \"Image\" REGEXP 'a+'";
-    assert_eq!(rt; built(alloc, &[])?.as_str(), query);
-    assert_eq!(rt; built(alloc, &[3])?.as_str(), query);
-    assert_eq!(rt; built(alloc, &[1])?.as_str(), "7:15: 48");
-    assert_eq!(rt; built(alloc, &[2])?.as_str(), "7:5: 48");
-    Ok(())
+    assert_told(&rt, built(alloc, &[]), query)?;
+    assert_told(&rt, built(alloc, &[3]), query)?;
+    assert_told(&rt, built(alloc, &[1]), "7:15: 48")?;
+    assert_told(&rt, built(alloc, &[2]), "7:5: 48")
 }
 
 #[test]

@@ -2,7 +2,7 @@
 
 use crate::asking::{answer, text};
 use crate::small::Small;
-use crate::tables::with_controls;
+use crate::tables::{assert_told, with_controls};
 use event_schema::FieldValues;
 use languages::{BuildFault, CrateBuilder, Search};
 use sig_base::Text;
@@ -49,9 +49,8 @@ fn no_text(alloc: Global) -> Result<String, Fail> {
 
 #[test]
 fn the_small_language(rt: HostRuntime) -> Result<(), Fail> {
-    assert_eq!(rt; wrong_small(rt.alloc(), &[2], SMALL)?.as_str(), "");
-    assert_eq!(rt; no_text(rt.alloc())?.as_str(), "1 at 1:1");
-    Ok(())
+    assert_told(&rt, wrong_small(rt.alloc(), &[2], SMALL), "")?;
+    assert_told(&rt, no_text(rt.alloc()), "1 at 1:1")
 }
 
 fn built(alloc: Global, builder: &mut CrateBuilder, text: &str) -> Result<&'static str, Fail> {
@@ -87,8 +86,7 @@ syntax~(a)\1";
 
 #[test]
 fn builders(rt: HostRuntime) -> Result<(), Fail> {
-    assert_eq!(rt; wrong_built(rt.alloc(), &[1, 3], BUILT)?.as_str(), "");
-    Ok(())
+    assert_told(&rt, wrong_built(rt.alloc(), &[1, 3], BUILT), "")
 }
 
 fn is_found(alloc: Global, text: &str, value: &str) -> Result<bool, Fail> {
@@ -128,6 +126,5 @@ no~[^a]~";
 
 #[test]
 fn searches(rt: HostRuntime) -> Result<(), Fail> {
-    assert_eq!(rt; wrong_search(rt.alloc(), SEARCHES)?.as_str(), "");
-    Ok(())
+    assert_told(&rt, wrong_search(rt.alloc(), SEARCHES), "")
 }

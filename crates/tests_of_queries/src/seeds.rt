@@ -1,5 +1,6 @@
 //! Rules and events of seeds, reckoned by hand.
 
+use crate::tables::assert_told;
 use event_schema::{Event, Value};
 use generated::{after_events, after_three, make_events, make_rule, make_schema};
 use modifier_chains::Op;
@@ -47,13 +48,21 @@ fn drawn(alloc: Global, state: u32, count: u32) -> Result<String, Fail> {
 #[test]
 fn events_of_two_seeds(rt: HostRuntime) -> Result<(), Fail> {
     let alloc = rt.alloc();
-    let of_zero = drawn(alloc, after_three(0), 3)?;
-    assert_eq!(rt; of_zero.as_str(), "-|cmd.exe|70;AND||37;-|100%|97;");
-    let of_one = drawn(alloc, after_three(1), 2)?;
-    assert_eq!(rt; of_one.as_str(), "|power shell|96;100%|cmd.exe|0;");
-    let later = drawn(alloc, after_events(after_three(1), 1), 1)?;
-    assert_eq!(rt; later.as_str(), "100%|cmd.exe|0;");
-    Ok(())
+    assert_told(
+        &rt,
+        drawn(alloc, after_three(0), 3),
+        "-|cmd.exe|70;AND||37;-|100%|97;",
+    )?;
+    assert_told(
+        &rt,
+        drawn(alloc, after_three(1), 2),
+        "|power shell|96;100%|cmd.exe|0;",
+    )?;
+    assert_told(
+        &rt,
+        drawn(alloc, after_events(after_three(1), 1), 1),
+        "100%|cmd.exe|0;",
+    )
 }
 
 /// What a detection of one test asks.
@@ -101,8 +110,8 @@ fn asked(alloc: Global, seed: u32) -> Result<String, Fail> {
 #[test]
 fn rules_of_two_seeds_and_the_schema(rt: HostRuntime) -> Result<(), Fail> {
     let alloc = rt.alloc();
-    assert_eq!(rt; asked(alloc, 0)?.as_str(), "AND;*cmd.exe*;at least 8;");
-    assert_eq!(rt; asked(alloc, 1)?.as_str(), "cmd.exe;*cmd.exe*;at least 46;");
+    assert_told(&rt, asked(alloc, 0), "AND;*cmd.exe*;at least 8;")?;
+    assert_told(&rt, asked(alloc, 1), "cmd.exe;*cmd.exe*;at least 46;")?;
     assert_eq!(rt; make_schema(alloc)?.fields.as_slice().len(), 3);
     Ok(())
 }

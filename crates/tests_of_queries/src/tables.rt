@@ -1,6 +1,7 @@
 //! What a line of a table can't hold.
 
 use std::alloc::Global;
+use std::process::Abort;
 use std::test::Fail;
 
 /// What a picture of a table stands for: a line feed, a tab, a carriage return, a form feed, NUL, a blank, or the blank U+3000.
@@ -24,4 +25,11 @@ pub fn with_controls(alloc: Global, text: &str) -> Result<String, Fail> {
         out.push(pictured(c))?;
     }
     Ok(out)
+}
+
+/// Asserts that this is told. A test that ends in it holds nothing that has to be dropped.
+pub fn assert_told(rt: &impl Abort, told: Result<String, Fail>, want: &str) -> Result<(), Fail> {
+    let told = told?;
+    assert_eq!(rt; told.as_str(), want);
+    Ok(())
 }

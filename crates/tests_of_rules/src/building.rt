@@ -1,8 +1,8 @@
 //! The regular expressions of a rule, built by a builder that fails at a call of this ordinal.
 
 use crate::tables::{
-    Asked, TOP, add, add_pairs, add_text, at, map_of_pairs, no_row, text, three, told_fault,
-    wrong_row,
+    Asked, TOP, add, add_pairs, add_text, assert_told, at, map_of_pairs, no_row, text, three,
+    told_fault, wrong_row,
 };
 use languages::CrateBuilder;
 use rule_building::{build_items, build_searches, find_unbuilt};
@@ -109,11 +109,7 @@ const UNBUILT: &str = "~9~A|re~b
 
 #[test]
 fn unbuilt_places_are_found(rt: HostRuntime) -> Result<(), Fail> {
-    assert_eq!(rt;
-        wrong_row(rt.alloc(), Question::Unbuilt, UNBUILT)?.as_str(),
-        ""
-    );
-    Ok(())
+    assert_told(&rt, wrong_row(rt.alloc(), Question::Unbuilt, UNBUILT), "")
 }
 
 /// What refuses the rule of `A|re: b` whose items' regular expressions are built once more.
@@ -138,8 +134,7 @@ const ITEMS: &str = "~5
 
 #[test]
 fn items_are_built(rt: HostRuntime) -> Result<(), Fail> {
-    assert_eq!(rt; wrong_row(rt.alloc(), Question::Items, ITEMS)?.as_str(), "");
-    Ok(())
+    assert_told(&rt, wrong_row(rt.alloc(), Question::Items, ITEMS), "")
 }
 
 /// The texts, with `;` between them, each in a line of its own.
@@ -193,9 +188,5 @@ const SEARCHES: &str = "ab+~9~a;b+
 
 #[test]
 fn searches_are_built(rt: HostRuntime) -> Result<(), Fail> {
-    assert_eq!(rt;
-        wrong_row(rt.alloc(), Question::Searches, SEARCHES)?.as_str(),
-        ""
-    );
-    Ok(())
+    assert_told(&rt, wrong_row(rt.alloc(), Question::Searches, SEARCHES), "")
 }

@@ -1,6 +1,8 @@
 //! Detections whose nodes' places are reckoned by hand: `sel` stands in line 6, its items from line 7 on.
 
-use crate::tables::{Asked, add, add_text, at, no_row, text, three, told_fault, wrong_row};
+use crate::tables::{
+    Asked, add, add_text, assert_told, at, no_row, text, three, told_fault, wrong_row,
+};
 use modifier_chains::Joined;
 use rule_items::{Alternative, Fields, Item, find_expressions, read_detections};
 use sig_base::{Limits, Place};
@@ -120,8 +122,7 @@ const NAMES: &str = "~Image
 
 #[test]
 fn names_are_refused(rt: HostRuntime) -> Result<(), Fail> {
-    assert_eq!(rt; wrong_row(rt.alloc(), Question::Name, NAMES)?.as_str(), "");
-    Ok(())
+    assert_told(&rt, wrong_row(rt.alloc(), Question::Name, NAMES), "")
 }
 
 /// What refuses a name of four times 32 characters, and then these.
@@ -137,11 +138,11 @@ const LONG_NAMES: &str = "~
 
 #[test]
 fn names_have_at_most_128_characters(rt: HostRuntime) -> Result<(), Fail> {
-    assert_eq!(rt;
-        wrong_row(rt.alloc(), Question::LongName, LONG_NAMES)?.as_str(),
-        ""
-    );
-    Ok(())
+    assert_told(
+        &rt,
+        wrong_row(rt.alloc(), Question::LongName, LONG_NAMES),
+        "",
+    )
 }
 
 /// What refuses an item whose value is a list of one text, `key~text`.
@@ -170,11 +171,7 @@ const VALUES: &str = "49 8:13~Image~abcd
 
 #[test]
 fn values_are_refused(rt: HostRuntime) -> Result<(), Fail> {
-    assert_eq!(rt;
-        wrong_row(rt.alloc(), Question::Value, VALUES)?.as_str(),
-        ""
-    );
-    Ok(())
+    assert_told(&rt, wrong_row(rt.alloc(), Question::Value, VALUES), "")
 }
 
 /// The value of `detection` whose `sel` has these two items, one in line 7 with a text, and one in line 8 with the text `b`.
@@ -213,11 +210,7 @@ const UNBUILT: &str = "~9~Image|re~a~User|re
 /// A regular expression that isn't built is refused in its value's turn.
 #[test]
 fn what_is_not_built_is_refused(rt: HostRuntime) -> Result<(), Fail> {
-    assert_eq!(rt;
-        wrong_row(rt.alloc(), Question::Unbuilt, UNBUILT)?.as_str(),
-        ""
-    );
-    Ok(())
+    assert_told(&rt, wrong_row(rt.alloc(), Question::Unbuilt, UNBUILT), "")
 }
 
 /// The regular expressions in the value of `detection`, each behind its place.
@@ -250,11 +243,11 @@ const EXPRESSIONS: &str = " 7:20 ( 8:20 (?i)b~Image|re~User|re|i
 /// An item whose key is none has no regular expressions, and the items behind it have theirs.
 #[test]
 fn regular_expressions_are_found(rt: HostRuntime) -> Result<(), Fail> {
-    assert_eq!(rt;
-        wrong_row(rt.alloc(), Question::Expressions, EXPRESSIONS)?.as_str(),
-        ""
-    );
-    Ok(())
+    assert_told(
+        &rt,
+        wrong_row(rt.alloc(), Question::Expressions, EXPRESSIONS),
+        "",
+    )
 }
 
 /// At most one character in a value.
@@ -280,11 +273,11 @@ const LISTED: &str = " 8:13 a~a
 
 #[test]
 fn texts_alone_are_regular_expressions(rt: HostRuntime) -> Result<(), Fail> {
-    assert_eq!(rt;
-        wrong_row(rt.alloc(), Question::ListedExpressions, LISTED)?.as_str(),
-        ""
-    );
-    Ok(())
+    assert_told(
+        &rt,
+        wrong_row(rt.alloc(), Question::ListedExpressions, LISTED),
+        "",
+    )
 }
 
 /// A list of so many texts of one character, and then a null.
@@ -332,11 +325,7 @@ const SHAPES: &str = "42 7:9~Image|contains~null
 
 #[test]
 fn shapes_of_values_are_refused(rt: HostRuntime) -> Result<(), Fail> {
-    assert_eq!(rt;
-        wrong_row(rt.alloc(), Question::Shape, SHAPES)?.as_str(),
-        ""
-    );
-    Ok(())
+    assert_told(&rt, wrong_row(rt.alloc(), Question::Shape, SHAPES), "")
 }
 
 /// What refuses an item of so many texts and a null within the limits of this name, `limits~key~count`.
@@ -364,11 +353,7 @@ const COUNTS: &str = "42 8:15~small~Image|cased|contains~1
 
 #[test]
 fn counts_come_before_values(rt: HostRuntime) -> Result<(), Fail> {
-    assert_eq!(rt;
-        wrong_row(rt.alloc(), Question::Count, COUNTS)?.as_str(),
-        ""
-    );
-    Ok(())
+    assert_told(&rt, wrong_row(rt.alloc(), Question::Count, COUNTS), "")
 }
 
 /// A keyword, and then a map without keys.
@@ -401,11 +386,11 @@ const DETECTIONS: &str = "77 6:5~null
 
 #[test]
 fn detections_are_refused(rt: HostRuntime) -> Result<(), Fail> {
-    assert_eq!(rt;
-        wrong_row(rt.alloc(), Question::Detection, DETECTIONS)?.as_str(),
-        ""
-    );
-    Ok(())
+    assert_told(
+        &rt,
+        wrong_row(rt.alloc(), Question::Detection, DETECTIONS),
+        "",
+    )
 }
 
 /// What refuses so many keywords and a null, of which there are two at most.
@@ -424,11 +409,7 @@ const KEYWORDS: &str = "42 8:15~1
 /// A keyword is never null, and the count comes first.
 #[test]
 fn keywords_are_refused(rt: HostRuntime) -> Result<(), Fail> {
-    assert_eq!(rt;
-        wrong_row(rt.alloc(), Question::Keywords, KEYWORDS)?.as_str(),
-        ""
-    );
-    Ok(())
+    assert_told(&rt, wrong_row(rt.alloc(), Question::Keywords, KEYWORDS), "")
 }
 
 /// What refuses a map of two keys, one in line 6 and one in line 7, with texts: `first~second`.
@@ -456,8 +437,7 @@ const KEYS: &str = "~sel~condition
 
 #[test]
 fn keys_of_detections_are_refused(rt: HostRuntime) -> Result<(), Fail> {
-    assert_eq!(rt; wrong_row(rt.alloc(), Question::Keys, KEYS)?.as_str(), "");
-    Ok(())
+    assert_told(&rt, wrong_row(rt.alloc(), Question::Keys, KEYS), "")
 }
 
 /// What refuses a map without entries, or a text, as the value of `detection`.
@@ -476,8 +456,7 @@ const WHOLE: &str = "77 5:12~map
 
 #[test]
 fn what_has_no_detection_is_refused(rt: HostRuntime) -> Result<(), Fail> {
-    assert_eq!(rt; wrong_row(rt.alloc(), Question::Whole, WHOLE)?.as_str(), "");
-    Ok(())
+    assert_told(&rt, wrong_row(rt.alloc(), Question::Whole, WHOLE), "")
 }
 
 /// Shows the patterns of one value, each with `*` for a run and behind this sign.
@@ -593,6 +572,5 @@ sel@6:5 = Image@7:9|*\\x.exe User@8:9|a? = @9:9|*evil* = Image@10:9|c~alternativ
 
 #[test]
 fn detections_are_read(rt: HostRuntime) -> Result<(), Fail> {
-    assert_eq!(rt; wrong_row(rt.alloc(), Question::Read, READ)?.as_str(), "");
-    Ok(())
+    assert_told(&rt, wrong_row(rt.alloc(), Question::Read, READ), "")
 }

@@ -2,7 +2,8 @@
 //! head~pairs of logsource~pairs of detection`.
 
 use crate::tables::{
-    Asked, TOP, add, add_pairs, at, map_of_pairs, no_row, text, three, told_fault, value, wrong_row,
+    Asked, TOP, add, add_pairs, assert_told, at, map_of_pairs, no_row, text, three, told_fault,
+    value, wrong_row,
 };
 use rule_items::Expression;
 use rule_model::{Rule, find_expressions};
@@ -111,8 +112,7 @@ const SAID: &str =
 
 #[test]
 fn rules_are_read_and_copied(rt: HostRuntime) -> Result<(), Fail> {
-    assert_eq!(rt; wrong_row(rt.alloc(), Question::Said, SAID)?.as_str(), "");
-    Ok(())
+    assert_told(&rt, wrong_row(rt.alloc(), Question::Said, SAID), "")
 }
 
 fn document_refusal(alloc: Global, row: &str) -> Result<String, Fail> {
@@ -131,11 +131,7 @@ const PARTS: &str = "72 1:8~title=~~condition=s s;s=null
 
 #[test]
 fn parts_are_judged_in_order(rt: HostRuntime) -> Result<(), Fail> {
-    assert_eq!(rt;
-        wrong_row(rt.alloc(), Question::Document, PARTS)?.as_str(),
-        ""
-    );
-    Ok(())
+    assert_told(&rt, wrong_row(rt.alloc(), Question::Document, PARTS), "")
 }
 
 /// What refuses the map of these pairs as a rule.
@@ -157,9 +153,8 @@ const PLAIN: &str = "70 1:1~title=t
 
 #[test]
 fn what_is_no_map_is_refused(rt: HostRuntime) -> Result<(), Fail> {
-    assert_eq!(rt; text_refusal(rt.alloc())?.as_str(), "71 3:2");
-    assert_eq!(rt; wrong_row(rt.alloc(), Question::Plain, PLAIN)?.as_str(), "");
-    Ok(())
+    assert_told(&rt, text_refusal(rt.alloc()), "71 3:2")?;
+    assert_told(&rt, wrong_row(rt.alloc(), Question::Plain, PLAIN), "")
 }
 
 /// What refuses a rule of the detections `sel` and `other_1` with this condition in line 7, whose words are two at most.
@@ -191,11 +186,11 @@ const CONDITIONS: &str = "~sel
 
 #[test]
 fn conditions_are_refused(rt: HostRuntime) -> Result<(), Fail> {
-    assert_eq!(rt;
-        wrong_row(rt.alloc(), Question::Condition, CONDITIONS)?.as_str(),
-        ""
-    );
-    Ok(())
+    assert_told(
+        &rt,
+        wrong_row(rt.alloc(), Question::Condition, CONDITIONS),
+        "",
+    )
 }
 
 /// Adds the conditions, with `;` between them, each on a line of its own from line 5 on, and answers the line behind them.
@@ -245,11 +240,11 @@ const SEVERAL: &str = "2~sel;not sel
 
 #[test]
 fn conditions_are_judged_in_order(rt: HostRuntime) -> Result<(), Fail> {
-    assert_eq!(rt;
-        wrong_row(rt.alloc(), Question::Conditions, SEVERAL)?.as_str(),
-        ""
-    );
-    Ok(())
+    assert_told(
+        &rt,
+        wrong_row(rt.alloc(), Question::Conditions, SEVERAL),
+        "",
+    )
 }
 
 /// So many conditions of so many selectors.
@@ -287,10 +282,7 @@ fn selectors_are_bounded(rt: HostRuntime) -> Result<(), Fail> {
         (2, 1024, ""),
         (2, 1025, "memory"),
     ] {
-        assert_eq!(rt;
-            with_selectors(rt.alloc(), count, selectors)?.as_str(),
-            want
-        );
+        assert_told(&rt, with_selectors(rt.alloc(), count, selectors), want)?;
     }
     Ok(())
 }
@@ -316,8 +308,7 @@ const LONE: &str = "~title=t
 
 #[test]
 fn correlations_are_refused_before_all_else(rt: HostRuntime) -> Result<(), Fail> {
-    assert_eq!(rt; wrong_row(rt.alloc(), Question::Lone, LONE)?.as_str(), "");
-    Ok(())
+    assert_told(&rt, wrong_row(rt.alloc(), Question::Lone, LONE), "")
 }
 
 /// A rule whose detection `sel` has the item `f|re|i: a` at line 5, column 5, with these pairs behind it.
@@ -352,11 +343,7 @@ const UNBUILT: &str = "~5~condition=sel
 /// A regular expression that isn't built is refused with the detections, and so before a missing condition.
 #[test]
 fn what_is_not_built_is_refused(rt: HostRuntime) -> Result<(), Fail> {
-    assert_eq!(rt;
-        wrong_row(rt.alloc(), Question::Unbuilt, UNBUILT)?.as_str(),
-        ""
-    );
-    Ok(())
+    assert_told(&rt, wrong_row(rt.alloc(), Question::Unbuilt, UNBUILT), "")
 }
 
 fn expressions_shown(alloc: Global, expressions: &[Expression]) -> Result<String, Fail> {
@@ -401,9 +388,5 @@ const FOUND: &str = "5:13 (?i)a~document
 /// In a document they stand at their values, and in a rule at their items.
 #[test]
 fn regular_expressions_are_found(rt: HostRuntime) -> Result<(), Fail> {
-    assert_eq!(rt;
-        wrong_row(rt.alloc(), Question::Expressions, FOUND)?.as_str(),
-        ""
-    );
-    Ok(())
+    assert_told(&rt, wrong_row(rt.alloc(), Question::Expressions, FOUND), "")
 }

@@ -1,7 +1,7 @@
 //! Rules of one detection, whose items are each an alternative on a line of its own; what is wanted is reckoned by hand. Items have `;`
 //! between them, and an item `,` between its names.
 
-use crate::tables::{Asked, TOP, no_row, wrong_row};
+use crate::tables::{Asked, TOP, assert_told, no_row, wrong_row};
 use event_schema::{Field, FieldKind, FieldList, Schema};
 use modifier_chains::{Joined, Op};
 use rule_head::{Head, LogSource};
@@ -231,8 +231,7 @@ events @b @c a~b;@c,b;c;a
 
 #[test]
 fn names_stand_once_unless_they_clash(rt: HostRuntime) -> Result<(), Fail> {
-    assert_eq!(rt; wrong_row(rt.alloc(), Question::Made, NAMES)?.as_str(), "");
-    Ok(())
+    assert_told(&rt, wrong_row(rt.alloc(), Question::Made, NAMES), "")
 }
 
 /// .. `told~items`.
@@ -247,8 +246,7 @@ events #a #c b~#a=b,c
 
 #[test]
 fn uses_ask_for_kinds(rt: HostRuntime) -> Result<(), Fail> {
-    assert_eq!(rt; wrong_row(rt.alloc(), Question::Made, KINDS)?.as_str(), "");
-    Ok(())
+    assert_told(&rt, wrong_row(rt.alloc(), Question::Made, KINDS), "")
 }
 
 fn long(alloc: Global, last: &str) -> Result<String, Fail> {
@@ -278,12 +276,8 @@ const LONG_ENDS: &str = "~ f68 @f69~@f69
 
 #[test]
 fn many_names_are_indexed(rt: HostRuntime) -> Result<(), Fail> {
-    assert_eq!(rt; wrong_row(rt.alloc(), Question::Long, LONG)?.as_str(), "");
-    assert_eq!(rt;
-        wrong_row(rt.alloc(), Question::LongEnd, LONG_ENDS)?.as_str(),
-        ""
-    );
-    Ok(())
+    assert_told(&rt, wrong_row(rt.alloc(), Question::Long, LONG), "")?;
+    assert_told(&rt, wrong_row(rt.alloc(), Question::LongEnd, LONG_ENDS), "")
 }
 
 fn field(alloc: Global, name: &str, kind: FieldKind, search: bool) -> Result<Field, Fail> {
@@ -379,11 +373,7 @@ const MISFITS: &str = "~none~a;b,a
 
 #[test]
 fn the_first_item_that_does_not_fit_is_refused(rt: HostRuntime) -> Result<(), Fail> {
-    assert_eq!(rt;
-        wrong_row(rt.alloc(), Question::Misfit, MISFITS)?.as_str(),
-        ""
-    );
-    Ok(())
+    assert_told(&rt, wrong_row(rt.alloc(), Question::Misfit, MISFITS), "")
 }
 
 /// .. `what refuses it~whether keywords search~items`.
@@ -398,11 +388,11 @@ const KIND_MISFITS: &str = "81 2~none~a=b;a=c
 
 #[test]
 fn fields_are_of_the_kinds_that_tests_ask_for(rt: HostRuntime) -> Result<(), Fail> {
-    assert_eq!(rt;
-        wrong_row(rt.alloc(), Question::Misfit, KIND_MISFITS)?.as_str(),
-        ""
-    );
-    Ok(())
+    assert_told(
+        &rt,
+        wrong_row(rt.alloc(), Question::Misfit, KIND_MISFITS),
+        "",
+    )
 }
 
 /// What refuses a rule under the schema that is made of it.
@@ -422,11 +412,11 @@ const OWN_MISFITS: &str = "82 2~#a;b=a
 
 #[test]
 fn a_rule_may_not_fit_its_own_schema(rt: HostRuntime) -> Result<(), Fail> {
-    assert_eq!(rt;
-        wrong_row(rt.alloc(), Question::OwnMisfit, OWN_MISFITS)?.as_str(),
-        ""
-    );
-    Ok(())
+    assert_told(
+        &rt,
+        wrong_row(rt.alloc(), Question::OwnMisfit, OWN_MISFITS),
+        "",
+    )
 }
 
 fn open(alloc: Global, items: &str) -> Result<String, Fail> {
@@ -443,6 +433,5 @@ const OPEN: &str = "~Image;#Code;
 
 #[test]
 fn the_first_open_placeholder_is_refused(rt: HostRuntime) -> Result<(), Fail> {
-    assert_eq!(rt; wrong_row(rt.alloc(), Question::Open, OPEN)?.as_str(), "");
-    Ok(())
+    assert_told(&rt, wrong_row(rt.alloc(), Question::Open, OPEN), "")
 }

@@ -2,6 +2,7 @@
 
 use sig_base::{Detail, Fault, Place, Refusal, Text};
 use std::alloc::Global;
+use std::process::Abort;
 use std::test::Fail;
 use yaml_tree::{Entry, Node};
 
@@ -24,6 +25,13 @@ pub fn wrong_row<A: Asked>(alloc: Global, asked: A, table: &'static str) -> Resu
         }
     }
     Ok(String::new(alloc))
+}
+
+/// Asserts that this is told. A test that ends in it holds nothing that has to be dropped.
+pub fn assert_told(rt: &impl Abort, told: Result<String, Fail>, want: &str) -> Result<(), Fail> {
+    let told = told?;
+    assert_eq!(rt; told.as_str(), want);
+    Ok(())
 }
 
 /// What is told of a row that lacks a part, or has one that is none.

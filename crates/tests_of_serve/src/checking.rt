@@ -1,6 +1,6 @@
 //! What `check` answers rules and correlations.
 
-use crate::scenes::{Scene, wrong_row};
+use crate::scenes::{Scene, assert_told, wrong_row};
 use sig_base::Limits;
 use std::test::Fail;
 
@@ -17,11 +17,11 @@ const BURST: &str =
 
 #[test]
 fn accepts_rules_and_correlations(rt: HostRuntime) -> Result<(), Fail> {
-    assert_eq!(rt;
-        wrong_row(rt.alloc(), &Limits::standard(), CHECK, BURST)?.as_str(),
-        ""
-    );
-    Ok(())
+    assert_told(
+        &rt,
+        wrong_row(rt.alloc(), &Limits::standard(), CHECK, BURST),
+        "",
+    )
 }
 
 const CORRELATIONS: &str =
@@ -37,9 +37,9 @@ title: 1¶correlation:¶  type: temporal¶  timespan: 1y¶~1||c.yml:1:8: 72 BadT
 /// regular expressions decide nothing. The rules that it names aren't looked for.
 #[test]
 fn judges_correlations_as_such(rt: HostRuntime) -> Result<(), Fail> {
-    assert_eq!(rt;
-        wrong_row(rt.alloc(), &Limits::standard(), CHECK, CORRELATIONS)?.as_str(),
-        ""
-    );
-    Ok(())
+    assert_told(
+        &rt,
+        wrong_row(rt.alloc(), &Limits::standard(), CHECK, CORRELATIONS),
+        "",
+    )
 }

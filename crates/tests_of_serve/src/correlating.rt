@@ -1,6 +1,6 @@
 //! `correlate`.
 
-use crate::scenes::{Scene, told, wrong_row};
+use crate::scenes::{Scene, assert_told, told, wrong_row};
 use sig_base::Limits;
 use std::test::Fail;
 
@@ -34,11 +34,11 @@ read=4096~1|{"correlation":"Burst","line":4,"from":2,"count":3,"group":["a"]}¶{
 
 #[test]
 fn reports_a_burst(rt: HostRuntime) -> Result<(), Fail> {
-    assert_eq!(rt;
-        wrong_row(rt.alloc(), &Limits::standard(), BURST, READS)?.as_str(),
-        ""
-    );
-    Ok(())
+    assert_told(
+        &rt,
+        wrong_row(rt.alloc(), &Limits::standard(), BURST, READS),
+        "",
+    )
 }
 
 const UNTIMED: Scene = Scene {
@@ -59,15 +59,16 @@ const MOMENTLESS: Scene = Scene {
 #[test]
 fn asks_for_moments(rt: HostRuntime) -> Result<(), Fail> {
     let limits = Limits::standard();
-    assert_eq!(rt;
-        told(rt.alloc(), &limits, UNTIMED, "", "")?.as_str(),
-        "1||s.json:1:1: 24 SchemaNoTime¶"
-    );
-    assert_eq!(rt;
-        told(rt.alloc(), &limits, MOMENTLESS, "", "")?.as_str(),
-        "1||events:1: 29 NoMoment¶"
-    );
-    Ok(())
+    assert_told(
+        &rt,
+        told(rt.alloc(), &limits, UNTIMED, "", ""),
+        "1||s.json:1:1: 24 SchemaNoTime¶",
+    )?;
+    assert_told(
+        &rt,
+        told(rt.alloc(), &limits, MOMENTLESS, "", ""),
+        "1||events:1: 29 NoMoment¶",
+    )
 }
 
 /// Two rules that match the same events, and a correlation of them.
@@ -86,11 +87,36 @@ const ORDERS: &str =
 
 #[test]
 fn reports_an_order(rt: HostRuntime) -> Result<(), Fail> {
-    assert_eq!(rt;
-        wrong_row(rt.alloc(), &Limits::standard(), ORDERED, ORDERS)?.as_str(),
-        ""
-    );
-    Ok(())
+    assert_told(
+        &rt,
+        wrong_row(rt.alloc(), &Limits::standard(), ORDERED, ORDERS),
+        "",
+    )
+}
+
+/// Two rules, what stands behind them, and the events.
+const TWO_RULES: Scene = Scene {
+    world: "",
+    words: "correlate --schema s.json c.yml",
+    files: r#"s.json={"fields":[{"name":"Code","kind":"whole"},{"name":"User","kind":"text"}],"time":{"at":["t"],"form":"seconds"}}§c.yml=title: A¶name: one¶logsource:¶  product: w¶detection:¶  s:¶    Code: 1¶  condition: s¶---¶title: B¶name: two¶logsource:¶  product: w¶detection:¶  s:¶    Code: 2¶  condition: s¶---¶title: ①"#,
+    events: "②",
+};
+
+/// The texts of a field are counted, each once; rules in their order are met by events in theirs; an event is reported by each correlation in
+/// turn; and one that comes too early is as if it hadn't come: the next one isn't taken either.
+const EACH_KIND: &str =
+    r#"Users¶correlation:¶  type: value_count¶  rules: one¶  timespan: 60s¶  condition:¶    field: User¶    gte: 2¶~{"Code":1,"User":"a","t":0}¶{"Code":1,"User":"a","t":1}¶{"Code":1,"User":"b","t":2}¶{"Code":2,"User":"c","t":3}¶{"Code":1,"User":"a","t":61}¶{"Code":1,"User":"a","t":62}¶~0|{"correlation":"Users","line":3,"from":1,"count":2,"group":[]}¶{"correlation":"Users","line":5,"from":3,"count":2,"group":[]}¶|
+Order¶correlation:¶  type: temporal_ordered¶  rules: [one, two]¶  timespan: 60s¶~{"Code":2,"User":"a","t":0}¶{"Code":1,"User":"a","t":1}¶{"Code":2,"User":"a","t":2}¶~0|{"correlation":"Order","line":3,"from":1,"count":3,"group":[]}¶|
+Each¶correlation:¶  type: event_count¶  rules: one¶  timespan: 60s¶  condition:¶    gte: 1¶---¶title: Twice¶correlation:¶  type: event_count¶  rules: one¶  timespan: 60s¶  condition:¶    gte: 2¶~{"Code":1,"User":"a","t":0}¶{"Code":1,"User":"a","t":1}¶~0|{"correlation":"Each","line":1,"from":1,"count":1,"group":[]}¶{"correlation":"Each","line":2,"from":1,"count":2,"group":[]}¶{"correlation":"Twice","line":2,"from":1,"count":2,"group":[]}¶|
+Any¶correlation:¶  type: event_count¶  rules: one¶  timespan: 60s¶  condition:¶    gte: 2¶~{"Code":1,"User":"a","t":61}¶{"Code":1,"User":"a","t":59}¶{"Code":1,"User":"a","t":60}¶{"Code":1,"User":"a","t":61}¶~1|{"correlation":"Any","line":4,"from":1,"count":2,"group":[]}¶|events:2: 145 OutOfOrder 59000000000 61000000000¶events:3: 145 OutOfOrder 60000000000 61000000000¶"#;
+
+#[test]
+fn reports_each_kind(rt: HostRuntime) -> Result<(), Fail> {
+    assert_told(
+        &rt,
+        wrong_row(rt.alloc(), &Limits::standard(), TWO_RULES, EACH_KIND),
+        "",
+    )
 }
 
 const FILES: Scene = Scene {
@@ -104,11 +130,11 @@ const FILES: Scene = Scene {
 /// and a rule that are refused end nothing, and what names the rule isn't bound.
 #[test]
 fn reads_all_files_first(rt: HostRuntime) -> Result<(), Fail> {
-    assert_eq!(rt;
-        told(rt.alloc(), &Limits::standard(), FILES, "", "")?.as_str(),
-        r#"1|{"correlation":"Burst","line":4,"from":2,"count":3,"group":["a"]}¶{"correlation":"Burst","line":5,"from":2,"count":4,"group":["a"]}¶|bad.yml:7:5: 81 UnknownField¶tab.yml:2:1: 8 Tab¶more.yml:1:1: 141 UnknownRule¶events:6: 145 OutOfOrder 59000000000 61000000000¶"#
-    );
-    Ok(())
+    assert_told(
+        &rt,
+        told(rt.alloc(), &Limits::standard(), FILES, "", ""),
+        r#"1|{"correlation":"Burst","line":4,"from":2,"count":3,"group":["a"]}¶{"correlation":"Burst","line":5,"from":2,"count":4,"group":["a"]}¶|bad.yml:7:5: 81 UnknownField¶tab.yml:2:1: 8 Tab¶more.yml:1:1: 141 UnknownRule¶events:6: 145 OutOfOrder 59000000000 61000000000¶"#,
+    )
 }
 
 const PIPED: Scene = Scene {
@@ -125,11 +151,11 @@ transformations:¶  - type: set_state¶~1||p.yml:2:11: 91 UnknownStep set_state�
 /// Pipelines make the rules that are run, and change nothing of correlations. Pipelines that are refused end the command.
 #[test]
 fn correlates_under_pipelines(rt: HostRuntime) -> Result<(), Fail> {
-    assert_eq!(rt;
-        wrong_row(rt.alloc(), &Limits::standard(), PIPED, PIPELINES)?.as_str(),
-        ""
-    );
-    Ok(())
+    assert_told(
+        &rt,
+        wrong_row(rt.alloc(), &Limits::standard(), PIPED, PIPELINES),
+        "",
+    )
 }
 
 const UNREAD: &str = r#"read=115 shelf=1 unread=0~3||sigma: cannot read s.json¶
@@ -141,11 +167,11 @@ read=115 shelf=0 unread=3~3|{"correlation":"Burst","line":4,"from":2,"count":3,"
 /// Each file and each read of the events fails in turn. A read takes the first four lines, and what is behind them.
 #[test]
 fn tells_of_inputs_that_cannot_be_read(rt: HostRuntime) -> Result<(), Fail> {
-    assert_eq!(rt;
-        wrong_row(rt.alloc(), &Limits::standard(), BURST, UNREAD)?.as_str(),
-        ""
-    );
-    Ok(())
+    assert_told(
+        &rt,
+        wrong_row(rt.alloc(), &Limits::standard(), BURST, UNREAD),
+        "",
+    )
 }
 
 const KEPT: &str = r#"piece=20 out=1~4||
@@ -163,11 +189,11 @@ piece=20 err=3~4|{"correlation":"Burst","line":4,"from":2,"count":3,"group":["a"
 /// Each write of the output and of the error output fails in turn, in pieces of 20 bytes.
 #[test]
 fn keeps_reports_before_a_fault(rt: HostRuntime) -> Result<(), Fail> {
-    assert_eq!(rt;
-        wrong_row(rt.alloc(), &Limits::standard(), BURST, KEPT)?.as_str(),
-        ""
-    );
-    Ok(())
+    assert_told(
+        &rt,
+        wrong_row(rt.alloc(), &Limits::standard(), BURST, KEPT),
+        "",
+    )
 }
 
 const EXPRESSION: Scene = Scene {
@@ -185,9 +211,9 @@ const UNBUILT: &str =
 /// A regular expression that the builder refuses: as a value it refuses its document, and else its item.
 #[test]
 fn refuses_expressions(rt: HostRuntime) -> Result<(), Fail> {
-    assert_eq!(rt;
-        wrong_row(rt.alloc(), &Limits::standard(), EXPRESSION, UNBUILT)?.as_str(),
-        ""
-    );
-    Ok(())
+    assert_told(
+        &rt,
+        wrong_row(rt.alloc(), &Limits::standard(), EXPRESSION, UNBUILT),
+        "",
+    )
 }

@@ -1,7 +1,7 @@
 //! Rules cut after each of their bytes.
 
 use crate::pipelines::ENCODED;
-use crate::scenes::{Scene, told};
+use crate::scenes::{Scene, assert_told, told};
 use crate::worlds::{run_in, still};
 use sig_base::Limits;
 use std::alloc::Global;
@@ -41,9 +41,8 @@ fn wrong_front(alloc: Global, rule: &str) -> Result<String, Fail> {
 /// Each cut has a query or a line, but for those of no content, and the status says which.
 #[test]
 fn answers_each_cut(rt: HostRuntime) -> Result<(), Fail> {
-    assert_eq!(rt; wrong_front(rt.alloc(), RULE)?.as_str(), "");
-    assert_eq!(rt; wrong_front(rt.alloc(), ENCODED)?.as_str(), "");
-    Ok(())
+    assert_told(&rt, wrong_front(rt.alloc(), RULE), "")?;
+    assert_told(&rt, wrong_front(rt.alloc(), ENCODED), "")
 }
 
 const CONVERT: Scene = Scene {
@@ -59,13 +58,6 @@ const QUERY: &str =
 #[test]
 fn converts_the_whole(rt: HostRuntime) -> Result<(), Fail> {
     let limits = Limits::standard();
-    assert_eq!(rt;
-        told(rt.alloc(), &limits, CONVERT, RULE, "")?.as_str(),
-        QUERY
-    );
-    assert_eq!(rt;
-        told(rt.alloc(), &limits, CONVERT, ENCODED, "")?.as_str(),
-        QUERY
-    );
-    Ok(())
+    assert_told(&rt, told(rt.alloc(), &limits, CONVERT, RULE, ""), QUERY)?;
+    assert_told(&rt, told(rt.alloc(), &limits, CONVERT, ENCODED, ""), QUERY)
 }

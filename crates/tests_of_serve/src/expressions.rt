@@ -1,6 +1,6 @@
 //! Rules with regular expressions: what is written of them, and where they aren't built.
 
-use crate::scenes::{Scene, told, wrong_row};
+use crate::scenes::{Scene, assert_told, told, wrong_row};
 use sig_base::Limits;
 use std::test::Fail;
 
@@ -20,11 +20,11 @@ A|re: ['a', 'b']~2~1||r.yml:6:17: 48 RegexRefused¶;1||r.yml:6:17: 48 RegexRefus
 
 #[test]
 fn expressions_are_refused(rt: HostRuntime) -> Result<(), Fail> {
-    assert_eq!(rt;
-        wrong_row(rt.alloc(), &Limits::standard(), REFUSALS, REFUSED)?.as_str(),
-        ""
-    );
-    Ok(())
+    assert_told(
+        &rt,
+        wrong_row(rt.alloc(), &Limits::standard(), REFUSALS, REFUSED),
+        "",
+    )
 }
 
 /// The lines of a rule's detection, and its condition, in both languages.
@@ -41,11 +41,11 @@ CommandLine|re|i: 'a+b'~not s~0|SELECT * FROM "events" WHERE NOT ("CommandLine" 
 
 #[test]
 fn expressions_are_converted(rt: HostRuntime) -> Result<(), Fail> {
-    assert_eq!(rt;
-        wrong_row(rt.alloc(), &Limits::standard(), CONVERT, CONVERTED)?.as_str(),
-        ""
-    );
-    Ok(())
+    assert_told(
+        &rt,
+        wrong_row(rt.alloc(), &Limits::standard(), CONVERT, CONVERTED),
+        "",
+    )
 }
 
 const TWO: Scene = Scene {
@@ -58,11 +58,11 @@ const TWO: Scene = Scene {
 /// The first of two documents has a regular expression that isn't built, the second is converted.
 #[test]
 fn another_document_is_converted(rt: HostRuntime) -> Result<(), Fail> {
-    assert_eq!(rt;
-        told(rt.alloc(), &Limits::standard(), TWO, "", "")?.as_str(),
-        r#"1|SELECT * FROM "events" WHERE "B" REGEXP 'b'¶|r.yml:6:11: 48 RegexRefused¶"#
-    );
-    Ok(())
+    assert_told(
+        &rt,
+        told(rt.alloc(), &Limits::standard(), TWO, "", ""),
+        r#"1|SELECT * FROM "events" WHERE "B" REGEXP 'b'¶|r.yml:6:11: 48 RegexRefused¶"#,
+    )
 }
 
 /// A rule and its query, over the same events.
@@ -76,9 +76,9 @@ const FOUND: Scene = Scene {
 /// A rule and its query select the same events.
 #[test]
 fn events_are_found(rt: HostRuntime) -> Result<(), Fail> {
-    assert_eq!(rt;
-        told(rt.alloc(), &Limits::standard(), FOUND, "", "")?.as_str(),
-        r#"0|{"CommandLine":"x AAB"}¶{"CommandLine":"ab\nb"}¶|;0|{"CommandLine":"x AAB"}¶{"CommandLine":"ab\nb"}¶|"#
-    );
-    Ok(())
+    assert_told(
+        &rt,
+        told(rt.alloc(), &Limits::standard(), FOUND, "", ""),
+        r#"0|{"CommandLine":"x AAB"}¶{"CommandLine":"ab\nb"}¶|;0|{"CommandLine":"x AAB"}¶{"CommandLine":"ab\nb"}¶|"#,
+    )
 }

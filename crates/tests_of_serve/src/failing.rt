@@ -1,6 +1,6 @@
 //! Each command where a file, a read of the events or a write fails: each call of each in turn, up to the first run without a fault.
 
-use crate::scenes::columns;
+use crate::scenes::{assert_told, columns};
 use crate::worlds::{Ran, World, run_in, still};
 use sig_base::Limits;
 use std::alloc::Global;
@@ -178,7 +178,6 @@ generate --seed=0 --events=3~~reads none";
 /// Reads take 1 and 10 bytes, and so do writes.
 #[test]
 fn each_call_fails_in_turn(rt: HostRuntime) -> Result<(), Fail> {
-    assert_eq!(rt; wrong_command(rt.alloc(), 10)?.as_str(), "");
-    assert_eq!(rt; wrong_command(rt.alloc(), 1)?.as_str(), "");
-    Ok(())
+    assert_told(&rt, wrong_command(rt.alloc(), 10), "")?;
+    assert_told(&rt, wrong_command(rt.alloc(), 1), "")
 }

@@ -1,6 +1,6 @@
 //! What `generate` writes, and what words it takes.
 
-use crate::scenes::{Scene, told, wrong_among, wrong_row};
+use crate::scenes::{Scene, assert_told, told, wrong_among, wrong_row};
 use sig_base::Limits;
 use std::test::Fail;
 
@@ -22,11 +22,11 @@ generate --seed=7 --events=100000~0|seed 7 events 100000 rule 56160 sqlite 56160
 /// The lines of some numbers, which are the same at each run, whatever can be read and built.
 #[test]
 fn writes_lines(rt: HostRuntime) -> Result<(), Fail> {
-    assert_eq!(rt;
-        wrong_row(rt.alloc(), &Limits::standard(), UNREAD, LINES)?.as_str(),
-        ""
-    );
-    Ok(())
+    assert_told(
+        &rt,
+        wrong_row(rt.alloc(), &Limits::standard(), UNREAD, LINES),
+        "",
+    )
 }
 
 /// Each limit that a comparison has is 1.
@@ -43,18 +43,17 @@ fn least() -> Limits {
 /// The line is that of the standard limits, whatever the limits are.
 #[test]
 fn looks_at_no_limits(rt: HostRuntime) -> Result<(), Fail> {
-    assert_eq!(rt;
+    assert_told(
+        &rt,
         told(
             rt.alloc(),
             &least(),
             UNREAD,
             "generate --seed 0 --events 3",
-            ""
-        )?
-        .as_str(),
-        "0|seed 0 events 3 rule 2 sqlite 2 lucene 2 same¶|"
-    );
-    Ok(())
+            "",
+        ),
+        "0|seed 0 events 3 rule 2 sqlite 2 lucene 2 same¶|",
+    )
 }
 
 const CUT: Scene = Scene {
@@ -71,11 +70,11 @@ const FRONTS: &str = "1~4||
 /// How much of the line stands where each write of 20 bytes fails in turn.
 #[test]
 fn keeps_the_front_of_a_line(rt: HostRuntime) -> Result<(), Fail> {
-    assert_eq!(rt;
-        wrong_row(rt.alloc(), &Limits::standard(), CUT, FRONTS)?.as_str(),
-        ""
-    );
-    Ok(())
+    assert_told(
+        &rt,
+        wrong_row(rt.alloc(), &Limits::standard(), CUT, FRONTS),
+        "",
+    )
 }
 
 const NUMBERS: Scene = Scene {
@@ -104,11 +103,11 @@ a~1~2||sigma: bad usage¶";
 /// Numbers are canonical decimals, of 32 bits and to 100,000, and both are asked for.
 #[test]
 fn takes_canonical_numbers(rt: HostRuntime) -> Result<(), Fail> {
-    assert_eq!(rt;
-        wrong_row(rt.alloc(), &Limits::standard(), NUMBERS, TAKEN)?.as_str(),
-        ""
-    );
-    Ok(())
+    assert_told(
+        &rt,
+        wrong_row(rt.alloc(), &Limits::standard(), NUMBERS, TAKEN),
+        "",
+    )
 }
 
 const OTHERS: &str = "generate
@@ -125,6 +124,5 @@ generates --seed=1 --events=1";
 #[test]
 fn takes_no_other_words(rt: HostRuntime) -> Result<(), Fail> {
     let bad = "2||sigma: bad usage¶";
-    assert_eq!(rt; wrong_among(rt.alloc(), UNREAD, bad, OTHERS)?.as_str(), "");
-    Ok(())
+    assert_told(&rt, wrong_among(rt.alloc(), UNREAD, bad, OTHERS), "")
 }

@@ -1,6 +1,6 @@
 //! Inputs that are deep, long or many.
 
-use crate::scenes::{Scene, columns, output_of, told};
+use crate::scenes::{Scene, assert_told, columns, output_of, told};
 use sig_base::Limits;
 use std::alloc::Global;
 use std::test::Fail;
@@ -46,19 +46,21 @@ fn denied(alloc: Global) -> Result<String, Fail> {
 fn refuses_rules_past_limits(rt: HostRuntime) -> Result<(), Fail> {
     let alloc = rt.alloc();
     let limits = Limits::standard();
-    assert_eq!(rt;
-        told(alloc, &limits, RULE, &nested(alloc)?, "s")?.as_str(),
-        "1||r.yml:6:37: 6 TooDeep¶;1||r.yml:6:37: 6 TooDeep¶;1||r.yml:6:37: 6 TooDeep¶"
-    );
-    assert_eq!(rt;
-        told(alloc, &limits, RULE, &list_of(alloc, "A", 4097)?, "s")?.as_str(),
-        "1||r.yml:6:5: 79 TooManyValues¶;1||r.yml:6:5: 79 TooManyValues¶;1||r.yml:6:5: 79 TooManyValues¶"
-    );
-    assert_eq!(rt;
-        told(alloc, &limits, RULE, "A: x", &denied(alloc)?)?.as_str(),
-        "1||r.yml:7:14: 62 ConditionDepth¶;1||r.yml:7:14: 62 ConditionDepth¶;1||r.yml:7:14: 62 ConditionDepth¶"
-    );
-    Ok(())
+    assert_told(
+        &rt,
+        told(alloc, &limits, RULE, &nested(alloc)?, "s"),
+        "1||r.yml:6:37: 6 TooDeep¶;1||r.yml:6:37: 6 TooDeep¶;1||r.yml:6:37: 6 TooDeep¶",
+    )?;
+    assert_told(
+        &rt,
+        told(alloc, &limits, RULE, &list_of(alloc, "A", 4097)?, "s"),
+        "1||r.yml:6:5: 79 TooManyValues¶;1||r.yml:6:5: 79 TooManyValues¶;1||r.yml:6:5: 79 TooManyValues¶",
+    )?;
+    assert_told(
+        &rt,
+        told(alloc, &limits, RULE, "A: x", &denied(alloc)?),
+        "1||r.yml:7:14: 62 ConditionDepth¶;1||r.yml:7:14: 62 ConditionDepth¶;1||r.yml:7:14: 62 ConditionDepth¶",
+    )
 }
 
 /// A rule's item, and a world.
@@ -128,20 +130,21 @@ fn longest_asked(alloc: Global) -> Result<String, Fail> {
 #[test]
 fn converts_the_longest_list(rt: HostRuntime) -> Result<(), Fail> {
     let alloc = rt.alloc();
-    assert_eq!(rt;
-        of_longest(alloc, &depth_71(), "")?.as_str(),
-        "1||r.yml:1:1: 112 QueryTooDeep 72 71¶"
-    );
+    assert_told(
+        &rt,
+        of_longest(alloc, &depth_71(), ""),
+        "1||r.yml:1:1: 112 QueryTooDeep 72 71¶",
+    )?;
     assert!(rt;
         of_longest(alloc, &depth_72(), "room=262144")?
             .as_str()
             .starts_with("0|")
     );
-    assert_eq!(rt;
-        longest_asked(alloc)?.as_str(),
-        r#"1|{"A":"x"}¶|events:1: 25 EventJson¶"#
-    );
-    Ok(())
+    assert_told(
+        &rt,
+        longest_asked(alloc),
+        r#"1|{"A":"x"}¶|events:1: 25 EventJson¶"#,
+    )
 }
 
 /// Queries of SQL of a depth of at most 69, of at most 1,999 leaves.
@@ -166,14 +169,16 @@ fn of_two_thousand(
 #[test]
 fn counts_two_thousand_texts(rt: HostRuntime) -> Result<(), Fail> {
     let alloc = rt.alloc();
-    assert_eq!(rt;
-        of_two_thousand(alloc, &Limits::standard(), LUCENE, "")?.as_str(),
-        "1||r.yml:1:1: 113 TooManyClauses 2000 1024¶"
-    );
-    assert_eq!(rt;
-        of_two_thousand(alloc, &depth_69(), SQLITE, "")?.as_str(),
-        "1||r.yml:1:1: 112 QueryTooDeep 70 69¶"
-    );
+    assert_told(
+        &rt,
+        of_two_thousand(alloc, &Limits::standard(), LUCENE, ""),
+        "1||r.yml:1:1: 113 TooManyClauses 2000 1024¶",
+    )?;
+    assert_told(
+        &rt,
+        of_two_thousand(alloc, &depth_69(), SQLITE, ""),
+        "1||r.yml:1:1: 112 QueryTooDeep 70 69¶",
+    )?;
     let written = of_two_thousand(alloc, &depth_70(), SQLITE, "room=262144")?;
     assert!(rt; written.as_str().starts_with("0|"));
     Ok(())
@@ -185,15 +190,16 @@ const TOO_MANY: &str = "1||r.yml:1:1: 110 TooManyLeaves 2000 1999¶";
 #[test]
 fn counts_one_text_too_many(rt: HostRuntime) -> Result<(), Fail> {
     let alloc = rt.alloc();
-    assert_eq!(rt;
-        of_two_thousand(alloc, &few_leaves(), SQLITE, "")?.as_str(),
-        TOO_MANY
-    );
-    assert_eq!(rt;
-        of_two_thousand(alloc, &few_leaves(), LUCENE, "")?.as_str(),
-        TOO_MANY
-    );
-    Ok(())
+    assert_told(
+        &rt,
+        of_two_thousand(alloc, &few_leaves(), SQLITE, ""),
+        TOO_MANY,
+    )?;
+    assert_told(
+        &rt,
+        of_two_thousand(alloc, &few_leaves(), LUCENE, ""),
+        TOO_MANY,
+    )
 }
 
 const NOTS: Scene = Scene {
@@ -232,6 +238,5 @@ fn wrong_count(alloc: Global, table: &'static str) -> Result<String, Fail> {
 /// 998 words NOT before a test of depth 2 are read. With one more the expression is too deep, and 1,001 are refused as such.
 #[test]
 fn reads_so_many_words_not(rt: HostRuntime) -> Result<(), Fail> {
-    assert_eq!(rt; wrong_count(rt.alloc(), COUNTS)?.as_str(), "");
-    Ok(())
+    assert_told(&rt, wrong_count(rt.alloc(), COUNTS), "")
 }

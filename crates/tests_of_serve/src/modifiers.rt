@@ -1,6 +1,6 @@
 //! Rules with values that are encoded, with dashes, with networks, and that are compared with numbers and with other fields.
 
-use crate::scenes::{Scene, told, wrong_row};
+use crate::scenes::{Scene, assert_told, told, wrong_row};
 use sig_base::Limits;
 use std::alloc::Global;
 use std::test::Fail;
@@ -51,11 +51,11 @@ Parent|fieldref: parent~1||r.yml:6:5: 80 KindConflict¶"#;
 
 #[test]
 fn items_are_converted(rt: HostRuntime) -> Result<(), Fail> {
-    assert_eq!(rt;
-        wrong_row(rt.alloc(), &Limits::standard(), SQLITE, ROWS)?.as_str(),
-        ""
-    );
-    Ok(())
+    assert_told(
+        &rt,
+        wrong_row(rt.alloc(), &Limits::standard(), SQLITE, ROWS),
+        "",
+    )
 }
 
 const LUCENE_ROWS: &str = "Code|gt: 5~0|Code:{5 TO *]¶|
@@ -66,11 +66,11 @@ Parent|fieldref: Image~1||r.yml:6:5: 111 Lacks FieldRef¶";
 
 #[test]
 fn items_are_converted_to_lucene(rt: HostRuntime) -> Result<(), Fail> {
-    assert_eq!(rt;
-        wrong_row(rt.alloc(), &Limits::standard(), LUCENE, LUCENE_ROWS)?.as_str(),
-        ""
-    );
-    Ok(())
+    assert_told(
+        &rt,
+        wrong_row(rt.alloc(), &Limits::standard(), LUCENE, LUCENE_ROWS),
+        "",
+    )
 }
 
 /// Two items: a field of two kinds, and a text that is compared with a number.
@@ -79,11 +79,11 @@ A|gt: 1¶    B|fieldref: A~1||r.yml:7:5: 82 KindMismatch¶";
 
 #[test]
 fn kinds_clash(rt: HostRuntime) -> Result<(), Fail> {
-    assert_eq!(rt;
-        wrong_row(rt.alloc(), &Limits::standard(), SQLITE, CLASHES)?.as_str(),
-        ""
-    );
-    Ok(())
+    assert_told(
+        &rt,
+        wrong_row(rt.alloc(), &Limits::standard(), SQLITE, CLASHES),
+        "",
+    )
 }
 
 const NEGATED: Scene = Scene {
@@ -100,11 +100,11 @@ Parent|fieldref: Image~0|SELECT * FROM "events" WHERE NOT ("Parent" IS NOT NULL 
 /// Under `not` each column has to have a value where a test of it is to hold.
 #[test]
 fn comparisons_are_negated(rt: HostRuntime) -> Result<(), Fail> {
-    assert_eq!(rt;
-        wrong_row(rt.alloc(), &Limits::standard(), NEGATED, NEGATIONS)?.as_str(),
-        ""
-    );
-    Ok(())
+    assert_told(
+        &rt,
+        wrong_row(rt.alloc(), &Limits::standard(), NEGATED, NEGATIONS),
+        "",
+    )
 }
 
 /// Each two dashes, the first of them varying slowest.
@@ -115,15 +115,16 @@ const DASHES: &str =
 fn dashes_are_chosen(rt: HostRuntime) -> Result<(), Fail> {
     let alloc = rt.alloc();
     let limits = Limits::standard();
-    assert_eq!(rt;
-        told(alloc, &limits, SQLITE, "A|windash|contains: ' -a /b'", "")?.as_str(),
-        DASHES
-    );
-    assert_eq!(rt;
-        told(alloc, &limits, LUCENE, "A|windash: -a", "")?.as_str(),
-        r"0|A:\-a OR A:\/a OR A:–a OR A:—a OR A:―a¶|"
-    );
-    Ok(())
+    assert_told(
+        &rt,
+        told(alloc, &limits, SQLITE, "A|windash|contains: ' -a /b'", ""),
+        DASHES,
+    )?;
+    assert_told(
+        &rt,
+        told(alloc, &limits, LUCENE, "A|windash: -a", ""),
+        r"0|A:\-a OR A:\/a OR A:–a OR A:—a OR A:―a¶|",
+    )
 }
 
 /// What stands before an octet's pattern, in a list of 128 that is written in halves.
@@ -153,19 +154,22 @@ fn halved(alloc: Global) -> Result<String, Fail> {
 fn networks_are_chosen(rt: HostRuntime) -> Result<(), Fail> {
     let alloc = rt.alloc();
     let limits = Limits::standard();
-    assert_eq!(rt;
-        told(alloc, &limits, SQLITE, "A|cidr: 0.0.0.0/1", "")?.as_str(),
-        halved(alloc)?.as_str()
-    );
-    assert_eq!(rt;
-        told(alloc, &limits, LUCENE, "A|cidr: 10.0.0.0/7", "")?.as_str(),
-        "0|A:10.* OR A:11.*¶|"
-    );
-    assert_eq!(rt;
-        told(alloc, &limits, NEGATED, "A|cidr: 10.0.0.0/8", "")?.as_str(),
-        r#"0|SELECT * FROM "events" WHERE NOT ("A" IS NOT NULL AND "A" LIKE '10.%' ESCAPE '\')¶|"#
-    );
-    Ok(())
+    let halved = halved(alloc)?;
+    assert_told(
+        &rt,
+        told(alloc, &limits, SQLITE, "A|cidr: 0.0.0.0/1", ""),
+        halved.as_str(),
+    )?;
+    assert_told(
+        &rt,
+        told(alloc, &limits, LUCENE, "A|cidr: 10.0.0.0/7", ""),
+        "0|A:10.* OR A:11.*¶|",
+    )?;
+    assert_told(
+        &rt,
+        told(alloc, &limits, NEGATED, "A|cidr: 10.0.0.0/8", ""),
+        r#"0|SELECT * FROM "events" WHERE NOT ("A" IS NOT NULL AND "A" LIKE '10.%' ESCAPE '\')¶|"#,
+    )
 }
 
 const DASHED: Scene = Scene {
@@ -177,11 +181,11 @@ const DASHED: Scene = Scene {
 
 #[test]
 fn dashes_are_matched(rt: HostRuntime) -> Result<(), Fail> {
-    assert_eq!(rt;
-        told(rt.alloc(), &Limits::standard(), DASHED, "", "")?.as_str(),
-        r#"0|{"A":"x –A /B"}¶{"A":" /a ―b "}¶|"#
-    );
-    Ok(())
+    assert_told(
+        &rt,
+        told(rt.alloc(), &Limits::standard(), DASHED, "", ""),
+        r#"0|{"A":"x –A /B"}¶{"A":" /a ―b "}¶|"#,
+    )
 }
 
 const ADDRESSES: Scene = Scene {
@@ -194,11 +198,11 @@ const ADDRESSES: Scene = Scene {
 /// Without a schema the field is one of addresses, so that what begins as one and is none isn't read.
 #[test]
 fn addresses_are_matched(rt: HostRuntime) -> Result<(), Fail> {
-    assert_eq!(rt;
-        told(rt.alloc(), &Limits::standard(), ADDRESSES, "", "")?.as_str(),
-        r#"1|{"A":"10.1.2.3"}¶{"A":"10.255.255.255"}¶|events:2: 26 EventKind¶"#
-    );
-    Ok(())
+    assert_told(
+        &rt,
+        told(rt.alloc(), &Limits::standard(), ADDRESSES, "", ""),
+        r#"1|{"A":"10.1.2.3"}¶{"A":"10.255.255.255"}¶|events:2: 26 EventKind¶"#,
+    )
 }
 
 /// A schema, and the lines of a rule's detection.
@@ -216,11 +220,11 @@ const FIELDS: &str =
 
 #[test]
 fn networks_need_fields_of_addresses(rt: HostRuntime) -> Result<(), Fail> {
-    assert_eq!(rt;
-        wrong_row(rt.alloc(), &Limits::standard(), UNDER, FIELDS)?.as_str(),
-        ""
-    );
-    Ok(())
+    assert_told(
+        &rt,
+        wrong_row(rt.alloc(), &Limits::standard(), UNDER, FIELDS),
+        "",
+    )
 }
 
 const PLACEHOLDERS: Scene = Scene {
@@ -240,13 +244,6 @@ const OPEN_UNDER: &str =
 #[test]
 fn placeholders_stand_open(rt: HostRuntime) -> Result<(), Fail> {
     let limits = Limits::standard();
-    assert_eq!(rt;
-        wrong_row(rt.alloc(), &limits, PLACEHOLDERS, OPEN)?.as_str(),
-        ""
-    );
-    assert_eq!(rt;
-        wrong_row(rt.alloc(), &limits, UNDER, OPEN_UNDER)?.as_str(),
-        ""
-    );
-    Ok(())
+    assert_told(&rt, wrong_row(rt.alloc(), &limits, PLACEHOLDERS, OPEN), "")?;
+    assert_told(&rt, wrong_row(rt.alloc(), &limits, UNDER, OPEN_UNDER), "")
 }

@@ -1,6 +1,6 @@
 //! `convert` and `run` under a file of pipelines.
 
-use crate::scenes::{Scene, columns, told, wrong_row};
+use crate::scenes::{Scene, assert_told, columns, told, wrong_row};
 use sig_base::Limits;
 use std::alloc::Global;
 use std::test::Fail;
@@ -102,10 +102,9 @@ finalizers: []~X: 1~p.yml:1:1: 91 UnknownStep finalizers
 
 #[test]
 fn rules_are_made(rt: HostRuntime) -> Result<(), Fail> {
-    assert_eq!(rt; first_wrong(rt.alloc(), MADE, NAMES)?.as_str(), "");
-    assert_eq!(rt; first_wrong(rt.alloc(), MADE, VALUES)?.as_str(), "");
-    assert_eq!(rt; first_wrong(rt.alloc(), MADE, REFUSED)?.as_str(), "");
-    Ok(())
+    assert_told(&rt, first_wrong(rt.alloc(), MADE, NAMES), "")?;
+    assert_told(&rt, first_wrong(rt.alloc(), MADE, VALUES), "")?;
+    assert_told(&rt, first_wrong(rt.alloc(), MADE, REFUSED), "")
 }
 
 /// Under a schema: what the pipelines refuse comes before what it hasn't.
@@ -119,9 +118,7 @@ const UNDER: &str =
 
 #[test]
 fn rules_are_made_under_a_schema(rt: HostRuntime) -> Result<(), Fail> {
-    let wrong = first_wrong(rt.alloc(), MADE_UNDER, UNDER)?;
-    assert_eq!(rt; wrong.as_str(), "");
-    Ok(())
+    assert_told(&rt, first_wrong(rt.alloc(), MADE_UNDER, UNDER), "")
 }
 
 pub const ENCODED: &str =
@@ -143,11 +140,11 @@ const ENCODED_TOLD: &str =
 /// A rule as they stand in collections, and the names of the Elastic Common Schema.
 #[test]
 fn a_whole_rule_is_made(rt: HostRuntime) -> Result<(), Fail> {
-    assert_eq!(rt;
-        told(rt.alloc(), &Limits::standard(), WHOLE, ECS, ENCODED)?.as_str(),
-        ENCODED_TOLD
-    );
-    Ok(())
+    assert_told(
+        &rt,
+        told(rt.alloc(), &Limits::standard(), WHOLE, ECS, ENCODED),
+        ENCODED_TOLD,
+    )
 }
 
 const DOCUMENTS: Scene = Scene {
@@ -160,11 +157,11 @@ const DOCUMENTS: Scene = Scene {
 /// Each document of a rule file for itself: a correlation, a rule that is made, one that the pipelines refuse, and what is no rule.
 #[test]
 fn each_document_is_answered(rt: HostRuntime) -> Result<(), Fail> {
-    assert_eq!(rt;
-        told(rt.alloc(), &Limits::standard(), DOCUMENTS, "", "")?.as_str(),
-        r#"1|SELECT * FROM "events" WHERE "l.X" = '1' COLLATE NOCASE¶|r.yml:1:1: 146 CorrelationHere¶r.yml:12:1: 95 RuleFailure no¶r.yml:24:6: 77 EmptyDetection¶r.yml:27:1: 4 Syntax¶"#
-    );
-    Ok(())
+    assert_told(
+        &rt,
+        told(rt.alloc(), &Limits::standard(), DOCUMENTS, "", ""),
+        r#"1|SELECT * FROM "events" WHERE "l.X" = '1' COLLATE NOCASE¶|r.yml:1:1: 146 CorrelationHere¶r.yml:12:1: 95 RuleFailure no¶r.yml:24:6: 77 EmptyDetection¶r.yml:27:1: 4 Syntax¶"#,
+    )
 }
 
 /// Pipelines add a regular expression, and the rule has another.
@@ -190,11 +187,11 @@ unread=1 unbuilt=4~run --pipeline p.yml r.yml~1||r.yml:1:1: 48 RegexRefused¶"#;
 
 #[test]
 fn added_expressions_are_built(rt: HostRuntime) -> Result<(), Fail> {
-    assert_eq!(rt;
-        wrong_row(rt.alloc(), &Limits::standard(), EXPRESSIONS, UNBUILT)?.as_str(),
-        ""
-    );
-    Ok(())
+    assert_told(
+        &rt,
+        wrong_row(rt.alloc(), &Limits::standard(), EXPRESSIONS, UNBUILT),
+        "",
+    )
 }
 
 const PROCESSES: Scene = Scene {
@@ -207,11 +204,11 @@ const PROCESSES: Scene = Scene {
 /// Events are read by the names that the pipelines make.
 #[test]
 fn events_are_selected_by_mapped_names(rt: HostRuntime) -> Result<(), Fail> {
-    assert_eq!(rt;
-        told(rt.alloc(), &Limits::standard(), PROCESSES, "", "")?.as_str(),
-        r#"0|{"process.executable":"CMD.EXE"}¶|;0|{"process":{"executable":"cmd.exe"}}¶|"#
-    );
-    Ok(())
+    assert_told(
+        &rt,
+        told(rt.alloc(), &Limits::standard(), PROCESSES, "", ""),
+        r#"0|{"process.executable":"CMD.EXE"}¶|;0|{"process":{"executable":"cmd.exe"}}¶|"#,
+    )
 }
 
 const UNREAD: Scene = Scene {
@@ -231,11 +228,11 @@ const NOT_RUN: &str = "transformations: 7~X: 1~1||p.yml:1:18: 90 PipelineShape¶
 /// What isn't run ends the run, and no event is read: the first read would fail.
 #[test]
 fn no_event_is_read_behind_a_refusal(rt: HostRuntime) -> Result<(), Fail> {
-    assert_eq!(rt;
-        wrong_row(rt.alloc(), &Limits::standard(), UNREAD, NOT_RUN)?.as_str(),
-        ""
-    );
-    Ok(())
+    assert_told(
+        &rt,
+        wrong_row(rt.alloc(), &Limits::standard(), UNREAD, NOT_RUN),
+        "",
+    )
 }
 
 const PIPELINES: Scene = Scene {
@@ -263,11 +260,11 @@ fn small() -> Limits {
 /// A file of pipelines that is refused as a whole, or of which documents are: no rule file is read, since none is there.
 #[test]
 fn no_rule_is_read_behind_refused_pipelines(rt: HostRuntime) -> Result<(), Fail> {
-    assert_eq!(rt;
-        wrong_row(rt.alloc(), &small(), PIPELINES, NO_RULES)?.as_str(),
-        ""
-    );
-    Ok(())
+    assert_told(
+        &rt,
+        wrong_row(rt.alloc(), &small(), PIPELINES, NO_RULES),
+        "",
+    )
 }
 
 /// Which call of the shelf fails, and the files behind the name of the schema's.
@@ -303,8 +300,7 @@ fn wrong_order(alloc: Global, table: &'static str) -> Result<String, Fail> {
 /// The schema is read before the pipelines, and these before the rules.
 #[test]
 fn files_are_read_in_their_order(rt: HostRuntime) -> Result<(), Fail> {
-    assert_eq!(rt; wrong_order(rt.alloc(), ORDERS)?.as_str(), "");
-    Ok(())
+    assert_told(&rt, wrong_order(rt.alloc(), ORDERS), "")
 }
 
 const NO_PIPELINES: Scene = Scene {
@@ -316,11 +312,11 @@ const NO_PIPELINES: Scene = Scene {
 
 #[test]
 fn a_missing_file_is_told_of(rt: HostRuntime) -> Result<(), Fail> {
-    assert_eq!(rt;
-        told(rt.alloc(), &Limits::standard(), NO_PIPELINES, ENCODED, "")?.as_str(),
-        "3||sigma: cannot read p.yml¶;3||sigma: cannot read p.yml¶;3||sigma: cannot read p.yml¶"
-    );
-    Ok(())
+    assert_told(
+        &rt,
+        told(rt.alloc(), &Limits::standard(), NO_PIPELINES, ENCODED, ""),
+        "3||sigma: cannot read p.yml¶;3||sigma: cannot read p.yml¶;3||sigma: cannot read p.yml¶",
+    )
 }
 
 const TWO_REFUSED: Scene = Scene {
@@ -339,11 +335,11 @@ const FRONTS: &str = "1~4||
 /// A write of the refusals fails: what stands is a front.
 #[test]
 fn refusals_stand_before_a_write_that_fails(rt: HostRuntime) -> Result<(), Fail> {
-    assert_eq!(rt;
-        wrong_row(rt.alloc(), &Limits::standard(), TWO_REFUSED, FRONTS)?.as_str(),
-        ""
-    );
-    Ok(())
+    assert_told(
+        &rt,
+        wrong_row(rt.alloc(), &Limits::standard(), TWO_REFUSED, FRONTS),
+        "",
+    )
 }
 
 const OTHERS: Scene = Scene {
@@ -356,9 +352,9 @@ const OTHERS: Scene = Scene {
 /// The option twice, without a value, without a rule, and where a command has none.
 #[test]
 fn no_other_words_are_accepted(rt: HostRuntime) -> Result<(), Fail> {
-    assert_eq!(rt;
-        told(rt.alloc(), &Limits::standard(), OTHERS, ECS, ENCODED)?.as_str(),
-        "2||sigma: bad usage¶;2||sigma: bad usage¶;2||sigma: bad usage¶;2||sigma: bad usage¶;2||sigma: bad usage¶;2||sigma: bad usage¶;2||sigma: bad usage¶"
-    );
-    Ok(())
+    assert_told(
+        &rt,
+        told(rt.alloc(), &Limits::standard(), OTHERS, ECS, ENCODED),
+        "2||sigma: bad usage¶;2||sigma: bad usage¶;2||sigma: bad usage¶;2||sigma: bad usage¶;2||sigma: bad usage¶;2||sigma: bad usage¶;2||sigma: bad usage¶",
+    )
 }

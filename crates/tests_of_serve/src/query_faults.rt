@@ -1,6 +1,6 @@
 //! What stands of `query` where a shelf, a source or a sink fails.
 
-use crate::scenes::{Scene, wrong_row};
+use crate::scenes::{Scene, assert_told, wrong_row};
 use sig_base::Limits;
 use std::test::Fail;
 
@@ -28,11 +28,11 @@ shelf=0 unread=1~s.json other~3||sigma: cannot read other¶";
 /// Some call of the shelf fails, or a file isn't there: no event is read.
 #[test]
 fn tells_of_files_that_cannot_be_read(rt: HostRuntime) -> Result<(), Fail> {
-    assert_eq!(rt;
-        wrong_row(rt.alloc(), &Limits::standard(), TWO, UNREAD)?.as_str(),
-        ""
-    );
-    Ok(())
+    assert_told(
+        &rt,
+        wrong_row(rt.alloc(), &Limits::standard(), TWO, UNREAD),
+        "",
+    )
 }
 
 const REFUSED: &str = "shelf=2 unread=1~none.json q~1||none.json:1:1: 20 SchemaJson¶
@@ -42,11 +42,11 @@ shelf=0 unread=1~s.json bad~1||bad:1:7: 120 SqlSyntax¶";
 /// Behind a schema or a query that is refused nothing is read: neither the query nor the events, which couldn't be.
 #[test]
 fn reads_nothing_behind_what_is_refused(rt: HostRuntime) -> Result<(), Fail> {
-    assert_eq!(rt;
-        wrong_row(rt.alloc(), &Limits::standard(), TWO, REFUSED)?.as_str(),
-        ""
-    );
-    Ok(())
+    assert_told(
+        &rt,
+        wrong_row(rt.alloc(), &Limits::standard(), TWO, REFUSED),
+        "",
+    )
 }
 
 const READS: &str = r#"read=8 unread=1~s.json q~3||sigma: cannot read events¶
@@ -62,11 +62,11 @@ read=8 unread=8~s.json q~1|{"Image":"CMD.EXE"}¶{"Image":"cmd.exe"}¶|events:2: 
 /// Some read of the events fails: what stands belongs to the lines whose line feed had come.
 #[test]
 fn stands_before_a_read_that_fails(rt: HostRuntime) -> Result<(), Fail> {
-    assert_eq!(rt;
-        wrong_row(rt.alloc(), &Limits::standard(), THREE, READS)?.as_str(),
-        ""
-    );
-    Ok(())
+    assert_told(
+        &rt,
+        wrong_row(rt.alloc(), &Limits::standard(), THREE, READS),
+        "",
+    )
 }
 
 const WRITES: &str = r#"piece=10 out=1~s.json q~4||
@@ -77,11 +77,11 @@ piece=10 out=4~s.json q~4|{"Image":"CMD.EXE"}¶{"Image":"|"#;
 /// A write of the output that fails ends the run: what stands is a front.
 #[test]
 fn stands_before_a_write_that_fails(rt: HostRuntime) -> Result<(), Fail> {
-    assert_eq!(rt;
-        wrong_row(rt.alloc(), &Limits::standard(), TWO, WRITES)?.as_str(),
-        ""
-    );
-    Ok(())
+    assert_told(
+        &rt,
+        wrong_row(rt.alloc(), &Limits::standard(), TWO, WRITES),
+        "",
+    )
 }
 
 const DIAGNOSTICS: &str = r#"piece=10 err=1~s.json bad~4||
@@ -93,9 +93,9 @@ read=8 unread=4 piece=10 err=5~s.json q~4|{"Image":"CMD.EXE"}¶|events:2: 25 Eve
 /// A diagnostic that can't be written wholly: of a query, of a line, of a file and of the events.
 #[test]
 fn stands_before_a_diagnostic_that_fails(rt: HostRuntime) -> Result<(), Fail> {
-    assert_eq!(rt;
-        wrong_row(rt.alloc(), &Limits::standard(), THREE, DIAGNOSTICS)?.as_str(),
-        ""
-    );
-    Ok(())
+    assert_told(
+        &rt,
+        wrong_row(rt.alloc(), &Limits::standard(), THREE, DIAGNOSTICS),
+        "",
+    )
 }

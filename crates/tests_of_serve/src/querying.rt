@@ -1,6 +1,6 @@
 //! `query`: the events that a query selects.
 
-use crate::scenes::{Scene, output_of, told, wrong_row};
+use crate::scenes::{Scene, assert_told, output_of, told, wrong_row};
 use sig_base::Limits;
 use std::alloc::Global;
 use std::test::Fail;
@@ -111,9 +111,11 @@ xxxxxxxx NOT ("Image" = 'x' AND 0)
 /// Unknown, which a column without a value gives, behind NOT, AND and OR; names and texts by case; lists and ranges.
 #[test]
 fn sql_has_three_values(rt: HostRuntime) -> Result<(), Fail> {
-    let wrong = first_unselected(rt.alloc(), SQLITE, SELECT, VALUES)?;
-    assert_eq!(rt; wrong.as_str(), "");
-    Ok(())
+    assert_told(
+        &rt,
+        first_unselected(rt.alloc(), SQLITE, SELECT, VALUES),
+        "",
+    )
 }
 
 const PATTERNS: &str = r#"--xxxxxx "Image" LIKE '%'
@@ -138,9 +140,11 @@ const PATTERNS: &str = r#"--xxxxxx "Image" LIKE '%'
 /// Patterns of each kind, and what makes a wildcard plain; on a number they look at its decimal.
 #[test]
 fn sql_has_patterns(rt: HostRuntime) -> Result<(), Fail> {
-    let wrong = first_unselected(rt.alloc(), SQLITE, SELECT, PATTERNS)?;
-    assert_eq!(rt; wrong.as_str(), "");
-    Ok(())
+    assert_told(
+        &rt,
+        first_unselected(rt.alloc(), SQLITE, SELECT, PATTERNS),
+        "",
+    )
 }
 
 const CLAUSES: &str = r#"xxxxxxxx *:*
@@ -160,9 +164,7 @@ xx------ Tags:* OR (*:* AND NOT Id:* AND NOT Image:* AND NOT Id:\-3)"#;
 /// Clauses with NOT alone and beside `*:*`, the empty text, letters of either case, numbers and their ranges.
 #[test]
 fn lucene_has_clauses(rt: HostRuntime) -> Result<(), Fail> {
-    let wrong = first_unselected(rt.alloc(), LUCENE, "", CLAUSES)?;
-    assert_eq!(rt; wrong.as_str(), "");
-    Ok(())
+    assert_told(&rt, first_unselected(rt.alloc(), LUCENE, "", CLAUSES), "")
 }
 
 const WHOLE: &str = r#"1: 121 SqlOutside ~ x
@@ -189,11 +191,12 @@ const CONDITIONS: &str = r#"30: 121 SqlOutside ~ Image = 'a'
 /// A query of SQL that is refused ends the run with its one line, at the place of its first cause.
 #[test]
 fn sql_is_refused(rt: HostRuntime) -> Result<(), Fail> {
-    let wrong = first_untold(rt.alloc(), SQLITE, "", WHOLE, "0")?;
-    assert_eq!(rt; wrong.as_str(), "");
-    let wrong = first_untold(rt.alloc(), SQLITE, SELECT, CONDITIONS, "0")?;
-    assert_eq!(rt; wrong.as_str(), "");
-    Ok(())
+    assert_told(&rt, first_untold(rt.alloc(), SQLITE, "", WHOLE, "0"), "")?;
+    assert_told(
+        &rt,
+        first_untold(rt.alloc(), SQLITE, SELECT, CONDITIONS, "0"),
+        "",
+    )
 }
 
 const BUILT_FIRST: &str = r#"45: 48 RegexRefused ~ "Image" REGEXP 'a'
@@ -208,18 +211,22 @@ const UNBUILT: &str = r#"0|{"n":6,"Image":"a_b%","Id":0}¶{"n":7,"Image":"axb[*"
 #[test]
 fn sql_is_refused_by_the_builder(rt: HostRuntime) -> Result<(), Fail> {
     let alloc = rt.alloc();
-    assert_eq!(rt;
-        first_untold(alloc, SQLITE, SELECT, BUILT_FIRST, "1")?.as_str(),
-        ""
-    );
-    assert_eq!(rt;
-        first_untold(alloc, SQLITE, SELECT, BUILT_SECOND, "2")?.as_str(),
-        ""
-    );
+    assert_told(
+        &rt,
+        first_untold(alloc, SQLITE, SELECT, BUILT_FIRST, "1"),
+        "",
+    )?;
+    assert_told(
+        &rt,
+        first_untold(alloc, SQLITE, SELECT, BUILT_SECOND, "2"),
+        "",
+    )?;
     let query = "SELECT * FROM \"events\" WHERE \"Image\" REGEXP 'b'";
-    let ran = told(alloc, &Limits::standard(), SQLITE, query, "2")?;
-    assert_eq!(rt; ran.as_str(), UNBUILT);
-    Ok(())
+    assert_told(
+        &rt,
+        told(alloc, &Limits::standard(), SQLITE, query, "2"),
+        UNBUILT,
+    )
 }
 
 const LUCENE_REFUSED: &str = "20: 134 LuceneMixed ~ Image:1 AND Tags:2 OR Image:3
@@ -231,9 +238,11 @@ const LUCENE_REFUSED: &str = "20: 134 LuceneMixed ~ Image:1 AND Tags:2 OR Image:
 /// A query of Lucene that is refused; a regular expression of SQL isn't built for it.
 #[test]
 fn lucene_is_refused(rt: HostRuntime) -> Result<(), Fail> {
-    let wrong = first_untold(rt.alloc(), LUCENE, "", LUCENE_REFUSED, "1")?;
-    assert_eq!(rt; wrong.as_str(), "");
-    Ok(())
+    assert_told(
+        &rt,
+        first_untold(rt.alloc(), LUCENE, "", LUCENE_REFUSED, "1"),
+        "",
+    )
 }
 
 /// Queries of at most 3 bytes, and of a depth of at most 2.
@@ -271,23 +280,20 @@ const SMALL_SQLITE: &str = "((()~0~1||q:1:1: 124 SqlDepth¶
 fn files_of_queries_have_limits(rt: HostRuntime) -> Result<(), Fail> {
     let alloc = rt.alloc();
     let small = small_queries();
-    assert_eq!(rt;
-        wrong_row(alloc, &small, LUCENE, SMALL_LUCENE)?.as_str(),
-        ""
-    );
-    assert_eq!(rt;
-        wrong_row(alloc, &small, SQLITE, SMALL_SQLITE)?.as_str(),
-        ""
-    );
+    assert_told(&rt, wrong_row(alloc, &small, LUCENE, SMALL_LUCENE), "")?;
+    assert_told(&rt, wrong_row(alloc, &small, SQLITE, SMALL_SQLITE), "")?;
     let query = "SELECT * FROM \"events\"¶WHERE NOT 1¶";
-    assert_eq!(rt;
-        told(alloc, &longer_queries(), SQLITE, query, "0")?.as_str(),
-        "0||"
-    );
+    assert_told(
+        &rt,
+        told(alloc, &longer_queries(), SQLITE, query, "0"),
+        "0||",
+    )?;
     let query = "SELECT * FROM \"events\"¶WHERE NOT¶NOT 0";
-    let ran = told(alloc, &long_queries(), SQLITE, query, "0")?;
-    assert_eq!(rt; ran.as_str(), "1||q:1:1: 124 SqlDepth¶");
-    Ok(())
+    assert_told(
+        &rt,
+        told(alloc, &long_queries(), SQLITE, query, "0"),
+        "1||q:1:1: 124 SqlDepth¶",
+    )
 }
 
 const BYTES: Scene = Scene {
@@ -311,11 +317,11 @@ fn short_queries() -> Limits {
 /// Bytes that aren't UTF-8 are no query, unless they're too many.
 #[test]
 fn bytes_are_no_queries(rt: HostRuntime) -> Result<(), Fail> {
-    assert_eq!(rt;
-        wrong_row(rt.alloc(), &short_queries(), BYTES, NO_TEXTS)?.as_str(),
-        ""
-    );
-    Ok(())
+    assert_told(
+        &rt,
+        wrong_row(rt.alloc(), &short_queries(), BYTES, NO_TEXTS),
+        "",
+    )
 }
 
 /// A rule's detection, over events with several values, without a value and with null; the second has two values in a field that has one.
@@ -403,9 +409,8 @@ x----- {x: {Tags: b}, y: {Image: ''}, condition: x and not y}";
 #[test]
 fn queries_select_what_rules_match(rt: HostRuntime) -> Result<(), Fail> {
     let alloc = rt.alloc();
-    assert_eq!(rt; first_unlike(alloc, "sqlite", BOTH)?.as_str(), "");
-    assert_eq!(rt; first_unlike(alloc, "lucene", BOTH)?.as_str(), "");
-    assert_eq!(rt; first_unlike(alloc, "sqlite", DECIMALS)?.as_str(), "");
-    assert_eq!(rt; first_unlike(alloc, "lucene", MANY)?.as_str(), "");
-    Ok(())
+    assert_told(&rt, first_unlike(alloc, "sqlite", BOTH), "")?;
+    assert_told(&rt, first_unlike(alloc, "lucene", BOTH), "")?;
+    assert_told(&rt, first_unlike(alloc, "sqlite", DECIMALS), "")?;
+    assert_told(&rt, first_unlike(alloc, "lucene", MANY), "")
 }

@@ -1,6 +1,6 @@
 //! What rules are answered.
 
-use crate::scenes::{Scene, wrong_row};
+use crate::scenes::{Scene, assert_told, wrong_row};
 use sig_base::Limits;
 use std::test::Fail;
 
@@ -28,11 +28,11 @@ A|exists: true~selection~0|SELECT * FROM "events" WHERE "A" IS NOT NULL¶|;0|r.y
 
 #[test]
 fn converts_rules(rt: HostRuntime) -> Result<(), Fail> {
-    assert_eq!(rt;
-        wrong_row(rt.alloc(), &Limits::standard(), BOTH, CONVERTED)?.as_str(),
-        ""
-    );
-    Ok(())
+    assert_told(
+        &rt,
+        wrong_row(rt.alloc(), &Limits::standard(), BOTH, CONVERTED),
+        "",
+    )
 }
 
 const NO_RULES: &str =
@@ -55,11 +55,11 @@ fn short_values() -> Limits {
 /// Refusals of both commands.
 #[test]
 fn refuses_what_is_no_rule(rt: HostRuntime) -> Result<(), Fail> {
-    assert_eq!(rt;
-        wrong_row(rt.alloc(), &short_values(), BOTH, NO_RULES)?.as_str(),
-        ""
-    );
-    Ok(())
+    assert_told(
+        &rt,
+        wrong_row(rt.alloc(), &short_values(), BOTH, NO_RULES),
+        "",
+    )
 }
 
 const NO_QUERIES: &str =
@@ -79,11 +79,11 @@ fn small_queries() -> Limits {
 /// Refusals of `convert` alone.
 #[test]
 fn refuses_what_has_no_query(rt: HostRuntime) -> Result<(), Fail> {
-    assert_eq!(rt;
-        wrong_row(rt.alloc(), &small_queries(), BOTH, NO_QUERIES)?.as_str(),
-        ""
-    );
-    Ok(())
+    assert_told(
+        &rt,
+        wrong_row(rt.alloc(), &small_queries(), BOTH, NO_QUERIES),
+        "",
+    )
 }
 
 const LUCENE: Scene = Scene {
@@ -101,11 +101,11 @@ Name|cased: AND~selection~1||r.yml:6:5: 111 Lacks Cased¶";
 
 #[test]
 fn converts_rules_for_lucene(rt: HostRuntime) -> Result<(), Fail> {
-    assert_eq!(rt;
-        wrong_row(rt.alloc(), &Limits::standard(), LUCENE, LUCENE_ROWS)?.as_str(),
-        ""
-    );
-    Ok(())
+    assert_told(
+        &rt,
+        wrong_row(rt.alloc(), &Limits::standard(), LUCENE, LUCENE_ROWS),
+        "",
+    )
 }
 
 /// Four documents that are refused and a rule, a rule, and a rule twice.
@@ -127,11 +127,11 @@ check r.yml none~3|r.yml:1:1: ok¶|sigma: cannot read none¶"#;
 /// A refusal in one document leaves the others as they are, in one file and in several.
 #[test]
 fn answers_each_document(rt: HostRuntime) -> Result<(), Fail> {
-    assert_eq!(rt;
-        wrong_row(rt.alloc(), &Limits::standard(), SEVERAL, DOCUMENTS)?.as_str(),
-        ""
-    );
-    Ok(())
+    assert_told(
+        &rt,
+        wrong_row(rt.alloc(), &Limits::standard(), SEVERAL, DOCUMENTS),
+        "",
+    )
 }
 
 const TWICE: Scene = Scene {
@@ -155,9 +155,9 @@ shelf=2~3|SELECT * FROM "events" WHERE "Image" = 'cmd.exe' COLLATE NOCASE¶|sigm
 
 #[test]
 fn keeps_queries_before_a_fault(rt: HostRuntime) -> Result<(), Fail> {
-    assert_eq!(rt;
-        wrong_row(rt.alloc(), &Limits::standard(), TWICE, KEPT)?.as_str(),
-        ""
-    );
-    Ok(())
+    assert_told(
+        &rt,
+        wrong_row(rt.alloc(), &Limits::standard(), TWICE, KEPT),
+        "",
+    )
 }

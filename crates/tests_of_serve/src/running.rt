@@ -1,6 +1,6 @@
 //! What files are answered that have no rule.
 
-use crate::scenes::{Scene, wrong_row};
+use crate::scenes::{Scene, assert_told, wrong_row};
 use sig_base::Limits;
 use std::test::Fail;
 
@@ -31,11 +31,7 @@ fn small() -> Limits {
 /// Files whose one line is their own, and files without any document.
 #[test]
 fn refuses_whole_files(rt: HostRuntime) -> Result<(), Fail> {
-    assert_eq!(rt;
-        wrong_row(rt.alloc(), &small(), WHOLE, REFUSED)?.as_str(),
-        ""
-    );
-    Ok(())
+    assert_told(&rt, wrong_row(rt.alloc(), &small(), WHOLE, REFUSED), "")
 }
 
 const THREE: Scene = Scene {
@@ -54,9 +50,9 @@ check quote none tab~3||quote:1:1: 4 Syntax¶sigma: cannot read none¶";
 /// Each file in its order, also one that is named twice; nothing behind one that isn't there.
 #[test]
 fn answers_each_file(rt: HostRuntime) -> Result<(), Fail> {
-    assert_eq!(rt;
-        wrong_row(rt.alloc(), &Limits::standard(), THREE, ANSWERED)?.as_str(),
-        ""
-    );
-    Ok(())
+    assert_told(
+        &rt,
+        wrong_row(rt.alloc(), &Limits::standard(), THREE, ANSWERED),
+        "",
+    )
 }

@@ -3,6 +3,7 @@
 use crate::worlds::{Ran, World, run_in, still};
 use sig_base::Limits;
 use std::alloc::Global;
+use std::process::Abort;
 use std::test::Fail;
 
 /// What is run: the world (`shelf=1 piece=10`, or nothing where it's still), the words (of several commands, with `;` between), the files
@@ -167,4 +168,11 @@ pub fn columns(row: &str) -> Option<(&str, &str, &str)> {
         return None;
     };
     Some((first, second, rest))
+}
+
+/// Asserts that this is told. A test that ends in it holds nothing that has to be dropped.
+pub fn assert_told(rt: &impl Abort, told: Result<String, Fail>, want: &str) -> Result<(), Fail> {
+    let told = told?;
+    assert_eq!(rt; told.as_str(), want);
+    Ok(())
 }

@@ -1,6 +1,6 @@
 //! `convert` under a schema.
 
-use crate::scenes::{Scene, told, wrong_row};
+use crate::scenes::{Scene, assert_told, told, wrong_row};
 use sig_base::Limits;
 use std::alloc::Global;
 use std::test::Fail;
@@ -21,11 +21,11 @@ const CONVERTED: &str =
 
 #[test]
 fn converts_under_a_schema(rt: HostRuntime) -> Result<(), Fail> {
-    assert_eq!(rt;
-        wrong_row(rt.alloc(), &Limits::standard(), UNDER, CONVERTED)?.as_str(),
-        ""
-    );
-    Ok(())
+    assert_told(
+        &rt,
+        wrong_row(rt.alloc(), &Limits::standard(), UNDER, CONVERTED),
+        "",
+    )
 }
 
 const REFUSED: &str =
@@ -35,11 +35,11 @@ const REFUSED: &str =
 /// Rules that don't fit the schema.
 #[test]
 fn refuses_what_does_not_fit(rt: HostRuntime) -> Result<(), Fail> {
-    assert_eq!(rt;
-        wrong_row(rt.alloc(), &Limits::standard(), UNDER, REFUSED)?.as_str(),
-        ""
-    );
-    Ok(())
+    assert_told(
+        &rt,
+        wrong_row(rt.alloc(), &Limits::standard(), UNDER, REFUSED),
+        "",
+    )
 }
 
 const ALONE: Scene = Scene {
@@ -58,11 +58,11 @@ const SCHEMAS: &str = r#"{~1||s.json:1:1: 20 SchemaJson¶
 /// A file that is no schema has its one line, and no rule file is read: none is there.
 #[test]
 fn refuses_schemas(rt: HostRuntime) -> Result<(), Fail> {
-    assert_eq!(rt;
-        wrong_row(rt.alloc(), &Limits::standard(), ALONE, SCHEMAS)?.as_str(),
-        ""
-    );
-    Ok(())
+    assert_told(
+        &rt,
+        wrong_row(rt.alloc(), &Limits::standard(), ALONE, SCHEMAS),
+        "",
+    )
 }
 
 const IMAGE: &str = r#"{"fields":[{"name":"Image","kind":"text"}]}"#;
@@ -98,16 +98,17 @@ fn padded(alloc: Global) -> Result<String, Fail> {
 fn refuses_a_schema_past_the_limit(rt: HostRuntime) -> Result<(), Fail> {
     let alloc = rt.alloc();
     let mut schema = padded(alloc)?;
-    assert_eq!(rt;
-        told(alloc, &small_files(), WHOLE, &schema, RULE)?.as_str(),
-        r#"0|SELECT * FROM "events" WHERE "Image" = 'cmd.exe' COLLATE NOCASE¶|"#
-    );
+    assert_told(
+        &rt,
+        told(alloc, &small_files(), WHOLE, &schema, RULE),
+        r#"0|SELECT * FROM "events" WHERE "Image" = 'cmd.exe' COLLATE NOCASE¶|"#,
+    )?;
     schema.push(' ')?;
-    assert_eq!(rt;
-        told(alloc, &small_files(), WHOLE, &schema, RULE)?.as_str(),
-        "1||s.json:1:1: 23 SchemaLimit¶"
-    );
-    Ok(())
+    assert_told(
+        &rt,
+        told(alloc, &small_files(), WHOLE, &schema, RULE),
+        "1||s.json:1:1: 23 SchemaLimit¶",
+    )
 }
 
 const FAULTS: Scene = Scene {
@@ -127,9 +128,9 @@ piece=10 err=2~s.json={~4||s.json:1:1"#;
 /// A schema that can't be read, a rule file that can't be read behind it, and a diagnostic that is cut off.
 #[test]
 fn keeps_what_was_written_before_a_fault(rt: HostRuntime) -> Result<(), Fail> {
-    assert_eq!(rt;
-        wrong_row(rt.alloc(), &Limits::standard(), FAULTS, FAULT_ROWS)?.as_str(),
-        ""
-    );
-    Ok(())
+    assert_told(
+        &rt,
+        wrong_row(rt.alloc(), &Limits::standard(), FAULTS, FAULT_ROWS),
+        "",
+    )
 }

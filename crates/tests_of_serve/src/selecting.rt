@@ -1,6 +1,6 @@
 //! `run`: the events that a rule matches.
 
-use crate::scenes::{Scene, told, wrong_row};
+use crate::scenes::{Scene, assert_told, told, wrong_row};
 use sig_base::Limits;
 use std::test::Fail;
 
@@ -22,11 +22,11 @@ a: 1¶  y:¶    b: 2¶  condition: [selection, y]~{"b":2}¶{"a":1}¶{"a":2,"b":1
 /// A value that is empty, no value, and a rule that asks for none; texts without regard to case; no value under `not`.
 #[test]
 fn selects_events(rt: HostRuntime) -> Result<(), Fail> {
-    assert_eq!(rt;
-        wrong_row(rt.alloc(), &Limits::standard(), SELECTED, SELECTIONS)?.as_str(),
-        ""
-    );
-    Ok(())
+    assert_told(
+        &rt,
+        wrong_row(rt.alloc(), &Limits::standard(), SELECTED, SELECTIONS),
+        "",
+    )
 }
 
 const LINES: Scene = Scene {
@@ -62,19 +62,21 @@ fn short_lines() -> Limits {
 #[test]
 fn refuses_lines(rt: HostRuntime) -> Result<(), Fail> {
     let alloc = rt.alloc();
-    assert_eq!(rt;
-        told(alloc, &Limits::standard(), LINES, "", "")?.as_str(),
-        r#"1|{"Image":"CMD.EXE"}¶|events:2: 25 EventJson¶events:3: 27 EventRange¶events:4: 28 EventNul¶"#
-    );
-    assert_eq!(rt;
-        told(alloc, &few_bytes(), LINES, "", "")?.as_str(),
-        r#"1|{"Image":"CMD.EXE"}¶|events:2: 25 EventJson¶events:3: 31 TooMuch¶"#
-    );
-    assert_eq!(rt;
-        told(alloc, &short_lines(), LONG, "", "")?.as_str(),
-        "1||events:2: 30 LineTooLong¶"
-    );
-    Ok(())
+    assert_told(
+        &rt,
+        told(alloc, &Limits::standard(), LINES, "", ""),
+        r#"1|{"Image":"CMD.EXE"}¶|events:2: 25 EventJson¶events:3: 27 EventRange¶events:4: 28 EventNul¶"#,
+    )?;
+    assert_told(
+        &rt,
+        told(alloc, &few_bytes(), LINES, "", ""),
+        r#"1|{"Image":"CMD.EXE"}¶|events:2: 25 EventJson¶events:3: 31 TooMuch¶"#,
+    )?;
+    assert_told(
+        &rt,
+        told(alloc, &short_lines(), LONG, "", ""),
+        "1||events:2: 30 LineTooLong¶",
+    )
 }
 
 const UNREAD: Scene = Scene {
@@ -98,11 +100,11 @@ title: T¶logsource:¶  product: p¶detection:¶  k: [x]¶  s:¶    User: a¶   
 /// What no rule is read of ends the run, and no event is read: the first read would fail.
 #[test]
 fn refuses_what_is_not_run(rt: HostRuntime) -> Result<(), Fail> {
-    assert_eq!(rt;
-        wrong_row(rt.alloc(), &Limits::standard(), UNREAD, NOT_RUN)?.as_str(),
-        ""
-    );
-    Ok(())
+    assert_told(
+        &rt,
+        wrong_row(rt.alloc(), &Limits::standard(), UNREAD, NOT_RUN),
+        "",
+    )
 }
 
 const WHOLE: Scene = Scene {
@@ -127,11 +129,7 @@ fn small() -> Limits {
 /// Files that are refused as a whole have that line alone, and no event is read.
 #[test]
 fn refuses_whole_files(rt: HostRuntime) -> Result<(), Fail> {
-    assert_eq!(rt;
-        wrong_row(rt.alloc(), &small(), WHOLE, REFUSED)?.as_str(),
-        ""
-    );
-    Ok(())
+    assert_told(&rt, wrong_row(rt.alloc(), &small(), WHOLE, REFUSED), "")
 }
 
 const NO_SCHEMA: Scene = Scene {
@@ -148,11 +146,11 @@ shelf=2 unread=1~1||s.json:1:1: 20 SchemaJson¶";
 /// Behind a schema that is refused nothing is read: neither the rule nor the events, which couldn't be.
 #[test]
 fn reads_nothing_behind_a_refused_schema(rt: HostRuntime) -> Result<(), Fail> {
-    assert_eq!(rt;
-        wrong_row(rt.alloc(), &Limits::standard(), NO_SCHEMA, BEHIND_SCHEMA)?.as_str(),
-        ""
-    );
-    Ok(())
+    assert_told(
+        &rt,
+        wrong_row(rt.alloc(), &Limits::standard(), NO_SCHEMA, BEHIND_SCHEMA),
+        "",
+    )
 }
 
 const UNDER: Scene = Scene {
@@ -172,11 +170,11 @@ const SCHEMAS: &str =
 /// The events are read through the schema that is named.
 #[test]
 fn runs_under_a_schema(rt: HostRuntime) -> Result<(), Fail> {
-    assert_eq!(rt;
-        wrong_row(rt.alloc(), &Limits::standard(), UNDER, SCHEMAS)?.as_str(),
-        ""
-    );
-    Ok(())
+    assert_told(
+        &rt,
+        wrong_row(rt.alloc(), &Limits::standard(), UNDER, SCHEMAS),
+        "",
+    )
 }
 
 const KINDS: Scene = Scene {
@@ -189,11 +187,11 @@ const KINDS: Scene = Scene {
 /// A keyword over the fields that it searches, a number, and a field of several values.
 #[test]
 fn runs_over_fields_of_each_kind(rt: HostRuntime) -> Result<(), Fail> {
-    assert_eq!(rt;
-        told(rt.alloc(), &Limits::standard(), KINDS, "", "")?.as_str(),
-        r#"1|{"Image":"c:whoami"}¶{"Id":7}¶{"Id":"7"}¶{"Tags":["a","B"]}¶|events:7: 26 EventKind¶"#
-    );
-    Ok(())
+    assert_told(
+        &rt,
+        told(rt.alloc(), &Limits::standard(), KINDS, "", ""),
+        r#"1|{"Image":"c:whoami"}¶{"Id":7}¶{"Id":"7"}¶{"Tags":["a","B"]}¶|events:7: 26 EventKind¶"#,
+    )
 }
 
 /// Three lines of which the second is no event and the last has no line feed.
@@ -217,11 +215,11 @@ read=8 unread=0~1|{"Image":"CMD.EXE"}¶{"Image":"cmd.exe"}¶|events:2: 25 EventJ
 /// Some read of the events fails: what stands belongs to the lines whose line feed had come.
 #[test]
 fn stands_before_a_read_that_fails(rt: HostRuntime) -> Result<(), Fail> {
-    assert_eq!(rt;
-        wrong_row(rt.alloc(), &Limits::standard(), READS, READ)?.as_str(),
-        ""
-    );
-    Ok(())
+    assert_told(
+        &rt,
+        wrong_row(rt.alloc(), &Limits::standard(), READS, READ),
+        "",
+    )
 }
 
 /// Two lines that are selected.
@@ -240,11 +238,11 @@ const WRITTEN: &str = r#"1~4||
 /// A write that fails ends the run: what stands is a front.
 #[test]
 fn stands_before_a_write_that_fails(rt: HostRuntime) -> Result<(), Fail> {
-    assert_eq!(rt;
-        wrong_row(rt.alloc(), &Limits::standard(), WRITES, WRITTEN)?.as_str(),
-        ""
-    );
-    Ok(())
+    assert_told(
+        &rt,
+        wrong_row(rt.alloc(), &Limits::standard(), WRITES, WRITTEN),
+        "",
+    )
 }
 
 const UNTOLD: Scene = Scene {
@@ -260,9 +258,9 @@ const CUT: &str = r#"4~4|{"Image":"CMD.EXE"}¶|events:2: 25 EventJson¶
 /// A read of the events fails and then the diagnostic about it: all before it stands.
 #[test]
 fn stands_before_events_that_cannot_be_told_of(rt: HostRuntime) -> Result<(), Fail> {
-    assert_eq!(rt;
-        wrong_row(rt.alloc(), &Limits::standard(), UNTOLD, CUT)?.as_str(),
-        ""
-    );
-    Ok(())
+    assert_told(
+        &rt,
+        wrong_row(rt.alloc(), &Limits::standard(), UNTOLD, CUT),
+        "",
+    )
 }

@@ -1,6 +1,6 @@
 //! Which words are accepted.
 
-use crate::scenes::{Scene, told, wrong_among};
+use crate::scenes::{Scene, assert_told, told, wrong_among};
 use sig_base::Limits;
 use std::test::Fail;
 
@@ -45,12 +45,12 @@ query --backend=sql --schema=b.yml b.yml";
 #[test]
 fn accepts_no_other_words(rt: HostRuntime) -> Result<(), Fail> {
     let bad = "2||sigma: bad usage¶";
-    assert_eq!(rt;
-        told(rt.alloc(), &Limits::standard(), RULES, "", "")?.as_str(),
-        bad
-    );
-    assert_eq!(rt; wrong_among(rt.alloc(), RULES, bad, OTHERS)?.as_str(), "");
-    Ok(())
+    assert_told(
+        &rt,
+        told(rt.alloc(), &Limits::standard(), RULES, "", ""),
+        bad,
+    )?;
+    assert_told(&rt, wrong_among(rt.alloc(), RULES, bad, OTHERS), "")
 }
 
 const COMMANDS: &str = "check b.yml
@@ -66,11 +66,7 @@ const REFUSED: &str =
 
 #[test]
 fn accepts_commands_over_rules(rt: HostRuntime) -> Result<(), Fail> {
-    assert_eq!(rt;
-        wrong_among(rt.alloc(), RULES, REFUSED, COMMANDS)?.as_str(),
-        ""
-    );
-    Ok(())
+    assert_told(&rt, wrong_among(rt.alloc(), RULES, REFUSED, COMMANDS), "")
 }
 
 const RUN: Scene = Scene {
@@ -88,8 +84,7 @@ run b.yml --schema s.json";
 #[test]
 fn accepts_run(rt: HostRuntime) -> Result<(), Fail> {
     let refused = "1||b.yml:4:1: 84 NotOneRule¶";
-    assert_eq!(rt; wrong_among(rt.alloc(), RUN, refused, RUNS)?.as_str(), "");
-    Ok(())
+    assert_told(&rt, wrong_among(rt.alloc(), RUN, refused, RUNS), "")
 }
 
 const QUERY: Scene = Scene {
@@ -107,9 +102,5 @@ query --backend=lucene --schema=s.json -- -q";
 #[test]
 fn accepts_query(rt: HostRuntime) -> Result<(), Fail> {
     let refused = "1||s.json:1:1: 20 SchemaJson¶";
-    assert_eq!(rt;
-        wrong_among(rt.alloc(), QUERY, refused, QUERIES)?.as_str(),
-        ""
-    );
-    Ok(())
+    assert_told(&rt, wrong_among(rt.alloc(), QUERY, refused, QUERIES), "")
 }

@@ -7,6 +7,7 @@ ghost use Rattle.answer_parts.specs.Parts.{no_share, text_share};
 
 use super::ends::{ending, shown};
 use super::signs::{columns, written};
+use crate::telling::assert_told;
 use answer_parts::{Lent, LineCommand, Outside, Stop, answer_lines, put_line, tell_line_refusal};
 use sig_base::{Bytes, Code, Limits, MemoryShelf, MemorySink, MemorySource};
 use std::alloc::Global;
@@ -153,9 +154,11 @@ const IN_PIECES: &str = "1,0,4096,0,0~~done||
 
 #[test]
 fn answers_lines_in_pieces(rt: HostRuntime) -> Result<(), Fail> {
-    let wrong = wrong_row(rt.alloc(), &Limits::standard(), IN_PIECES)?;
-    assert_eq!(rt; wrong.as_str(), "");
-    Ok(())
+    assert_told(
+        &rt,
+        wrong_row(rt.alloc(), &Limits::standard(), IN_PIECES),
+        "",
+    )
 }
 
 /// A line of 4 bytes, and 20 in all.
@@ -174,9 +177,7 @@ const PAST_LIMITS: &str = "3,0,4096,0,0~+abc¶+abcd¶+e~found|+abc¶+e¶|events:
 
 #[test]
 fn refuses_past_the_limits(rt: HostRuntime) -> Result<(), Fail> {
-    let wrong = wrong_row(rt.alloc(), &small_limits(), PAST_LIMITS)?;
-    assert_eq!(rt; wrong.as_str(), "");
-    Ok(())
+    assert_told(&rt, wrong_row(rt.alloc(), &small_limits(), PAST_LIMITS), "")
 }
 
 const UNREAD: &str = r#"2,1,4096,0,0~+a¶!b¶+c¶~unread||sigma: cannot read events¶
@@ -192,9 +193,7 @@ const UNREAD: &str = r#"2,1,4096,0,0~+a¶!b¶+c¶~unread||sigma: cannot read eve
 
 #[test]
 fn each_read_fails_in_turn(rt: HostRuntime) -> Result<(), Fail> {
-    let wrong = wrong_row(rt.alloc(), &Limits::standard(), UNREAD)?;
-    assert_eq!(rt; wrong.as_str(), "");
-    Ok(())
+    assert_told(&rt, wrong_row(rt.alloc(), &Limits::standard(), UNREAD), "")
 }
 
 const UNWRITTEN: &str = r#"3,0,2,1,0~+a¶!b¶+c¶~unwritten||
@@ -209,9 +208,11 @@ const UNWRITTEN: &str = r#"3,0,2,1,0~+a¶!b¶+c¶~unwritten||
 
 #[test]
 fn each_write_fails_in_turn(rt: HostRuntime) -> Result<(), Fail> {
-    let wrong = wrong_row(rt.alloc(), &Limits::standard(), UNWRITTEN)?;
-    assert_eq!(rt; wrong.as_str(), "");
-    Ok(())
+    assert_told(
+        &rt,
+        wrong_row(rt.alloc(), &Limits::standard(), UNWRITTEN),
+        "",
+    )
 }
 
 /// A line is answered wholly before the next is asked for; the diagnostic about events that can't be read may be cut off.
@@ -220,7 +221,9 @@ const TWO_FAULTS: &str = r#"3,2,4096,1,0~+a¶!b¶+c¶~unwritten||
 
 #[test]
 fn faults_beside_one_another(rt: HostRuntime) -> Result<(), Fail> {
-    let wrong = wrong_row(rt.alloc(), &Limits::standard(), TWO_FAULTS)?;
-    assert_eq!(rt; wrong.as_str(), "");
-    Ok(())
+    assert_told(
+        &rt,
+        wrong_row(rt.alloc(), &Limits::standard(), TWO_FAULTS),
+        "",
+    )
 }

@@ -8,6 +8,7 @@ ghost use Rattle.rule_model.specs.Plain.{rule_view};
 use super::ends::{ending, shown};
 use super::signs::written;
 use crate::engine::engine;
+use crate::telling::assert_told;
 use answer_parts::Lent;
 use correlation_engine::Engine;
 use correlation_runs::follow_events;
@@ -195,8 +196,7 @@ found|events:6: 26 EventKind¶|4|~{"Code":"x","User":"a","t":200}"#;
 
 #[test]
 fn a_burst_is_reported(rt: HostRuntime) -> Result<(), Fail> {
-    assert_eq!(rt; wrong_row(rt.alloc(), SIXTH)?.as_str(), "");
-    Ok(())
+    assert_told(&rt, wrong_row(rt.alloc(), SIXTH), "")
 }
 
 const LONG: &str =
@@ -218,9 +218,5 @@ fn short_lines() -> Limits {
 #[test]
 fn long_lines_are_passed_over(rt: HostRuntime) -> Result<(), Fail> {
     let events = written(rt.alloc(), LONG)?;
-    assert_eq!(rt;
-        told(rt.alloc(), &short_lines(), &events)?.as_str(),
-        LONG_TOLD
-    );
-    Ok(())
+    assert_told(&rt, told(rt.alloc(), &short_lines(), &events), LONG_TOLD)
 }

@@ -1,6 +1,7 @@
 //! Files of rules and correlations; the expected values are reckoned by hand.
 
 use super::signs::{columns, written};
+use crate::telling::assert_told;
 use correlation_files::{Bindings, Found, check_document, read_rules};
 use event_schema::{Field, FieldKind, FieldList, Schema};
 use languages::CrateBuilder;
@@ -246,8 +247,7 @@ const FILES: &str = "|logon,|Burst:0;|~a=+logon b=+burst
 #[test]
 fn correlations_are_bound(rt: HostRuntime) -> Result<(), Fail> {
     let standard = Limits::standard();
-    assert_eq!(rt; wrong_files(rt.alloc(), &standard, FILES)?.as_str(), "");
-    Ok(())
+    assert_told(&rt, wrong_files(rt.alloc(), &standard, FILES), "")
 }
 
 /// At most one document.
@@ -270,9 +270,8 @@ const OF_SMALL: &str = "b 2 1:1;|logon,||~a=+logon b=+logon+burst";
 
 #[test]
 fn files_are_refused_as_a_whole(rt: HostRuntime) -> Result<(), Fail> {
-    assert_eq!(rt; wrong_files(rt.alloc(), &few(), OF_FEW)?.as_str(), "");
-    assert_eq!(rt; wrong_files(rt.alloc(), &small(), OF_SMALL)?.as_str(), "");
-    Ok(())
+    assert_told(&rt, wrong_files(rt.alloc(), &few(), OF_FEW), "")?;
+    assert_told(&rt, wrong_files(rt.alloc(), &small(), OF_SMALL), "")
 }
 
 /// The rule `logon` and a correlation that groups by these names, and has this alias.
@@ -304,8 +303,7 @@ u, Nope~logon: User~|logon,||c 144 10:1;";
 
 #[test]
 fn groups_are_looked_for(rt: HostRuntime) -> Result<(), Fail> {
-    assert_eq!(rt; wrong_group(rt.alloc(), GROUPS)?.as_str(), "");
-    Ok(())
+    assert_told(&rt, wrong_group(rt.alloc(), GROUPS), "")
 }
 
 /// A rule with this item.
@@ -350,8 +348,7 @@ const ITEMS: &str = "1~Code: 1~|logon,|Burst:0;|
 
 #[test]
 fn a_refused_rule_is_unknown(rt: HostRuntime) -> Result<(), Fail> {
-    assert_eq!(rt; wrong_item(rt.alloc(), ITEMS)?.as_str(), "");
-    Ok(())
+    assert_told(&rt, wrong_item(rt.alloc(), ITEMS), "")
 }
 
 /// The first row of a table, `first document~second document~what is told`, that isn't told so.
@@ -380,8 +377,7 @@ correlation: 5¶~logsource: 5¶~c 70 1:1;c 70 3:1;|||";
 
 #[test]
 fn documents_of_each_kind_are_refused(rt: HostRuntime) -> Result<(), Fail> {
-    assert_eq!(rt; wrong_pair(rt.alloc(), PAIRS)?.as_str(), "");
-    Ok(())
+    assert_told(&rt, wrong_pair(rt.alloc(), PAIRS), "")
 }
 
 /// The pipeline that a word stands for.
@@ -426,8 +422,7 @@ fails~Code|near: 1~c 40 7:5;|||";
 
 #[test]
 fn rules_are_made_by_pipelines(rt: HostRuntime) -> Result<(), Fail> {
-    assert_eq!(rt; wrong_piped(rt.alloc(), PIPED)?.as_str(), "");
-    Ok(())
+    assert_told(&rt, wrong_piped(rt.alloc(), PIPED), "")
 }
 
 /// The place of the first document of a text, or the number and the place of its refusal, where this call of the builder fails.
@@ -476,10 +471,9 @@ fn detected(alloc: Global) -> Result<String, Fail> {
 #[test]
 fn documents_are_checked(rt: HostRuntime) -> Result<(), Fail> {
     let alloc = rt.alloc();
-    assert_eq!(rt; wrong_check(alloc, CHECKED)?.as_str(), "");
-    assert_eq!(rt; checked(alloc, &detected(alloc)?, 1)?.as_str(), "1:1");
+    assert_told(&rt, wrong_check(alloc, CHECKED), "")?;
+    assert_told(&rt, checked(alloc, &detected(alloc)?, 1), "1:1")?;
     let searched = with_item(alloc, "Nope|re: 'a+'")?;
-    assert_eq!(rt; checked(alloc, &searched, 0)?.as_str(), "1:1");
-    assert_eq!(rt; checked(alloc, &searched, 1)?.as_str(), " 48 7:14;");
-    Ok(())
+    assert_told(&rt, checked(alloc, &searched, 0), "1:1")?;
+    assert_told(&rt, checked(alloc, &searched, 1), " 48 7:14;")
 }

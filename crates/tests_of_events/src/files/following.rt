@@ -8,6 +8,7 @@ ghost use Rattle.answer_parts.specs.Parts.{no_share, text_share};
 use super::answering::{number, sink_of, small_limits};
 use super::ends::{ending, shown};
 use super::signs::{columns, written};
+use crate::telling::assert_told;
 use answer_parts::{Lent, LineFollower, Outside, Stop, follow_lines, put_line, tell_line_refusal};
 use sig_base::{Bytes, Code, Limits, MemoryShelf, MemorySource};
 use std::alloc::Global;
@@ -152,9 +153,11 @@ const BY_THOSE_BEFORE: &str = "1~0~~done||
 
 #[test]
 fn each_line_by_those_before(rt: HostRuntime) -> Result<(), Fail> {
-    let wrong = wrong_row(rt.alloc(), &Limits::standard(), BY_THOSE_BEFORE)?;
-    assert_eq!(rt; wrong.as_str(), "");
-    Ok(())
+    assert_told(
+        &rt,
+        wrong_row(rt.alloc(), &Limits::standard(), BY_THOSE_BEFORE),
+        "",
+    )
 }
 
 /// Lines past the limits change nothing of what the next ones are answered.
@@ -164,9 +167,7 @@ const PAST_LIMITS: &str = "3~0~+a¶-long¶+b¶-c¶~found|+a¶-c¶|events:2: 30 L
 
 #[test]
 fn lines_past_the_limits(rt: HostRuntime) -> Result<(), Fail> {
-    let wrong = wrong_row(rt.alloc(), &small_limits(), PAST_LIMITS)?;
-    assert_eq!(rt; wrong.as_str(), "");
-    Ok(())
+    assert_told(&rt, wrong_row(rt.alloc(), &small_limits(), PAST_LIMITS), "")
 }
 
 /// The command keeps its history from one source of events to the next.
@@ -177,7 +178,5 @@ const IN_TURN: &str = "3~0~+a¶-b¶~done|+a¶-b¶|
 
 #[test]
 fn the_history_stays(rt: HostRuntime) -> Result<(), Fail> {
-    let wrong = wrong_row(rt.alloc(), &Limits::standard(), IN_TURN)?;
-    assert_eq!(rt; wrong.as_str(), "");
-    Ok(())
+    assert_told(&rt, wrong_row(rt.alloc(), &Limits::standard(), IN_TURN), "")
 }

@@ -1,6 +1,7 @@
 //! Files of pipelines; the expected values are reckoned by hand.
 
 use super::signs::{columns, written};
+use crate::telling::assert_told;
 use languages::CrateBuilder;
 use pipeline_files::{FileFault, read_pipelines};
 use pipeline_model::Pipeline;
@@ -69,8 +70,7 @@ A 0 1;B 0 2;~name: A¶transformations:¶  - id: x¶    type: drop_detection_item
 #[test]
 fn each_document_is_a_pipeline(rt: HostRuntime) -> Result<(), Fail> {
     let standard = Limits::standard();
-    assert_eq!(rt; wrong_row(rt.alloc(), &standard, PIPELINES)?.as_str(), "");
-    Ok(())
+    assert_told(&rt, wrong_row(rt.alloc(), &standard, PIPELINES), "")
 }
 
 const REFUSED: &str = "90 1:1;~- a¶
@@ -84,8 +84,7 @@ const REFUSED: &str = "90 1:1;~- a¶
 #[test]
 fn all_refusals_are_told(rt: HostRuntime) -> Result<(), Fail> {
     let standard = Limits::standard();
-    assert_eq!(rt; wrong_row(rt.alloc(), &standard, REFUSED)?.as_str(), "");
-    Ok(())
+    assert_told(&rt, wrong_row(rt.alloc(), &standard, REFUSED), "")
 }
 
 /// At most one document.
@@ -112,13 +111,13 @@ const OF_SMALL: &str = "A 0 0;~name: A
 #[test]
 fn files_are_refused_as_a_whole(rt: HostRuntime) -> Result<(), Fail> {
     let bad = [97, 58, 32, 255, 10, 45, 45, 45, 10, 45];
-    assert_eq!(rt;
-        read(rt.alloc(), &Limits::standard(), &bad, 0)?.as_str(),
-        "1 1:4;"
-    );
-    assert_eq!(rt; wrong_row(rt.alloc(), &few(), OF_FEW)?.as_str(), "");
-    assert_eq!(rt; wrong_row(rt.alloc(), &small(), OF_SMALL)?.as_str(), "");
-    Ok(())
+    assert_told(
+        &rt,
+        read(rt.alloc(), &Limits::standard(), &bad, 0),
+        "1 1:4;",
+    )?;
+    assert_told(&rt, wrong_row(rt.alloc(), &few(), OF_FEW), "")?;
+    assert_told(&rt, wrong_row(rt.alloc(), &small(), OF_SMALL), "")
 }
 
 const ADDS_ONE: &str =
@@ -179,6 +178,5 @@ ill tab~0~47 4:13;8 7:1;";
 
 #[test]
 fn expressions_are_built(rt: HostRuntime) -> Result<(), Fail> {
-    assert_eq!(rt; wrong_steps(rt.alloc(), BUILT)?.as_str(), "");
-    Ok(())
+    assert_told(&rt, wrong_steps(rt.alloc(), BUILT), "")
 }

@@ -2,6 +2,7 @@
 
 use super::rules::{detection, fields, one_alternative, one_detection, one_item, rule};
 use super::tables::{Asked, joined, no_row, three, wrong_row};
+use crate::tables::assert_told;
 use detection_eval::{Judge, Ready};
 use event_schema::{Event, Field, FieldKind, FieldList, FieldValues, Schema, Value};
 use languages::{BuildFault, Builder, CrateBuilder};
@@ -280,26 +281,13 @@ const ITSELF: &str = "1001;any;u;=u;a||| |a|| ||| 7|||
 
 #[test]
 fn items_over_fields_and_keywords(rt: HostRuntime) -> Result<(), Fail> {
-    assert_eq!(rt;
-        wrong_row(rt.alloc(), Question::Item, KEYWORDS)?.as_str(),
-        ""
-    );
-    assert_eq!(rt; wrong_row(rt.alloc(), Question::Item, VALUES)?.as_str(), "");
-    assert_eq!(rt; wrong_row(rt.alloc(), Question::Item, NAMES)?.as_str(), "");
-    assert_eq!(rt;
-        wrong_row(rt.alloc(), Question::Item, NUMBERS)?.as_str(),
-        ""
-    );
-    assert_eq!(rt;
-        wrong_row(rt.alloc(), Question::Both, COMPARISONS)?.as_str(),
-        ""
-    );
-    assert_eq!(rt;
-        wrong_row(rt.alloc(), Question::Both, OTHER_FIELDS)?.as_str(),
-        ""
-    );
-    assert_eq!(rt; wrong_row(rt.alloc(), Question::Item, ITSELF)?.as_str(), "");
-    Ok(())
+    assert_told(&rt, wrong_row(rt.alloc(), Question::Item, KEYWORDS), "")?;
+    assert_told(&rt, wrong_row(rt.alloc(), Question::Item, VALUES), "")?;
+    assert_told(&rt, wrong_row(rt.alloc(), Question::Item, NAMES), "")?;
+    assert_told(&rt, wrong_row(rt.alloc(), Question::Item, NUMBERS), "")?;
+    assert_told(&rt, wrong_row(rt.alloc(), Question::Both, COMPARISONS), "")?;
+    assert_told(&rt, wrong_row(rt.alloc(), Question::Both, OTHER_FIELDS), "")?;
+    assert_told(&rt, wrong_row(rt.alloc(), Question::Item, ITSELF), "")
 }
 
 /// That `u` is `a` and `p` is `b`, or that `h` is `c`.
@@ -349,15 +337,16 @@ const CONDITIONS: &str = "101110;one-0-2
 
 #[test]
 fn alternatives_and_conditions(rt: HostRuntime) -> Result<(), Fail> {
-    assert_eq!(rt;
-        wrong_row(rt.alloc(), Question::Alternatives, ALTERNATIVES)?.as_str(),
-        ""
-    );
-    assert_eq!(rt;
-        wrong_row(rt.alloc(), Question::Conditions, CONDITIONS)?.as_str(),
-        ""
-    );
-    Ok(())
+    assert_told(
+        &rt,
+        wrong_row(rt.alloc(), Question::Alternatives, ALTERNATIVES),
+        "",
+    )?;
+    assert_told(
+        &rt,
+        wrong_row(rt.alloc(), Question::Conditions, CONDITIONS),
+        "",
+    )
 }
 
 /// What items match by texts, numbers and keywords, and by all of several, `matches;any or all;names;values;events`.
@@ -408,17 +397,10 @@ const SEVERAL: &str = "1000;all;u;~/a,~/b,~/a;ab||| a|b|| b|ab|| |||
 
 #[test]
 fn expressions_in_values(rt: HostRuntime) -> Result<(), Fail> {
-    assert_eq!(rt; wrong_row(rt.alloc(), Question::Both, FOUND)?.as_str(), "");
-    assert_eq!(rt;
-        wrong_row(rt.alloc(), Question::Item, EXPRESSIONS)?.as_str(),
-        ""
-    );
-    assert_eq!(rt; wrong_row(rt.alloc(), Question::Flags, FLAGS)?.as_str(), "");
-    assert_eq!(rt;
-        wrong_row(rt.alloc(), Question::Item, SEVERAL)?.as_str(),
-        ""
-    );
-    Ok(())
+    assert_told(&rt, wrong_row(rt.alloc(), Question::Both, FOUND), "")?;
+    assert_told(&rt, wrong_row(rt.alloc(), Question::Item, EXPRESSIONS), "")?;
+    assert_told(&rt, wrong_row(rt.alloc(), Question::Flags, FLAGS), "")?;
+    assert_told(&rt, wrong_row(rt.alloc(), Question::Item, SEVERAL), "")
 }
 
 /// An item of a field and regular expressions that stands on a line.
@@ -515,11 +497,7 @@ fn built_once(alloc: Global) -> Result<String, Fail> {
 
 #[test]
 fn expressions_are_built_once_or_refused(rt: HostRuntime) -> Result<(), Fail> {
-    assert_eq!(rt;
-        wrong_row(rt.alloc(), Question::Unbuilt, UNBUILT)?.as_str(),
-        ""
-    );
-    assert_eq!(rt; refused_none(rt.alloc())?.as_str(), "48 at 6:5");
-    assert_eq!(rt; built_once(rt.alloc())?.as_str(), "4 110 4");
-    Ok(())
+    assert_told(&rt, wrong_row(rt.alloc(), Question::Unbuilt, UNBUILT), "")?;
+    assert_told(&rt, refused_none(rt.alloc()), "48 at 6:5")?;
+    assert_told(&rt, built_once(rt.alloc()), "4 110 4")
 }

@@ -4,6 +4,7 @@ ghost use Rattle.std.specs.Prelude.{◌≤◌};
 
 use super::rules::{detection, fields, one_alternative, one_detection, one_item, rule};
 use super::tables::{Asked, joined, no_row, three, wrong_row};
+use crate::tables::assert_told;
 use backend_core::{Leaf, LeafTest, Op as LeafOp, Tree};
 use event_schema::{Field, FieldKind, FieldList, Schema};
 use modifier_chains::{Flags, Joined, Op};
@@ -647,55 +648,39 @@ fn many_values(alloc: Global, count: u32) -> Result<Item, Fail> {
 
 #[test]
 fn items_and_conditions(rt: HostRuntime) -> Result<(), Fail> {
-    assert_eq!(rt; wrong_row(rt.alloc(), Question::Item, ITEMS)?.as_str(), "");
-    assert_eq!(rt;
-        shown_range(rt.alloc())?.as_str(),
-        "((1>1&1<=9&)|(0>1&0<=9&)|)"
-    );
-    assert_eq!(rt;
-        shown_keywords(rt.alloc())?.as_str(),
-        "(0~7*|2~7*|0~7|2~7|)"
-    );
-    assert_eq!(rt;
-        shown_alternatives(rt.alloc())?.as_str(),
-        "((1~a&2~x&2~y&)|0~c|0~d|)"
-    );
-    assert_eq!(rt;
-        wrong_row(rt.alloc(), Question::Conditions, CONDITIONS)?.as_str(),
-        ""
-    );
-    Ok(())
+    assert_told(&rt, wrong_row(rt.alloc(), Question::Item, ITEMS), "")?;
+    assert_told(&rt, shown_range(rt.alloc()), "((1>1&1<=9&)|(0>1&0<=9&)|)")?;
+    assert_told(&rt, shown_keywords(rt.alloc()), "(0~7*|2~7*|0~7|2~7|)")?;
+    assert_told(
+        &rt,
+        shown_alternatives(rt.alloc()),
+        "((1~a&2~x&2~y&)|0~c|0~d|)",
+    )?;
+    assert_told(
+        &rt,
+        wrong_row(rt.alloc(), Question::Conditions, CONDITIONS),
+        "",
+    )
 }
 
 #[test]
 fn tests_of_each_kind_of_field(rt: HostRuntime) -> Result<(), Fail> {
-    assert_eq!(rt; shown_four_tests(rt.alloc())?.as_str(), "(1+|1-|1-|1~-70|)");
-    assert_eq!(rt;
-        wrong_row(rt.alloc(), Question::Written, WHOLE)?.as_str(),
-        ""
-    );
-    assert_eq!(rt;
-        wrong_row(rt.alloc(), Question::Dashed, DASHED)?.as_str(),
-        ""
-    );
-    assert_eq!(rt;
-        wrong_row(rt.alloc(), Question::Network, NETWORKS)?.as_str(),
-        ""
-    );
-    assert_eq!(rt;
-        wrong_row(rt.alloc(), Question::Number, NUMBERS)?.as_str(),
-        ""
-    );
-    assert_eq!(rt;
-        wrong_row(rt.alloc(), Question::Compared, COMPARISONS)?.as_str(),
-        ""
-    );
-    assert_eq!(rt;
-        wrong_row(rt.alloc(), Question::Expression, EXPRESSIONS)?.as_str(),
-        ""
-    );
-    assert_eq!(rt; wrong_row(rt.alloc(), Question::Same, SAME)?.as_str(), "");
-    Ok(())
+    assert_told(&rt, shown_four_tests(rt.alloc()), "(1+|1-|1-|1~-70|)")?;
+    assert_told(&rt, wrong_row(rt.alloc(), Question::Written, WHOLE), "")?;
+    assert_told(&rt, wrong_row(rt.alloc(), Question::Dashed, DASHED), "")?;
+    assert_told(&rt, wrong_row(rt.alloc(), Question::Network, NETWORKS), "")?;
+    assert_told(&rt, wrong_row(rt.alloc(), Question::Number, NUMBERS), "")?;
+    assert_told(
+        &rt,
+        wrong_row(rt.alloc(), Question::Compared, COMPARISONS),
+        "",
+    )?;
+    assert_told(
+        &rt,
+        wrong_row(rt.alloc(), Question::Expression, EXPRESSIONS),
+        "",
+    )?;
+    assert_told(&rt, wrong_row(rt.alloc(), Question::Same, SAME), "")
 }
 
 /// A network counts each of its patterns, and each choice of dashes, comparison, regular expression and value counts, for each name.

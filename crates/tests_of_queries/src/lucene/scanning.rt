@@ -1,6 +1,6 @@
 //! The scanner, by hand.
 
-use crate::tables::with_controls;
+use crate::tables::{assert_told, with_controls};
 use lucene_lang::{Word, Written};
 use lucene_scan::{Sort, Tokens, first_outside, opens_too_far, scan};
 use sig_base::Text;
@@ -162,8 +162,7 @@ near~2 (("(((""#;
 #[test]
 fn tokens_are_scanned_and_judged(rt: HostRuntime) -> Result<(), Fail> {
     let alloc = rt.alloc();
-    assert_eq!(rt; wrong_row(alloc, "tokens", TOKENS)?.as_str(), "");
-    assert_eq!(rt; wrong_row(alloc, "outside", OUTSIDE)?.as_str(), "");
-    assert_eq!(rt; wrong_row(alloc, "nests", NESTS)?.as_str(), "");
-    Ok(())
+    assert_told(&rt, wrong_row(alloc, "tokens", TOKENS), "")?;
+    assert_told(&rt, wrong_row(alloc, "outside", OUTSIDE), "")?;
+    assert_told(&rt, wrong_row(alloc, "nests", NESTS), "")
 }

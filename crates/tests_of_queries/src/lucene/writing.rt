@@ -1,5 +1,6 @@
 //! Texts and refusals that are known by hand, of trees made by hand.
 
+use crate::tables::assert_told;
 use crate::trees::{Writer, leaf, told, wrong_row};
 use backend_core::Tree;
 use sig_base::Limits;
@@ -71,23 +72,26 @@ a:1 OR (*:* AND NOT (*:* AND NOT b:2))~fits:4@9:1 fits:5:2 not not any";
 fn trees_are_written(rt: HostRuntime) -> Result<(), Fail> {
     let alloc = rt.alloc();
     let limits = Limits::standard();
-    assert_eq!(rt;
-        wrong_row(alloc, &Writer::Lucene, FIELDS, &limits, LEAVES)?.as_str(),
-        ""
-    );
-    assert_eq!(rt;
-        wrong_row(alloc, &Writer::Lucene, FIELDS, &limits, LACKING)?.as_str(),
-        ""
-    );
-    assert_eq!(rt;
-        wrong_row(alloc, &Writer::Lucene, FIELDS, &limits, LISTS)?.as_str(),
-        ""
-    );
-    assert_eq!(rt;
-        wrong_row(alloc, &Writer::Lucene, FIELDS, &limits, NEGATIONS)?.as_str(),
-        ""
-    );
-    Ok(())
+    assert_told(
+        &rt,
+        wrong_row(alloc, &Writer::Lucene, FIELDS, &limits, LEAVES),
+        "",
+    )?;
+    assert_told(
+        &rt,
+        wrong_row(alloc, &Writer::Lucene, FIELDS, &limits, LACKING),
+        "",
+    )?;
+    assert_told(
+        &rt,
+        wrong_row(alloc, &Writer::Lucene, FIELDS, &limits, LISTS),
+        "",
+    )?;
+    assert_told(
+        &rt,
+        wrong_row(alloc, &Writer::Lucene, FIELDS, &limits, NEGATIONS),
+        "",
+    )
 }
 
 /// What is told of any of 2,000 texts, or of what denies it.
@@ -108,12 +112,8 @@ fn of_two_thousand(alloc: Global, denied: bool) -> Result<String, Fail> {
 #[test]
 fn too_many_clauses(rt: HostRuntime) -> Result<(), Fail> {
     let alloc = rt.alloc();
-    assert_eq!(rt;
-        of_two_thousand(alloc, false)?.as_str(),
-        "1:1 113 2000 1024"
-    );
-    assert_eq!(rt; of_two_thousand(alloc, true)?.as_str(), "1:1 113 2001 1024");
-    Ok(())
+    assert_told(&rt, of_two_thousand(alloc, false), "1:1 113 2000 1024")?;
+    assert_told(&rt, of_two_thousand(alloc, true), "1:1 113 2001 1024")
 }
 
 /// Within 24 bytes, two clauses and one open parenthesis.
@@ -150,21 +150,23 @@ const MANY: &str = "1:1 113 4 2~fits:4@9:1 fits:5:2 not not any";
 #[test]
 fn refusals_in_their_order(rt: HostRuntime) -> Result<(), Fail> {
     let alloc = rt.alloc();
-    assert_eq!(rt;
-        wrong_row(alloc, &Writer::Lucene, FIELDS, &short(), LONG)?.as_str(),
-        ""
-    );
+    assert_told(
+        &rt,
+        wrong_row(alloc, &Writer::Lucene, FIELDS, &short(), LONG),
+        "",
+    )?;
     let few = short_of_few_clauses();
-    assert_eq!(rt;
-        wrong_row(alloc, &Writer::Lucene, FIELDS, &few, MANY)?.as_str(),
-        ""
-    );
+    assert_told(
+        &rt,
+        wrong_row(alloc, &Writer::Lucene, FIELDS, &few, MANY),
+        "",
+    )?;
     let shallow = short_and_shallow();
-    assert_eq!(rt;
-        wrong_row(alloc, &Writer::Lucene, FIELDS, &shallow, SHALLOW)?.as_str(),
-        ""
-    );
-    Ok(())
+    assert_told(
+        &rt,
+        wrong_row(alloc, &Writer::Lucene, FIELDS, &shallow, SHALLOW),
+        "",
+    )
 }
 
 const PROCESS: &str =
@@ -177,16 +179,15 @@ const ENCODED_COMMAND: &str =
 #[test]
 fn a_rule_of_many_tests(rt: HostRuntime) -> Result<(), Fail> {
     let limits = Limits::standard();
-    assert_eq!(rt;
+    assert_told(
+        &rt,
         wrong_row(
             rt.alloc(),
             &Writer::Lucene,
             PROCESS,
             &limits,
-            ENCODED_COMMAND
-        )?
-        .as_str(),
-        ""
-    );
-    Ok(())
+            ENCODED_COMMAND,
+        ),
+        "",
+    )
 }

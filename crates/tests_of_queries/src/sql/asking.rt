@@ -1,5 +1,6 @@
 //! Tests of columns, of what is wrong with a test, of the test that is made, and of depths, by hand.
 
+use crate::tables::assert_told;
 use crate::trees;
 use sig_base::{Place, Refusal, Text};
 use sql_parse::{Core, Leaf, Ors, Outcome, read_query};
@@ -138,6 +139,7 @@ fn names_and_kinds(rt: HostRuntime) -> Result<(), Fail> {
 122 1:26~"Image" COLLATE NOCASE = "Nope"
 122 1:9~"Pid" < "Nope"
 123 1:1~"Image" < "Nope"
+122 1:1~"Nope" < "Image"
 122 1:1~"Nope" = "None"
 0~"Pid" IS NULL
 122 1:1~"Nope" IS NOT NULL
@@ -154,8 +156,7 @@ fn names_and_kinds(rt: HostRuntime) -> Result<(), Fail> {
 123 1:1~"Ip" NOT BETWEEN 1 AND 2
 123 1:1~"Pid" COLLATE BINARY BETWEEN 1 AND 2
 122 1:1~"Nope" BETWEEN 1 AND 2"#;
-    assert_eq!(rt; wrong_row(alloc, table)?.as_str(), "");
-    Ok(())
+    assert_told(&rt, wrong_row(alloc, table), "")
 }
 
 #[test]
@@ -188,8 +189,7 @@ fn patterns(rt: HostRuntime) -> Result<(), Fail> {
 122 1:1~"Nope" GLOB '['
 0~"Image" REGEXP '('
 122 1:1~"Nope" REGEXP '('"#;
-    assert_eq!(rt; wrong_row(alloc, table)?.as_str(), "");
-    Ok(())
+    assert_told(&rt, wrong_row(alloc, table), "")
 }
 
 /// What is told of a comparison with a name that is no column's, when no places are known.
@@ -202,8 +202,7 @@ fn told_without_places(alloc: Global) -> Result<String, Fail> {
 
 #[test]
 fn short_places(rt: HostRuntime) -> Result<(), Fail> {
-    assert_eq!(rt; told_without_places(rt.alloc())?.as_str(), "122 1:1");
-    Ok(())
+    assert_told(&rt, told_without_places(rt.alloc()), "122 1:1")
 }
 
 /// The test that a condition is made, as it's printed.
@@ -255,8 +254,7 @@ fn tests_that_are_made(rt: HostRuntime) -> Result<(), Fail> {
 "Image" NOT REGEXP '('~Regexp { field: 0, negated: true, pattern: Text { inner: "(" } }
 "Pid" NOT IN (2, 1)~Test(OneOf { left: Side { operand: Column(1), collate: Unsaid }, negated: true, values: [Whole(2), Whole(1)] })
 "Pid" BETWEEN -1 AND 007~Test(Between { left: Side { operand: Column(1), collate: Unsaid }, negated: false, low: -1, high: 7 })"#;
-    assert_eq!(rt; wrong_test(alloc, table)?.as_str(), "");
-    Ok(())
+    assert_told(&rt, wrong_test(alloc, table), "")
 }
 
 /// Whether it's a condition, and exactly so deep.
@@ -311,8 +309,7 @@ fn depths(rt: HostRuntime) -> Result<(), Fail> {
 4~NOT NOT 1 AND 1
 5~1 OR 1 AND 1 AND (1 OR 0 OR 1)
 4~"a" = 'a' COLLATE NOCASE OR 1"#;
-    assert_eq!(rt; wrong_depth(alloc, table)?.as_str(), "");
-    Ok(())
+    assert_told(&rt, wrong_depth(alloc, table), "")
 }
 
 /// The number of a name's column, where it has a kind as well, or `-`.
@@ -341,11 +338,12 @@ fn columns_told(alloc: Global, names: &str) -> Result<String, Fail> {
 #[test]
 fn columns_by_their_names(rt: HostRuntime) -> Result<(), Fail> {
     let alloc = rt.alloc();
-    let known = columns_told(alloc, "b B A É BA bA C")?;
-    assert_eq!(rt; known.as_str(), "0 0 2 3 4 4 5 ");
-    let unknown = columns_told(alloc, "é  bab")?;
-    assert_eq!(rt; unknown.as_str(), "- - - ");
-    Ok(())
+    assert_told(
+        &rt,
+        columns_told(alloc, "b B A É BA bA C"),
+        "0 0 2 3 4 4 5 ",
+    )?;
+    assert_told(&rt, columns_told(alloc, "é  bab"), "- - - ")
 }
 
 /// Whether a name is `Image_é[` but for the case of its letters from `a` to `z`.

@@ -1,5 +1,6 @@
 //! Queries of comparisons, with a number and of two fields, and of regular expressions, known by hand.
 
+use crate::tables::assert_told;
 use crate::trees::{Writer, within, wrong_row};
 use std::test::Fail;
 
@@ -52,30 +53,32 @@ const DEPTHS: &str = r"1:1 112 2 1~>=:3:5
 fn comparisons_and_expressions(rt: HostRuntime) -> Result<(), Fail> {
     let alloc = rt.alloc();
     let limits = within(100, 4_194_304);
-    assert_eq!(rt;
-        wrong_row(alloc, &Writer::Sql, FIELDS, &limits, COMPARISONS)?.as_str(),
-        ""
-    );
-    assert_eq!(rt;
-        wrong_row(alloc, &Writer::Sql, FIELDS, &limits, EXPRESSIONS)?.as_str(),
-        ""
-    );
-    Ok(())
+    assert_told(
+        &rt,
+        wrong_row(alloc, &Writer::Sql, FIELDS, &limits, COMPARISONS),
+        "",
+    )?;
+    assert_told(
+        &rt,
+        wrong_row(alloc, &Writer::Sql, FIELDS, &limits, EXPRESSIONS),
+        "",
+    )
 }
 
 #[test]
 fn comparisons_and_expressions_within_limits(rt: HostRuntime) -> Result<(), Fail> {
     let alloc = rt.alloc();
     let shallow = within(1, 4_194_304);
-    assert_eq!(rt;
-        wrong_row(alloc, &Writer::Sql, FIELDS, &shallow, DEPTHS)?.as_str(),
-        ""
-    );
+    assert_told(
+        &rt,
+        wrong_row(alloc, &Writer::Sql, FIELDS, &shallow, DEPTHS),
+        "",
+    )?;
     let short = within(1000, 49);
     let table = "1:1 114 50 49~finds:1:a'b";
-    assert_eq!(rt;
-        wrong_row(alloc, &Writer::Sql, FIELDS, &short, table)?.as_str(),
-        ""
-    );
-    Ok(())
+    assert_told(
+        &rt,
+        wrong_row(alloc, &Writer::Sql, FIELDS, &short, table),
+        "",
+    )
 }

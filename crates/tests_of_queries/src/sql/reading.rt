@@ -1,6 +1,6 @@
 //! Queries and refusals by hand.
 
-use crate::tables::with_controls;
+use crate::tables::{assert_told, with_controls};
 use crate::trees::schema;
 use languages::CrateBuilder;
 use sig_base::{Fault, Limits};
@@ -133,8 +133,7 @@ NOT NOT ("Pid" NOT BETWEEN 1 AND 2 OR NOT 0 AND 1) OR ((1)) ~ (or --(or t (and -
 NOT NOT (1) ~ --1
 ((1)) ~ 1
 "#;
-    assert_eq!(rt; first_wrong(alloc, table, 0)?.as_str(), "");
-    Ok(())
+    assert_told(&rt, first_wrong(alloc, table, 0), "")
 }
 
 #[test]
@@ -158,8 +157,7 @@ x = 'a ~ 121 at 1:30
 "Pid" = -9223372036854775808 ~ 121 at 1:38
 "Pid" = - 1 ~ 121 at 1:38
 "#;
-    assert_eq!(rt; first_wrong(alloc, table, 0)?.as_str(), "");
-    Ok(())
+    assert_told(&rt, first_wrong(alloc, table, 0), "")
 }
 
 #[test]
@@ -185,8 +183,7 @@ fn names_kinds_and_patterns_are_refused(rt: HostRuntime) -> Result<(), Fail> {
 NOT ("Image" GLOB '[*') OR "Other" = 'a' ~ 125 at 1:48
 "Pid" = 'a' OR "Other" = 'a' ~ 123 at 1:30
 "#;
-    assert_eq!(rt; first_wrong(alloc, table, 0)?.as_str(), "");
-    Ok(())
+    assert_told(&rt, first_wrong(alloc, table, 0), "")
 }
 
 #[test]
@@ -197,18 +194,17 @@ fn regular_expressions_are_refused(rt: HostRuntime) -> Result<(), Fail> {
 "Other" = 'a' OR "Image" REGEXP '(' ~ 122 at 1:30
 "Image" REGEXP 'a' AND NOT "Image" REGEXP '(' ~ 47 at 1:72
 "#;
-    assert_eq!(rt; first_wrong(alloc, syntax, 0)?.as_str(), "");
+    assert_told(&rt, first_wrong(alloc, syntax, 0), "")?;
     let first = r#""Image" REGEXP 'a' ~ 48 at 1:45
 "Image" REGEXP 'a' OR "Image" REGEXP '(' ~ 48 at 1:45
 "Image" IS NULL ~ t
 "#;
-    assert_eq!(rt; first_wrong(alloc, first, 1)?.as_str(), "");
+    assert_told(&rt, first_wrong(alloc, first, 1), "")?;
     let second = r#""Image" REGEXP 'a' ~ t
 "Image" REGEXP 'a' AND "Image" REGEXP 'b' ~ 48 at 1:68
 "Image" REGEXP '(' AND "Image" REGEXP 'b' ~ 47 at 1:45
 "#;
-    assert_eq!(rt; first_wrong(alloc, second, 2)?.as_str(), "");
-    Ok(())
+    assert_told(&rt, first_wrong(alloc, second, 2), "")
 }
 
 /// What is answered to so many times a word, and then a text.
@@ -265,14 +261,25 @@ const NESTS: &str = r#"------------------0~18~NOT ~0
 const DEEP_NESTS: &str = r#"124 at 1:1~1000~NOT ~"Image" IS NULL
 124 at 1:1~999~NOT ~"Image" IS NULL"#;
 
+/// What is answered to 21 tests with AND between over a table that the schema doesn't have, within a depth of 20.
+fn of_another_table(alloc: Global) -> Result<String, Fail> {
+    let mut limits = Limits::standard();
+    limits.sql_depth = 20;
+    let mut text = String::from_str(alloc, "SELECT * FROM \"other\" WHERE 1")?;
+    for _turn in 0..20 {
+        text.push_str(" AND 1")?;
+    }
+    answer(alloc, &limits, text.as_bytes(), 0)
+}
+
 #[test]
 fn nesting_is_bounded(rt: HostRuntime) -> Result<(), Fail> {
     let alloc = rt.alloc();
     let mut limits = Limits::standard();
-    assert_eq!(rt; wrong_nest(alloc, &limits, DEEP_NESTS)?.as_str(), "");
+    assert_told(&rt, wrong_nest(alloc, &limits, DEEP_NESTS), "")?;
     limits.sql_depth = 20;
-    assert_eq!(rt; wrong_nest(alloc, &limits, NESTS)?.as_str(), "");
-    Ok(())
+    assert_told(&rt, wrong_nest(alloc, &limits, NESTS), "")?;
+    assert_told(&rt, of_another_table(alloc), "124 at 1:1")
 }
 
 /// Whether so many open parentheses around `1`, each closed, are read as 1.
@@ -339,10 +346,9 @@ fn of_letters(alloc: Global, count: usize) -> Result<String, Fail> {
 fn what_stands_side_by_side_is_not_nested(rt: HostRuntime) -> Result<(), Fail> {
     let alloc = rt.alloc();
     assert!(rt; is_read_side_by_side(alloc)?);
-    assert_eq!(rt; of_groups(alloc, 10)?.as_str(), "t");
-    assert_eq!(rt; of_groups(alloc, 251)?.as_str(), "47 at 1:45");
-    assert_eq!(rt; of_letters(alloc, 50_000)?.as_str(), "t");
-    Ok(())
+    assert_told(&rt, of_groups(alloc, 10), "t")?;
+    assert_told(&rt, of_groups(alloc, 251), "47 at 1:45")?;
+    assert_told(&rt, of_letters(alloc, 50_000), "t")
 }
 
 /// The first row of a table, `what is answered~a whole text`, that isn't answered so.
@@ -376,8 +382,10 @@ const TEXTS: &str = r#"120 at 1:1~
 #[test]
 fn whole_texts_are_refused(rt: HostRuntime) -> Result<(), Fail> {
     let alloc = rt.alloc();
-    assert_eq!(rt; wrong_text(alloc, TEXTS)?.as_str(), "");
-    let no_text = answer(alloc, &Limits::standard(), b"SELECT \xff", 0)?;
-    assert_eq!(rt; no_text.as_str(), "1 at 1:8");
-    Ok(())
+    assert_told(&rt, wrong_text(alloc, TEXTS), "")?;
+    assert_told(
+        &rt,
+        answer(alloc, &Limits::standard(), b"SELECT \xff", 0),
+        "1 at 1:8",
+    )
 }

@@ -1,5 +1,6 @@
 //! What small queries say of small events, all reckoned by hand.
 
+use crate::tables::assert_told;
 use event_schema::{Event, FieldValues, Value};
 use languages::{CrateBuilder, Search};
 use sig_base::Text;
@@ -223,9 +224,11 @@ fn wrong_test(alloc: Global, rows: &'static str) -> Result<String, Fail> {
 
 #[test]
 fn patterns_say_of_the_value_s_text(rt: HostRuntime) -> Result<(), Fail> {
-    let wrong = wrong_test(
-        rt.alloc(),
-        r"yes~CMD.exe~like 0 cmd%
+    assert_told(
+        &rt,
+        wrong_test(
+            rt.alloc(),
+            r"yes~CMD.exe~like 0 cmd%
 no~CMD.exe~like 0 cmd_
 no~CMD.exe~!like 0 cmd%
 unknown~~like 0 %
@@ -268,16 +271,18 @@ yes~a~!regexp 0 b
 unknown~~regexp 0 .*
 unknown~~!regexp 0 a
 yes~||-12~regexp 2 ^-\d+$",
-    )?;
-    assert_eq!(rt; wrong.as_str(), "");
-    Ok(())
+        ),
+        "",
+    )
 }
 
 #[test]
 fn comparisons_say_of_the_value(rt: HostRuntime) -> Result<(), Fail> {
-    let wrong = wrong_test(
-        rt.alloc(),
-        r"yes~~1
+    assert_told(
+        &rt,
+        wrong_test(
+            rt.alloc(),
+            r"yes~~1
 no~~0
 yes~~null 0
 no~a~null 0
@@ -317,16 +322,18 @@ no~'7~= 0 - 7 -
 no~'7~<> 0 - 7 -
 yes~a,b~= 0 - 'a -
 no~a,b~= 0 - 'b -",
-    )?;
-    assert_eq!(rt; wrong.as_str(), "");
-    Ok(())
+        ),
+        "",
+    )
 }
 
 #[test]
 fn lists_and_ranges_say_of_the_value(rt: HostRuntime) -> Result<(), Fail> {
-    let wrong = wrong_test(
-        rt.alloc(),
-        r"yes~a~in 0 - 'b,'a
+    assert_told(
+        &rt,
+        wrong_test(
+            rt.alloc(),
+            r"yes~a~in 0 - 'b,'a
 no~a~in 0 - 'b,'c
 no~A~in 0 - 'b,'a
 yes~A~in 0 n 'b,'a
@@ -347,9 +354,9 @@ yes~||8~!between 2 3 7
 no~||3~!between 2 3 7
 unknown~||~between 2 3 7
 unknown~||~!between 2 3 7",
-    )?;
-    assert_eq!(rt; wrong.as_str(), "");
-    Ok(())
+        ),
+        "",
+    )
 }
 
 /// `1`, `0`, a test that is unknown, or a search for a letter in the first column.
@@ -424,9 +431,11 @@ fn wrong_expression(alloc: Global, rows: &'static str) -> Result<String, Fail> {
 
 #[test]
 fn three_values_are_joined(rt: HostRuntime) -> Result<(), Fail> {
-    let wrong = wrong_expression(
-        rt.alloc(),
-        r"yes~~YY&
+    assert_told(
+        &rt,
+        wrong_expression(
+            rt.alloc(),
+            r"yes~~YY&
 no~~YN&
 no~~NY&
 unknown~~YU&
@@ -452,17 +461,19 @@ unknown~~NUNN4
 no~~NNNN4
 unknown~~UN|Y&
 yes~~UN&!",
-    )?;
-    assert_eq!(rt; wrong.as_str(), "");
-    Ok(())
+        ),
+        "",
+    )
 }
 
 /// Where a part decides a chain, the regular expressions behind it in the chain are passed, and those behind the chain are their own.
 #[test]
 fn regular_expressions_are_their_own(rt: HostRuntime) -> Result<(), Fail> {
-    let wrong = wrong_expression(
-        rt.alloc(),
-        r"yes~a~ca|
+    assert_told(
+        &rt,
+        wrong_expression(
+            rt.alloc(),
+            r"yes~a~ca|
 no~b~ab&c|
 no~ab~ab|c&
 yes~ac~ab|c&
@@ -474,7 +485,7 @@ no~bc~abc3d|
 yes~d~abc3d|
 unknown~~ab|c&
 unknown~~a!b&",
-    )?;
-    assert_eq!(rt; wrong.as_str(), "");
-    Ok(())
+        ),
+        "",
+    )
 }

@@ -1,5 +1,6 @@
 //! Texts that are known by hand, on trees made by hand.
 
+use crate::tables::assert_told;
 use crate::trees::{Writer, leaf, told, within, wrong_row};
 use backend_core::Tree;
 use sig_base::Limits;
@@ -27,11 +28,11 @@ NOT ("User" IS NOT NULL AND "User" = 'b' AND ("Image" IS NOT NULL AND "Image" = 
 fn trees_are_written(rt: HostRuntime) -> Result<(), Fail> {
     let alloc = rt.alloc();
     let limits = Limits::standard();
-    assert_eq!(rt;
-        wrong_row(alloc, &Writer::Sql, FIELDS, &limits, CONDITIONS)?.as_str(),
-        ""
-    );
-    Ok(())
+    assert_told(
+        &rt,
+        wrong_row(alloc, &Writer::Sql, FIELDS, &limits, CONDITIONS),
+        "",
+    )
 }
 
 /// `any`, `all` or `none`, which denies `all`, of so many equal tests.
@@ -88,12 +89,8 @@ const LISTS: &str = r"1:1 112 66 1~any~64
 #[test]
 fn depths_of_long_lists(rt: HostRuntime) -> Result<(), Fail> {
     let alloc = rt.alloc();
-    assert_eq!(rt; wrong_list(alloc, 1, LISTS)?.as_str(), "");
-    assert_eq!(rt;
-        wrong_list(alloc, 69, "1:1 112 70 69~any~2000")?.as_str(),
-        ""
-    );
-    Ok(())
+    assert_told(&rt, wrong_list(alloc, 1, LISTS), "")?;
+    assert_told(&rt, wrong_list(alloc, 69, "1:1 112 70 69~any~2000"), "")
 }
 
 /// A text so many times, with a word between.
@@ -137,29 +134,19 @@ fn guarded_halves(alloc: Global) -> Result<String, Fail> {
 #[test]
 fn long_lists_in_halves(rt: HostRuntime) -> Result<(), Fail> {
     let alloc = rt.alloc();
-    assert_eq!(rt;
-        of_copies(alloc, "any", 64)?.as_str(),
-        repeated(alloc, TEST, " OR ", 64)?.as_str()
-    );
-    assert_eq!(rt;
-        of_copies(alloc, "any", 65)?.as_str(),
-        halves(alloc)?.as_str()
-    );
-    Ok(())
+    let whole = repeated(alloc, TEST, " OR ", 64)?;
+    assert_told(&rt, of_copies(alloc, "any", 64), whole.as_str())?;
+    let halves = halves(alloc)?;
+    assert_told(&rt, of_copies(alloc, "any", 65), halves.as_str())
 }
 
 #[test]
 fn guards_count_among_parts(rt: HostRuntime) -> Result<(), Fail> {
     let alloc = rt.alloc();
-    assert_eq!(rt;
-        of_copies(alloc, "none", 32)?.as_str(),
-        guarded(alloc)?.as_str()
-    );
-    assert_eq!(rt;
-        of_copies(alloc, "none", 33)?.as_str(),
-        guarded_halves(alloc)?.as_str()
-    );
-    Ok(())
+    let whole = guarded(alloc)?;
+    assert_told(&rt, of_copies(alloc, "none", 32), whole.as_str())?;
+    let halves = guarded_halves(alloc)?;
+    assert_told(&rt, of_copies(alloc, "none", 33), halves.as_str())
 }
 
 /// A query of 63 bytes, where 10 are allowed and where 63 are.
@@ -167,14 +154,15 @@ fn guards_count_among_parts(rt: HostRuntime) -> Result<(), Fail> {
 fn as_long_as_allowed(rt: HostRuntime) -> Result<(), Fail> {
     let alloc = rt.alloc();
     let long = "1:1 114 63 10~fits:0:cmd.exe";
-    assert_eq!(rt;
-        wrong_row(alloc, &Writer::Sql, FIELDS, &within(69, 10), long)?.as_str(),
-        ""
-    );
+    assert_told(
+        &rt,
+        wrong_row(alloc, &Writer::Sql, FIELDS, &within(69, 10), long),
+        "",
+    )?;
     let whole = "\"Image\" = 'cmd.exe' COLLATE NOCASE~fits:0:cmd.exe";
-    assert_eq!(rt;
-        wrong_row(alloc, &Writer::Sql, FIELDS, &within(69, 63), whole)?.as_str(),
-        ""
-    );
-    Ok(())
+    assert_told(
+        &rt,
+        wrong_row(alloc, &Writer::Sql, FIELDS, &within(69, 63), whole),
+        "",
+    )
 }

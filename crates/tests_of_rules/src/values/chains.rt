@@ -1,6 +1,7 @@
 //! Rows of the table of chains, reckoned by hand.
 
 use super::tables::{Asked, answer, wrong_row};
+use crate::tables::assert_told;
 use modifier_chains::{Chain, ChainForm, Flags, Joined, Op};
 use sig_base::{Detail, Fault, Place, Refusal, Text};
 use std::alloc::Global;
@@ -200,6 +201,5 @@ impl Asked for Chains {
 #[test]
 fn words_make_chains(rt: HostRuntime) -> Result<(), Fail> {
     assert_eq!(rt; ROWS.lines().count(), 102);
-    assert_eq!(rt; wrong_row(rt.alloc(), &Chains, ROWS)?.as_str(), "");
-    Ok(())
+    assert_told(&rt, wrong_row(rt.alloc(), &Chains, ROWS), "")
 }

@@ -1,6 +1,7 @@
 //! The tests that chains make of values, reckoned by hand.
 
 use super::tables::{Asked, answer, wrong_row};
+use crate::tables::assert_told;
 use modifier_chains::{Chain, Flags, Op};
 use sig_base::{Fault, Limits, Place, Refusal, Text, TryCopy};
 use sig_modifiers::{Test, Tests};
@@ -186,8 +187,7 @@ a*~keyword|startswith~a";
 
 #[test]
 fn texts_become_patterns(rt: HostRuntime) -> Result<(), Fail> {
-    assert_eq!(rt; wrong_value(rt.alloc(), PATTERNS)?.as_str(), "");
-    Ok(())
+    assert_told(&rt, wrong_value(rt.alloc(), PATTERNS), "")
 }
 
 const OTHER_VALUES: &str = "absent~field~null
@@ -228,8 +228,7 @@ true cased~field|all|cased~true
 
 #[test]
 fn other_values_by_their_chains(rt: HostRuntime) -> Result<(), Fail> {
-    assert_eq!(rt; wrong_value(rt.alloc(), OTHER_VALUES)?.as_str(), "");
-    Ok(())
+    assert_told(&rt, wrong_value(rt.alloc(), OTHER_VALUES), "")
 }
 
 const DASHES: &str = "* _a _b*~field|windash|contains~ -a /b
@@ -244,8 +243,7 @@ _a _b _c _d~field|windash~-a /b -c /d
 
 #[test]
 fn windash_marks_dashes(rt: HostRuntime) -> Result<(), Fail> {
-    assert_eq!(rt; wrong_value(rt.alloc(), DASHES)?.as_str(), "");
-    Ok(())
+    assert_told(&rt, wrong_value(rt.alloc(), DASHES), "")
 }
 
 const ENCODED: &str = "YwBtAGQA~field|wide|base64~cmd
@@ -265,8 +263,7 @@ L2Jpbi9iYXNo, 9iaW4vYmFza, vYmluL2Jhc2~field|base64offset~/bin/bash
 
 #[test]
 fn texts_are_encoded(rt: HostRuntime) -> Result<(), Fail> {
-    assert_eq!(rt; wrong_value(rt.alloc(), ENCODED)?.as_str(), "");
-    Ok(())
+    assert_told(&rt, wrong_value(rt.alloc(), ENCODED), "")
 }
 
 const NETWORKS: &str = "inside 4~field|cidr~192.168.0.0/14
@@ -281,8 +278,7 @@ inside 1~field|cidr|all~10.0.0.1
 
 #[test]
 fn texts_are_networks(rt: HostRuntime) -> Result<(), Fail> {
-    assert_eq!(rt; wrong_value(rt.alloc(), NETWORKS)?.as_str(), "");
-    Ok(())
+    assert_told(&rt, wrong_value(rt.alloc(), NETWORKS), "")
 }
 
 const COMPARED: &str = "< -7~field|lt~-7
@@ -305,8 +301,7 @@ same as *~field|fieldref~*
 
 #[test]
 fn numbers_and_fields_are_compared_with(rt: HostRuntime) -> Result<(), Fail> {
-    assert_eq!(rt; wrong_value(rt.alloc(), COMPARED)?.as_str(), "");
-    Ok(())
+    assert_told(&rt, wrong_value(rt.alloc(), COMPARED), "")
 }
 
 const EXPRESSIONS: &str = r"finds a.c~field|re~a.c
@@ -333,8 +328,7 @@ finds (?ms).~keyword|re|s|all|m~.
 
 #[test]
 fn regular_expressions_are_found(rt: HostRuntime) -> Result<(), Fail> {
-    assert_eq!(rt; wrong_value(rt.alloc(), EXPRESSIONS)?.as_str(), "");
-    Ok(())
+    assert_told(&rt, wrong_value(rt.alloc(), EXPRESSIONS), "")
 }
 
 const UNBUILT_HERE: &str = "48~field|re~a.c
@@ -353,11 +347,12 @@ const UNBUILT_ELSEWHERE: &str = "finds a.c~field|re~a.c
 #[test]
 fn regular_expressions_are_not_built(rt: HostRuntime) -> Result<(), Fail> {
     let alloc = rt.alloc();
-    let wrong = wrong_short(alloc, Unbuilt::KeyAndValue, UNBUILT_HERE)?;
-    assert_eq!(rt; wrong.as_str(), "");
-    let wrong = wrong_short(alloc, Unbuilt::Key, UNBUILT_ELSEWHERE)?;
-    assert_eq!(rt; wrong.as_str(), "");
-    Ok(())
+    assert_told(
+        &rt,
+        wrong_short(alloc, Unbuilt::KeyAndValue, UNBUILT_HERE),
+        "",
+    )?;
+    assert_told(&rt, wrong_short(alloc, Unbuilt::Key, UNBUILT_ELSEWHERE), "")
 }
 
 /// Whether a test of a regular expression is one.
@@ -416,7 +411,9 @@ YWJj~field|base64~abc
 
 #[test]
 fn the_first_cause_is_told(rt: HostRuntime) -> Result<(), Fail> {
-    let wrong = wrong_short(rt.alloc(), Unbuilt::Nowhere, FIRST_CAUSES)?;
-    assert_eq!(rt; wrong.as_str(), "");
-    Ok(())
+    assert_told(
+        &rt,
+        wrong_short(rt.alloc(), Unbuilt::Nowhere, FIRST_CAUSES),
+        "",
+    )
 }

@@ -1,6 +1,7 @@
 //! Patterns and refusals reckoned by hand.
 
 use super::tables::{Asked, answer, wrong_row};
+use crate::tables::assert_told;
 use modifier_chains::{Chain, Flags};
 use sig_base::{Fault, Limits, Place, Refusal, Text};
 use sig_strings::{Part, SharedPattern};
@@ -276,25 +277,19 @@ fn texts_stand_for_patterns(rt: HostRuntime) -> Result<(), Fail> {
     let alloc = rt.alloc();
     assert_eq!(rt; AT_FIELDS.lines().count(), 36);
     let at_field = Patterns { keyword: false };
-    assert_eq!(rt; wrong_row(alloc, &at_field, AT_FIELDS)?.as_str(), "");
+    assert_told(&rt, wrong_row(alloc, &at_field, AT_FIELDS), "")?;
     let at_keyword = Patterns { keyword: true };
-    assert_eq!(rt; wrong_row(alloc, &at_keyword, AT_KEYWORDS)?.as_str(), "");
-    Ok(())
+    assert_told(&rt, wrong_row(alloc, &at_keyword, AT_KEYWORDS), "")
 }
 
 #[test]
 fn texts_are_networks(rt: HostRuntime) -> Result<(), Fail> {
-    assert_eq!(rt; wrong_row(rt.alloc(), &Networks, NETWORKS)?.as_str(), "");
-    Ok(())
+    assert_told(&rt, wrong_row(rt.alloc(), &Networks, NETWORKS), "")
 }
 
 #[test]
 fn texts_name_fields(rt: HostRuntime) -> Result<(), Fail> {
-    assert_eq!(rt;
-        wrong_row(rt.alloc(), &References, REFERENCES)?.as_str(),
-        ""
-    );
-    Ok(())
+    assert_told(&rt, wrong_row(rt.alloc(), &References, REFERENCES), "")
 }
 
 #[test]
@@ -304,12 +299,11 @@ fn texts_are_regular_expressions(rt: HostRuntime) -> Result<(), Fail> {
     let elsewhere = Expressions {
         unbuilt: Unbuilt::Key,
     };
-    assert_eq!(rt; wrong_row(alloc, &elsewhere, EXPRESSIONS)?.as_str(), "");
+    assert_told(&rt, wrong_row(alloc, &elsewhere, EXPRESSIONS), "")?;
     let here = Expressions {
         unbuilt: Unbuilt::Value,
     };
-    assert_eq!(rt; wrong_row(alloc, &here, NUL_EXPRESSIONS)?.as_str(), "");
-    Ok(())
+    assert_told(&rt, wrong_row(alloc, &here, NUL_EXPRESSIONS), "")
 }
 
 const NOT_BUILT_HERE: &str = "48~~a";
@@ -323,12 +317,11 @@ fn regular_expressions_are_not_built(rt: HostRuntime) -> Result<(), Fail> {
     let both = Expressions {
         unbuilt: Unbuilt::ValueAndKey,
     };
-    assert_eq!(rt; wrong_row(alloc, &both, NOT_BUILT_HERE)?.as_str(), "");
+    assert_told(&rt, wrong_row(alloc, &both, NOT_BUILT_HERE), "")?;
     let here = Expressions {
         unbuilt: Unbuilt::Value,
     };
-    assert_eq!(rt; wrong_row(alloc, &here, REFUSED_HERE)?.as_str(), "");
-    Ok(())
+    assert_told(&rt, wrong_row(alloc, &here, REFUSED_HERE), "")
 }
 
 /// Groups around a letter, one in the other.
@@ -362,9 +355,8 @@ fn nested_told(alloc: Global, count: usize) -> Result<String, Fail> {
 
 #[test]
 fn regular_expressions_nest_so_deep(rt: HostRuntime) -> Result<(), Fail> {
-    assert_eq!(rt; nested_told(rt.alloc(), 250)?.as_str(), "same");
-    assert_eq!(rt; nested_told(rt.alloc(), 251)?.as_str(), "47");
-    Ok(())
+    assert_told(&rt, nested_told(rt.alloc(), 250), "same")?;
+    assert_told(&rt, nested_told(rt.alloc(), 251), "47")
 }
 
 /// Asks whether a number may be compared with, or for the number of the refusal.
@@ -386,6 +378,5 @@ taken~9223372036854775807";
 
 #[test]
 fn the_least_number_is_out_of_range(rt: HostRuntime) -> Result<(), Fail> {
-    assert_eq!(rt; wrong_row(rt.alloc(), &Ordered, RANGE)?.as_str(), "");
-    Ok(())
+    assert_told(&rt, wrong_row(rt.alloc(), &Ordered, RANGE), "")
 }

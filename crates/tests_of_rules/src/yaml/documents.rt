@@ -1,4 +1,5 @@
 use super::tables::with_controls;
+use crate::tables::assert_told;
 use sig_base::{Fault, Limits, Place, Refusal};
 use std::alloc::Global;
 use std::fmt::Write;
@@ -126,10 +127,9 @@ const MARKED: &str = r#"3 2:1| ~ a: 1␊...␊b: [␊
 fn files_are_read_and_refused(rt: HostRuntime) -> Result<(), Fail> {
     let alloc = rt.alloc();
     let limits = Limits::standard();
-    assert_eq!(rt; wrong_row(alloc, &limits, TREES)?.as_str(), "");
-    assert_eq!(rt; wrong_row(alloc, &limits, REFUSED)?.as_str(), "");
-    assert_eq!(rt; wrong_row(alloc, &limits, MARKED)?.as_str(), "");
-    Ok(())
+    assert_told(&rt, wrong_row(alloc, &limits, TREES), "")?;
+    assert_told(&rt, wrong_row(alloc, &limits, REFUSED), "")?;
+    assert_told(&rt, wrong_row(alloc, &limits, MARKED), "")
 }
 
 const TOO_DEEP: &str = "6 1:33| ~ [[[[[[[[[[[[[[[[[[[[[[[[[[[[[[[[[[[[[[[[";
@@ -168,19 +168,16 @@ fn shown_in_five(alloc: Global, bytes: &[u8]) -> Result<String, Fail> {
 fn keeps_limits(rt: HostRuntime) -> Result<(), Fail> {
     let alloc = rt.alloc();
     let standard = Limits::standard();
-    assert_eq!(rt; wrong_row(alloc, &standard, TOO_DEEP)?.as_str(), "");
+    assert_told(&rt, wrong_row(alloc, &standard, TOO_DEEP), "")?;
     let lists = "6 1:5| ~ a: [[1]]";
-    assert_eq!(rt; wrong_row(alloc, &two_deep(), lists)?.as_str(), "");
-    assert_eq!(rt; wrong_row(alloc, &two_documents(), TWO)?.as_str(), "");
-    Ok(())
+    assert_told(&rt, wrong_row(alloc, &two_deep(), lists), "")?;
+    assert_told(&rt, wrong_row(alloc, &two_documents(), TWO), "")
 }
 
 #[test]
 fn keeps_the_limit_of_bytes(rt: HostRuntime) -> Result<(), Fail> {
     let alloc = rt.alloc();
-    assert_eq!(rt; shown_in_five(alloc, b"a: \xFFxx")?.as_str(), "2 1:1");
-    assert_eq!(rt; shown_in_five(alloc, b"a: \xFFx")?.as_str(), "1 1:4");
-    let whole = shown_in_five(alloc, b"a: 1\n")?;
-    assert_eq!(rt; whole.as_str(), "{a@1:1=1@1:4 }@1:1|");
-    Ok(())
+    assert_told(&rt, shown_in_five(alloc, b"a: \xFFxx"), "2 1:1")?;
+    assert_told(&rt, shown_in_five(alloc, b"a: \xFFx"), "1 1:4")?;
+    assert_told(&rt, shown_in_five(alloc, b"a: 1\n"), "{a@1:1=1@1:4 }@1:1|")
 }

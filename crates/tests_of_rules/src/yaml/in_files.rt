@@ -1,4 +1,5 @@
 use super::tables::with_controls;
+use crate::tables::assert_told;
 use sig_base::{Fault, Place};
 use std::alloc::Global;
 use std::fmt::Write;
@@ -71,32 +72,30 @@ const FILES: &str = r"/1a: 1|2b|3|4 c| ~ a: 1␍␊b␊␊ c
 #[test]
 fn parts_files_into_documents(rt: HostRuntime) -> Result<(), Fail> {
     let alloc = rt.alloc();
-    assert_eq!(rt; wrong_file(alloc, 9, FILES)?.as_str(), "");
-    assert_eq!(rt;
-        wrong_file(alloc, 1, "7 8:1 ~ ---␊a␊---␊␊# c␊---␊␊ b␊")?.as_str(),
-        ""
-    );
-    assert_eq!(rt;
-        wrong_file(alloc, 2, "/2a|/7|8 b| ~ ---␊a␊---␊␊# c␊---␊␊ b␊")?.as_str(),
-        ""
-    );
-    Ok(())
+    assert_told(&rt, wrong_file(alloc, 9, FILES), "")?;
+    assert_told(
+        &rt,
+        wrong_file(alloc, 1, "7 8:1 ~ ---␊a␊---␊␊# c␊---␊␊ b␊"),
+        "",
+    )?;
+    assert_told(
+        &rt,
+        wrong_file(alloc, 2, "/2a|/7|8 b| ~ ---␊a␊---␊␊# c␊---␊␊ b␊"),
+        "",
+    )
 }
 
 #[test]
 fn refuses_whole_files(rt: HostRuntime) -> Result<(), Fail> {
     let alloc = rt.alloc();
-    assert_eq!(rt; shown(alloc, 3, 9, b"\xFFaaa")?.as_str(), "2 1:1");
-    assert_eq!(rt; shown(alloc, 4, 9, b"a\nb\xFF")?.as_str(), "1 2:2");
-    assert_eq!(rt;
-        shown(alloc, 99, 9, b"\xEF\xBB\xBF\xC3\xA9\xC3")?.as_str(),
-        "1 1:2"
-    );
-    assert_eq!(rt;
-        shown(alloc, 99, 9, b"a\r\n\xED\xA0\x80")?.as_str(),
-        "1 2:1"
-    );
-    Ok(())
+    assert_told(&rt, shown(alloc, 3, 9, b"\xFFaaa"), "2 1:1")?;
+    assert_told(&rt, shown(alloc, 4, 9, b"a\nb\xFF"), "1 2:2")?;
+    assert_told(
+        &rt,
+        shown(alloc, 99, 9, b"\xEF\xBB\xBF\xC3\xA9\xC3"),
+        "1 1:2",
+    )?;
+    assert_told(&rt, shown(alloc, 99, 9, b"a\r\n\xED\xA0\x80"), "1 2:1")
 }
 
 /// A bracket that is open at column 4, and a quote at column 8.
@@ -162,6 +161,5 @@ const OPENINGS: &str = r#"3 1:4 ~ a: [1, "x ~ "]
 
 #[test]
 fn finds_what_closes_later(rt: HostRuntime) -> Result<(), Fail> {
-    assert_eq!(rt; wrong_opening(rt.alloc(), OPENINGS)?.as_str(), "");
-    Ok(())
+    assert_told(&rt, wrong_opening(rt.alloc(), OPENINGS), "")
 }

@@ -1,4 +1,5 @@
 use super::tables::with_controls;
+use crate::tables::assert_told;
 use sig_base::Place;
 use std::alloc::Global;
 use std::test::Fail;
@@ -134,11 +135,10 @@ Unclosed(1, [Opening { place: Place { line: 1, column: 8 }, closing: '"' }]) ~ t
 #[test]
 fn lines_are_read_and_refused(rt: HostRuntime) -> Result<(), Fail> {
     let alloc = rt.alloc();
-    assert_eq!(rt; wrong_row(alloc, 32, SEQUENCES)?.as_str(), "");
-    assert_eq!(rt; wrong_row(alloc, 32, MAPS)?.as_str(), "");
-    assert_eq!(rt; shown(alloc, 32, "")?.as_str(), "1:1 null");
-    assert_eq!(rt; wrong_row(alloc, 32, REFUSED)?.as_str(), "");
-    Ok(())
+    assert_told(&rt, wrong_row(alloc, 32, SEQUENCES), "")?;
+    assert_told(&rt, wrong_row(alloc, 32, MAPS), "")?;
+    assert_told(&rt, shown(alloc, 32, ""), "1:1 null")?;
+    assert_told(&rt, wrong_row(alloc, 32, REFUSED), "")
 }
 
 /// Within a depth of 2.
@@ -155,9 +155,8 @@ const FLAT: &str = r#"1:1 "a" ~ a
 #[test]
 fn refuses_what_is_too_deep(rt: HostRuntime) -> Result<(), Fail> {
     let alloc = rt.alloc();
-    assert_eq!(rt; wrong_row(alloc, 2, DEEP)?.as_str(), "");
-    assert_eq!(rt; wrong_row(alloc, 0, FLAT)?.as_str(), "");
-    Ok(())
+    assert_told(&rt, wrong_row(alloc, 2, DEEP), "")?;
+    assert_told(&rt, wrong_row(alloc, 0, FLAT), "")
 }
 
 /// What is read of 20,000 different keys, each on its line.
@@ -186,7 +185,6 @@ fn reads_many_items(rt: HostRuntime) -> Result<(), Fail> {
             .as_str()
             .ends_with(" 20000:1 k19999 = 20000:1 null }")
     );
-    assert_eq!(rt; of_many(alloc, "- ")?.as_str(), "1:65 Code(6)");
-    assert_eq!(rt; of_many(alloc, "a:\n")?.as_str(), "2:1 Code(5)");
-    Ok(())
+    assert_told(&rt, of_many(alloc, "- "), "1:65 Code(6)")?;
+    assert_told(&rt, of_many(alloc, "a:\n"), "2:1 Code(5)")
 }
