@@ -13,7 +13,7 @@ use Rattle.rule_lowering.specs.Leaves.{leaves}
 use Rattle.rule_lowering.specs.Refused.{leaves_refusal}
 use Rattle.rule_lowering.specs.TreeOf.{tree_of}
 use Rattle.rule_building.proofs.BuiltRows.{built_at}
-use Rattle.rule_building.proofs.Documents.{found_items, found_only, found_none, no_items}
+use Rattle.rule_building.proofs.Documents.{found_items, found_none, no_items}
 use Rattle.rule_building.proofs.Lists.{zip_map}
 use Rattle.rule_building.specs.Building.{Builds, FoundUnbuilt}
 use Rattle.rule_building.specs.ForUnbuilt.{ForItems, ForUnbuilt, is_answered}
@@ -24,7 +24,7 @@ use Rattle.rule_model.specs.Plain.{PlainRule, rule_with}
 use Rattle.rule_model.specs.Rules.{lone_refusal, IsRule, IsLoneRule}
 use Rattle.rule_queries.specs.Queries.{rule_tree, query_under, query_of, query_refusal, filled_checks, checks_under, query_checks}
 use Rattle.rule_queries.specs.Rebuilt.{Rebuilt, IsUnmade, ForChained, makes_none, makes_one}
-use Rattle.rule_queries.specs.Verdicts.{CheckAnswers, ConvertAnswers, no_rule, not_made, no_query}
+use Rattle.rule_queries.specs.Verdicts.{ConvertAnswers, no_rule, not_made, no_query}
 use Rattle.rule_schema.specs.Inferred.{schema_for, open_refusal, made_refusal, fit_refusal}
 use Rattle.sig_base.proofs.Firsts.{judged_as}
 use Rattle.sig_base.specs.Judged.{first, Judged}
@@ -258,18 +258,6 @@ module _ (limits : Limits) (t : Tree) (values slice : List Place) (same : slice 
       → ForItems IsMade t slice mid after Says → ForUnbuilt IsMade limits t before after ended Says
   node_converted IsMade after ended Says h =
       found_items IsMade limits t values before mid after ended Says found (subst (λ (places : List Place). ForItems IsMade t places mid after Says) same h)
-
-  pub node_checked : (r : Result Place Fault) → ((earlier : List (List ℕ)) → CheckAnswers (of_values slice earlier) limits t r)
-      → ForUnbuilt (Makes limits []) limits t before mid (is_answered r) (λ unbuilt. CheckAnswers unbuilt limits t r)
-  node_checked r h =
-      found_only (Makes limits []) limits t values before mid (is_answered r) (λ unbuilt. CheckAnswers unbuilt limits t r) found
-      (subst (λ (places : List Place). (earlier : List (List ℕ)) → CheckAnswers (of_values places earlier) limits t r) same h)
-
--- the places aren't found, for want of memory
-pub none_checked : (limits : Limits) (t : Tree) (before after : List (List ℕ)) (fault : Fault) → FoundUnbuilt (document_expressions limits t) before after (Err fault)
-    → ForUnbuilt (Makes limits []) limits t before after (is_answered {X = Place} (Err fault)) (λ unbuilt. CheckAnswers unbuilt limits t (Err fault))
-none_checked limits t before after fault found =
-    found_none (Makes limits []) limits t {X = Place} before after (λ unbuilt r. CheckAnswers unbuilt limits t r) fault found (λ unbuilt. tt)
 
 -- what pipelines make of a rule, with the other entries of its head
 abbrev MadeWith : Limits → List Pipeline → Type 0

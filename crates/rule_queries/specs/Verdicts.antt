@@ -10,7 +10,7 @@ use Rattle.pipeline_chain.specs.Chained.{run_pipelines, Makes}
 use Rattle.pipeline_model.specs.declared.pipeline.Pipeline.{Pipeline}
 use Rattle.rule_building.specs.Unbuilt.{Unbuilt}
 use Rattle.rule_model.specs.Plain.{PlainRule}
-use Rattle.rule_model.specs.Rules.{rule_refusal, lone_refusal, IsRule, IsLoneRule}
+use Rattle.rule_model.specs.Rules.{lone_refusal, IsLoneRule}
 use Rattle.rule_queries.specs.Queries.{query_of, query_refusal}
 use Rattle.sig_base.specs.declared.limits.Limits.{Limits}
 use Rattle.sig_base.specs.declared.refusal.Fault.{Fault}
@@ -18,17 +18,6 @@ use Rattle.sig_base.specs.declared.refusal.Fault.TheVariants.{Memory, Refused}
 use Rattle.sig_base.specs.declared.refusal.Place.{Place}
 use Rattle.sig_base.specs.declared.refusal.Refusal.{Refusal}
 use Rattle.yaml_tree.specs.Tree.{Tree}
-
--- the node is this rule
-pub record IsChecked (unbuilt : Unbuilt) (limits : Limits) (t : Tree) (rule : PlainRule) : Type 0 where
-  pub taken : rule_refusal unbuilt.values limits t ≡ None
-  pub is : IsRule t rule
-
--- what checking a node answers: the place of its rule
-abbrev pub CheckAnswers : Unbuilt → Limits → Tree → Result Place Fault → Type 0
-CheckAnswers unbuilt limits t (Ok place) = (rule : PlainRule) × IsChecked unbuilt limits t rule × (place ≡ rule.head.place)
-CheckAnswers unbuilt limits t (Err (Refused r)) = rule_refusal unbuilt.values limits t ≡ Some r
-CheckAnswers unbuilt limits t (Err Memory) = ⊤
 
 -- ---- queries, of any backend
 

@@ -1,6 +1,6 @@
 //! Nodes of documents as rules, and rules as queries.
 
-ghost use Rattle.std.specs.Prelude.{◌≡◌, ◌∷◌, [], List, ℕ, None, option_map};
+ghost use Rattle.std.specs.Prelude.{◌≡◌, ◌∷◌, None, option_map};
 ghost use Rattle.backend_core.specs.Sound.{IsSound};
 ghost use Rattle.backend_core.specs.View.{tree_view};
 ghost use Rattle.backend_core.specs.Writing.{write_checks};
@@ -8,14 +8,14 @@ ghost use Rattle.event_schema.specs.Lists.{EachOf};
 ghost use Rattle.pipeline_chain.specs.Chained.{Makes};
 ghost use Rattle.pipeline_chain.specs.Kept.{IsWholePipeline};
 ghost use Rattle.rule_building.specs.ForUnbuilt.{ForItems, ForUnbuilt, is_answered};
-ghost use Rattle.rule_building.specs.Unbuilt.{of_values, unbuilt_refusal};
+ghost use Rattle.rule_building.specs.Unbuilt.{unbuilt_refusal};
 ghost use Rattle.rule_model.specs.Expressions.{rule_expressions};
 ghost use Rattle.rule_schema.specs.Inferred.{fit_refusal, open_refusal};
 ghost use Rattle.rule_model.specs.Plain.{rule_view};
 ghost use Rattle.rule_model.specs.Whole.{IsWhole};
 ghost use Rattle.rule_queries.specs.Queries.{query_of, query_under, query_refusal, filled_checks, checks_under, query_checks};
 ghost use Rattle.rule_queries.specs.Rebuilt.{Rebuilt, ForChained};
-ghost use Rattle.rule_queries.specs.Verdicts.{ConvertAnswers, CheckAnswers};
+ghost use Rattle.rule_queries.specs.Verdicts.{ConvertAnswers};
 ghost use Rattle.sig_base.specs.Judged.{Judged, first};
 ghost use Rattle.yaml_tree.specs.View.{node_view};
 
@@ -225,33 +225,4 @@ fn convert_chained<B: Backend, C: Builder>(
         Ok(made) => convert_rule(backend, alloc, limits, &made, given, builder),
         Err(fault) => Err(fault),
     }
-}
-
-/// The place of the rule that a node is, refused as `Rule::read` says.
-pub fn check_node<C: Builder>(
-    alloc: Global,
-    limits: &Limits,
-    node: &Node,
-    builder: &mut C,
-) -> Result<Place, Fault>
-    ensures { ForUnbuilt (Makes limits.now []) limits.now (node_view node.now) (C.refused builder.old) (C.refused builder.new) (is_answered result)
-        (λ unbuilt. CheckAnswers unbuilt limits.now (node_view node.now) result) }
-{
-    match find_unbuilt(alloc, limits, node, builder) {
-        Ok(unbuilt) => check_read(alloc, limits, unbuilt.as_slice(), node),
-        Err(fault) => Err(fault),
-    }
-}
-
-/// The same, where the places are found at which the regular expressions of values aren't built.
-fn check_read(
-    alloc: Global,
-    limits: &Limits,
-    unbuilt: &[Place],
-    node: &Node,
-) -> Result<Place, Fault>
-    ensures { (earlier : List (List ℕ)) → CheckAnswers (of_values unbuilt.now earlier) limits.now (node_view node.now) result }
-{
-    let rule = Rule::read_bare(alloc, limits, unbuilt, node)?;
-    Ok(rule.head.place)
 }

@@ -1,6 +1,6 @@
 //! What follows from the definitions, for the proofs of callers: each function does nothing else than name laws that it stands on.
 
-ghost use Rattle.std.specs.Prelude.{◌≡◌, List, Option, None, IfSome};
+ghost use Rattle.std.specs.Prelude.{List, Option, IfSome};
 ghost use Rattle.event_schema.specs.Lists.{EachOf};
 ghost use Rattle.event_schema.specs.Schemas.{IsSchema};
 ghost use Rattle.event_schema.specs.declared.schema.Schema.{Schema};
@@ -8,23 +8,13 @@ ghost use Rattle.pipeline_chain.specs.Kept.{IsWholePipeline};
 ghost use Rattle.pipeline_model.specs.declared.pipeline.Pipeline.{Pipeline};
 ghost use Rattle.rule_building.specs.Unbuilt.{Unbuilt};
 ghost use Rattle.rule_model.specs.Plain.{PlainRule};
-ghost use Rattle.rule_model.specs.Rules.{rule_refusal};
 ghost use Rattle.rule_queries.specs.Queries.{query_of, Converts};
-ghost use Rattle.rule_queries.specs.Verdicts.{IsChecked, IsConverted};
+ghost use Rattle.rule_queries.specs.Verdicts.{IsConverted};
 ghost use Rattle.sig_base.specs.declared.limits.Limits.{Limits};
 ghost use Rattle.yaml_tree.specs.Texts.{HasScalarTexts};
 ghost use Rattle.yaml_tree.specs.Tree.{Tree};
 
 use backend_core::Backend;
-
-/// A node that isn't refused is a rule, and one rule only.
-pub fn one_verdict()
-    ensures each { (unbuilt : Unbuilt) (limits : Limits) (t : Tree) → rule_refusal unbuilt.values limits t ≡ None → (rule : PlainRule) × IsChecked unbuilt limits t rule }
-    ensures one { (u v : Unbuilt) (limits : Limits) (t : Tree) (a b : PlainRule) → IsChecked u limits t a → IsChecked v limits t b → a ≡ b }
-{
-    rule_model::rule_or_refusal();
-    rule_model::one_rule();
-}
 
 /// The query of each rule that pipelines make and that has one means this rule.
 pub fn queries_mean_rules<B: Backend>()

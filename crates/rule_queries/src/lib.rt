@@ -2,8 +2,8 @@
 #![tactic(auto)]
 
 pub use backend_name::BackendName;
-pub use converting::{check_node, convert_node};
-pub use law::{one_verdict, queries_mean_rules};
+pub use converting::convert_node;
+pub use law::queries_mean_rules;
 
 mod backend_name;
 mod converting;

@@ -50,7 +50,7 @@ impl Code {
     /// An escape that isn't known.
     pub const BAD_ESCAPE: Code = Code(9);
 
-    /// A form that isn't built yet.
+    /// For a form that isn't built: all are, so nothing is refused with it.
     pub const NOT_BUILT: Code = Code(10);
 
     /// Not JSON.

@@ -21,7 +21,7 @@ pub struct Limits {
     pub dashes: usize,
     /// Fields of a schema.
     pub schema_fields: usize,
-    /// Names of all items together, and alternatives of all items together.
+    /// Names of all items of a rule together, and tests of all its items together.
     pub grown: usize,
     /// Leaves of a tree.
     pub leaves: usize,

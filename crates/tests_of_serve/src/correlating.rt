@@ -102,11 +102,12 @@ const TWO_RULES: Scene = Scene {
     events: "②",
 };
 
-/// The texts of a field are counted, each once; rules in their order are met by events in theirs; an event is reported by each correlation in
-/// turn; and one that comes too early is as if it hadn't come: the next one isn't taken either.
+/// The texts of a field are counted, each once; rules in their order are met by events in theirs, and else by events in any; an event is
+/// reported by each correlation in turn; and one that comes too early is as if it hadn't come: the next one isn't taken either.
 const EACH_KIND: &str =
     r#"Users¶correlation:¶  type: value_count¶  rules: one¶  timespan: 60s¶  condition:¶    field: User¶    gte: 2¶~{"Code":1,"User":"a","t":0}¶{"Code":1,"User":"a","t":1}¶{"Code":1,"User":"b","t":2}¶{"Code":2,"User":"c","t":3}¶{"Code":1,"User":"a","t":61}¶{"Code":1,"User":"a","t":62}¶~0|{"correlation":"Users","line":3,"from":1,"count":2,"group":[]}¶{"correlation":"Users","line":5,"from":3,"count":2,"group":[]}¶|
 Order¶correlation:¶  type: temporal_ordered¶  rules: [one, two]¶  timespan: 60s¶~{"Code":2,"User":"a","t":0}¶{"Code":1,"User":"a","t":1}¶{"Code":2,"User":"a","t":2}¶~0|{"correlation":"Order","line":3,"from":1,"count":3,"group":[]}¶|
+Near¶correlation:¶  type: temporal¶  rules: [one, two]¶  timespan: 60s¶~{"Code":2,"User":"a","t":0}¶{"Code":1,"User":"a","t":1}¶{"Code":1,"User":"a","t":60}¶~0|{"correlation":"Near","line":2,"from":1,"count":2,"group":[]}¶|
 Each¶correlation:¶  type: event_count¶  rules: one¶  timespan: 60s¶  condition:¶    gte: 1¶---¶title: Twice¶correlation:¶  type: event_count¶  rules: one¶  timespan: 60s¶  condition:¶    gte: 2¶~{"Code":1,"User":"a","t":0}¶{"Code":1,"User":"a","t":1}¶~0|{"correlation":"Each","line":1,"from":1,"count":1,"group":[]}¶{"correlation":"Each","line":2,"from":1,"count":2,"group":[]}¶{"correlation":"Twice","line":2,"from":1,"count":2,"group":[]}¶|
 Any¶correlation:¶  type: event_count¶  rules: one¶  timespan: 60s¶  condition:¶    gte: 2¶~{"Code":1,"User":"a","t":61}¶{"Code":1,"User":"a","t":59}¶{"Code":1,"User":"a","t":60}¶{"Code":1,"User":"a","t":61}¶~1|{"correlation":"Any","line":4,"from":1,"count":2,"group":[]}¶|events:2: 145 OutOfOrder 59000000000 61000000000¶events:3: 145 OutOfOrder 60000000000 61000000000¶"#;
 
