@@ -157,6 +157,16 @@ def expressions():
     yield Input("4,096 expressions, over an event", {"r.yml": many}, run, 0, r"\{", event(F="x4095-y"))
 
 
+# ---- words
+
+
+def words():
+    one = {"r.yml": rule("  a: b\n")}
+    yield Input("a word that isn't UTF-8", one, ["check", "r.yml", "\udcff"], 2, "sigma: bad usage")
+    yield Input("100,000 words", one, ["check", *["r.yml"] * 100_000], 0, r"r\.yml:1:1: ok")
+    yield Input("a word of 120,000 letters", one, ["check", "r.yml", "x" * 120_000], 3, r"sigma: cannot read x+")
+
+
 # ---- events
 
 
@@ -175,8 +185,8 @@ def events():
 # ---- queries, by the program of the crate `bench`
 
 SELECT = 'SELECT*FROM"t"WHERE'
-UNIT_94 = "(" + "OR".join(["0"] * 94) + ")"
-GROUPS_94 = "(" + "OR".join([UNIT_94] * 94) + ")"
+UNIT_94 = "(" + " OR ".join(["0"] * 94) + ")"
+GROUPS_94 = "(" + " OR ".join([UNIT_94] * 94) + ")"
 SIXTY = "(" + "OR".join(['"a"REGEXP\'x\''] * 60) + ")"
 SIXTY_FOUR = "(" + "OR".join(['"a"REGEXP\'x\''] * 64) + ")"
 
@@ -189,7 +199,7 @@ def queries():
     yield Input("SQL, a list of 1,000,000 texts", {}, ["sql", f"{SELECT}\"a\"IN(''", ",'x'", "1000000", ")", ""], 0, "read")
     yield Input("SQL, a name of 1,000,000 letters", {}, ["sql", SELECT + '"', "a", "1000000", '"IS NULL', ""], 0, r"[0-9]+:[0-9]+: 122")
     yield Input("SQL, a text of 4,000,000 letters", {}, ["sql", SELECT + "\"a\"='", "a", "4000000", "'", ""], 0, "read")
-    yield Input("SQL, 812,912 times `0`: 92 groups of 94 groups of 94", {}, ["sql", SELECT + " 0", "OR" + GROUPS_94, "92", "", ""], 0, "read")
+    yield Input("SQL, 812,912 times `0`: 92 groups of 94 groups of 94", {}, ["sql", SELECT + " 0", " OR " + GROUPS_94, "92", "", ""], 0, "read")
     yield Input("SQL, 216,000 times `\"a\"REGEXP'x'`: 60 groups of 60 groups of 60", {}, ["sql", SELECT + " 0 ", "OR(" + "OR".join([SIXTY] * 60) + ")", "60", "", ""], 0, "read")
     yield Input("SQL, 290,816 times: 71 groups of 64 groups of 64", {}, ["sql", SELECT + " 0 ", "OR(" + "OR".join([SIXTY_FOUR] * 64) + ")", "71", "", ""], 0, "read")
     yield Input(r"SQL, 200 times `\pL{100}`", {}, ["sql", SELECT + " 0", " OR\"a\"REGEXP'\\pL{100}'", "200", "", ""], 0, "read")
@@ -289,7 +299,7 @@ def main():
             sys.exit("--stack needs --bench")
         show_stack(os.path.abspath(told.bench))
         return 0
-    groups = [(told.program, shapes), (told.program, signs), (told.program, conditions), (told.program, pipelines), (told.program, expressions), (told.program, events)]
+    groups = [(told.program, shapes), (told.program, signs), (told.program, conditions), (told.program, pipelines), (told.program, expressions), (told.program, words), (told.program, events)]
     groups += [(told.bench, queries)] if told.bench else []
     tried = wrong = 0
     for program, make in groups:
