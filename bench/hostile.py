@@ -26,10 +26,11 @@ CONVERT = ["convert", "--backend", "sqlite"]
 
 
 class Input:
-    """Files by name, the words of a call and what stands on its standard input; the status that is wanted, and what the first line of its answer has to match."""
+    """Files by name, the words of a call and what stands on its standard input; the status that is wanted, and what the first line of its answer has to match. Its output is read, or
+    it is `full`, `closed` or a `pipe` that nobody reads."""
 
-    def __init__(self, name, files, words, status, line, given=""):
-        self.name, self.files, self.words, self.status, self.line, self.given = name, files, words, status, line, given
+    def __init__(self, name, files, words, status, line, given="", out=""):
+        self.name, self.files, self.words, self.status, self.line, self.given, self.out = name, files, words, status, line, given, out
 
 
 def names(count, letters=4):
@@ -164,7 +165,13 @@ def words():
     one = {"r.yml": rule("  a: b\n")}
     yield Input("a word that isn't UTF-8", one, ["check", "r.yml", "\udcff"], 2, "sigma: bad usage")
     yield Input("100,000 words", one, ["check", *["r.yml"] * 100_000], 0, r"r\.yml:1:1: ok")
-    yield Input("a word of 120,000 letters", one, ["check", "r.yml", "x" * 120_000], 3, r"sigma: cannot read x+")
+    yield Input("no words", {}, [], 2, "sigma: bad usage")
+    yield Input("a word of 120,000 letters", one, ["check", "x" * 120_000], 3, r"sigma: cannot read x+")
+    yield Input("a file that isn't there", {}, ["check", "r.yml"], 3, "sigma: cannot read r.yml")
+    yield Input("a folder in place of a file", {}, ["check", "."], 3, r"sigma: cannot read \.")
+    yield Input("standard output full", one, ["check", "r.yml"], 4, "", out="full")
+    yield Input("standard output closed", one, ["check", "r.yml"], 4, "", out="closed")
+    yield Input("standard output a pipe that nobody reads", one, ["check", "r.yml"], 4, "", out="pipe")
 
 
 # ---- events
@@ -223,7 +230,16 @@ DEEPEST = [
 # A process begins with the peak memory of the one that it is made by, so that a small one makes those that are measured.
 SPAWN = """
 import os, sys
-process = os.posix_spawn(sys.argv[2], sys.argv[2:], os.environ)
+actions = []
+if sys.argv[2] == "full":
+    actions = [(os.POSIX_SPAWN_OPEN, 1, "/dev/full", os.O_WRONLY, 0)]
+elif sys.argv[2] == "closed":
+    actions = [(os.POSIX_SPAWN_CLOSE, 1)]
+elif sys.argv[2] == "pipe":
+    read, write = os.pipe()
+    os.close(read)
+    actions = [(os.POSIX_SPAWN_DUP2, write, 1)]
+process = os.posix_spawn(sys.argv[3], sys.argv[3:], os.environ, file_actions=actions)
 _, status, usage = os.wait4(process, 0)
 with open(sys.argv[1], "w") as report:
     report.write(f"{usage.ru_utime + usage.ru_stime} {usage.ru_maxrss} {os.waitstatus_to_exitcode(status)}")
@@ -234,7 +250,7 @@ def ran(program, folder, entry):
     """The processor's seconds of a run, its peak in MiB, its status and what it wrote on both streams."""
     report = os.path.join(folder, "report")
     with open(os.path.join(folder, "given"), "rb") as given:
-        done = subprocess.run([sys.executable, "-I", "-S", "-c", SPAWN, report, program, *entry.words], cwd=folder, stdin=given, capture_output=True, check=True)
+        done = subprocess.run([sys.executable, "-I", "-S", "-c", SPAWN, report, entry.out, program, *entry.words], cwd=folder, stdin=given, capture_output=True, check=True)
     with open(report) as file:
         seconds, peak, status = file.read().split()
     return float(seconds), int(peak) * (1 if sys.platform == "darwin" else 1024) / MIB, int(status), done.stdout, done.stderr
