@@ -229,7 +229,7 @@ DEEPEST = [
 
 # A process begins with the peak memory of the one that it is made by, so that a small one makes those that are measured.
 SPAWN = """
-import os, sys
+import os, signal, sys
 actions = []
 if sys.argv[2] == "full":
     actions = [(os.POSIX_SPAWN_OPEN, 1, "/dev/full", os.O_WRONLY, 0)]
@@ -239,7 +239,7 @@ elif sys.argv[2] == "pipe":
     read, write = os.pipe()
     os.close(read)
     actions = [(os.POSIX_SPAWN_DUP2, write, 1)]
-process = os.posix_spawn(sys.argv[3], sys.argv[3:], os.environ, file_actions=actions)
+process = os.posix_spawn(sys.argv[3], sys.argv[3:], os.environ, file_actions=actions, setsigdef=[signal.SIGPIPE])
 _, status, usage = os.wait4(process, 0)
 with open(sys.argv[1], "w") as report:
     report.write(f"{usage.ru_utime + usage.ru_stime} {usage.ru_maxrss} {os.waitstatus_to_exitcode(status)}")
