@@ -16,7 +16,7 @@ BACKENDS = ["sqlite", "lucene"]
 
 COMMANDS = {
     "check": ("which documents are rules or correlations", "Writes FILE:LINE:COLUMN: ok for each document that is a rule or a correlation.", ""),
-    "convert": ("a query for each rule", "Writes a line for each rule, its query in the language of the backend.", ""),
+    "convert": ("a query for each rule", "Writes a line for each rule that has a query, this query in the language of the backend.", ""),
     "run": ("the events that a rule matches", "Writes each event of the standard input that the file's one rule matches, as it was read.", " < EVENTS"),
     "query": ("the events that a query selects", "Writes each event of the standard input that the query in the file selects, as it was read.", " < EVENTS"),
     "correlate": ("the reports of correlations over events", "Writes a line of JSON for each report of the files' correlations over the events of the standard input.", " < EVENTS"),
@@ -88,7 +88,7 @@ def man(table):
     for name in OPTIONS:
         lines += [".TP", f".B \\-\\-{name} {OPTIONS[name][0]}", roff(OPTIONS[name][1][:1].upper() + OPTIONS[name][1][1:]) + "."]
     lines += [".TP", ".B \\-\\-help, \\-\\-version", "Alone, or \\-\\-help behind a command's name: answered by the launcher.", ".SH DIAGNOSTICS"]
-    lines += ["Each document, file or line that isn't taken has one line on standard error, FILE:LINE:COLUMN: CODE NAME, or events:LINE: CODE NAME of an event, and perhaps a detail.", ".SH EXIT STATUS"]
+    lines += ["Each document, file or line that is refused has one line on standard error, FILE:LINE:COLUMN: CODE NAME, or events:LINE: CODE NAME of an event, and perhaps a detail.", ".SH EXIT STATUS"]
     for code, said in EXIT:
         lines += [".TP", f".B {code}", roff(said)]
     lines += [
