@@ -44,6 +44,7 @@ EXIT = [
     ("5", "Memory is missing."),
     ("125", "The launcher can't build the program."),
     ("127", "The launcher finds no toolchain."),
+    ("130", "The launcher is interrupted while it builds."),
 ]
 
 
