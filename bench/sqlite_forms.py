@@ -16,9 +16,9 @@ import tempfile
 TEXTS = 'create table "events" ("f" text, "g" text, "n" text)'
 LIST = "    f: [x, y]\n"
 SECOND = "    g: null\n    f: [x, y]\n"
-# a name, what makes the table, the rule's items, the rows, and which of them are selected and which are meant
 ROWS = [("X", None, None), ("y", None, None), ("Y", "g", None), ("x", "g", None)]
 NUMBERS = [("a", None, "05"), ("b", None, "5"), ("c", None, "10"), ("d", None, "6")]
+# a name, what makes the table, the rule's items, the rows, and which of them are selected and which are meant
 FORMS = [
     ("no index", [TEXTS], LIST, ROWS, [0, 1, 2, 3], [0, 1, 2, 3]),
     ("an ordinary index", [TEXTS, 'create index i on "events" ("f")'], LIST, ROWS, [1, 3], [0, 1, 2, 3]),
@@ -72,6 +72,8 @@ def is_refused(query):
 
 
 def main():
+    if len(sys.argv) != 2:
+        sys.exit("sqlite_forms.py PROGRAM")
     program = os.path.abspath(sys.argv[1])
     otherwise = 0
     with tempfile.TemporaryDirectory() as folder:
@@ -81,7 +83,7 @@ def main():
             otherwise += found != wanted
             print(f"{name}: rows {json.dumps(found)}, meant {json.dumps(meant)}: {query}" + ("" if found == wanted else "   OTHERWISE"))
         for name, nested, wanted in NESTS:
-            least = next((n for n in range(1, 200) if is_refused(query_of(program, folder, "    f: x\n", nested(n)))), None)
+            least = next((n for n in range(1, 129) if is_refused(query_of(program, folder, "    f: x\n", nested(n)))), None)
             otherwise += least != wanted
             print(f"{name}: refused by the parser from {least} on" + ("" if least == wanted else "   OTHERWISE"))
     print(f"SQLite {sqlite3.sqlite_version}: {otherwise} otherwise")

@@ -7,7 +7,8 @@ PROGRAM is the built program, as crates/sigma_app/out/sigma_app. It runs each co
 or else, with --files, the one command whose words stand in FOLDER/words, a line for each, in that folder and with FOLDER/events as its standard input.
 Each command is run once as it is, and then so often that the first, the second, .. call of malloc or realloc is refused, and once more with all that follow
 it refused too, until a run ends before that call comes. A call may also be one that the program can do without: then all that it wrote and its
-status are as they would be. It needs cc and glibc. It prints how many calls there were, and each run that ended otherwise; the exit status is then 1.
+status are as they would be. It needs cc and glibc. It prints how many calls there were and the first five runs that ended otherwise, and at last the sum; the exit
+status is 1 where one did, or where no run of a command ended for want of memory.
 """
 import argparse
 import os
@@ -134,19 +135,20 @@ def why_wrong(plain, got):
 
 
 def tries(program, shim, words, folder, given, behind):
-    """Refuses each call in turn; returns how many there were, how many runs ended for want of memory, and what went wrong."""
+    """Refuses each call in turn; returns how many there were, how many runs ended for want of memory, how many gave all, and what went wrong."""
     plain = runs(program, words, folder, given, {})
-    note, calls, wanting, wrong = f"{os.path.dirname(shim)}/note", 0, 0, []
+    note, calls, wanting, whole, wrong = f"{os.path.dirname(shim)}/note", 0, 0, 0, []
     while True:
         variables = {"LD_PRELOAD": shim, "REFUSED_CALL": str(calls + 1), "REFUSED_NOTE": note, **({"REFUSED_BEHIND": "1"} if behind else {})}
         got = runs(program, words, folder, given, variables)
         if not os.path.exists(note):
             if got != plain:
                 wrong.append((calls + 1, "no call was refused, but it ended otherwise"))
-            return calls, wanting, wrong
+            return calls, wanting, whole, wrong
         os.remove(note)
         calls += 1
         wanting += got[0] == 5
+        whole += got == plain
         why = why_wrong(plain, got)
         if why:
             wrong.append((calls, why))
@@ -192,13 +194,13 @@ def main():
             cases = [*examples(), *made(room)]
         for words, folder, given in cases:
             for behind in (False, True):
-                calls, wanting, wrong = tries(program, f"{room}/shim.so", words, folder, given, behind)
+                calls, wanting, whole, wrong = tries(program, f"{room}/shim.so", words, folder, given, behind)
                 how = "each and all behind it" if behind else "each alone"
                 print(f"{calls} calls refused, {how}: {wanting} times status 5, {len(wrong)} wrong: {' '.join(words)}")
                 for number, why in wrong[:5]:
                     print(f"    call {number}: {why}")
                 bad = bad or bool(wrong) or not wanting
-                total, sound = total + calls, sound + calls - wanting - len(wrong)
+                total, sound = total + calls, sound + whole
     print(f"{total} runs, of which {sound} did without the call and gave the whole answer")
     return 1 if bad else 0
 
