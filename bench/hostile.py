@@ -261,8 +261,8 @@ def first_line(out, err):
     return text if len(text) < 60 else text[:57] + ".."
 
 
-def row(program, entry, repeat):
-    """Prints the row of an input; whether it was answered as is wanted."""
+def row(program, entry, repeat, quiet=False):
+    """Prints the row of an input, if it isn't to be quiet or was answered otherwise than is wanted; whether it was so, its seconds and its peak."""
     with tempfile.TemporaryDirectory() as folder:
         size = 0
         for name, content in {**entry.files, "given": entry.given}.items():
@@ -273,8 +273,14 @@ def row(program, entry, repeat):
     _, _, status, out, err = runs[0]
     line = first_line(out, err)
     well = status == entry.status and (re.match(entry.line, line) if entry.line else not line)
-    print(f"{entry.name:66} {size:>10,} {status} {line:60} {min(run[0] for run in runs):>8.3f} {max(run[1] for run in runs):>8.0f}" + ("" if well else f"   WANTED {entry.status} {entry.line}"), flush=True)
-    return bool(well)
+    seconds, peak = min(run[0] for run in runs), max(run[1] for run in runs)
+    if not quiet or not well:
+        show(entry.name, f"{size:,}", f"{status} {line}", seconds, peak, "" if well else f"   WANTED {entry.status} {entry.line}")
+    return bool(well), seconds, peak
+
+
+def show(name, size, answer, seconds, peak, told=""):
+    print(f"{name:66} {size:>10} {answer:62} {seconds:>8.3f} {peak:>8.0f}{told}", flush=True)
 
 
 def reads_within(bench, words, kib):
@@ -319,10 +325,13 @@ def main():
     groups += [(told.bench, queries)] if told.bench else []
     tried = wrong = 0
     for program, make in groups:
+        quiet, rows = make is signs and not told.only, []
         for entry in make():
             if told.only in entry.name:
-                tried += 1
-                wrong += not row(os.path.abspath(program), entry, told.repeat)
+                rows.append(row(os.path.abspath(program), entry, told.repeat, quiet))
+        if quiet:
+            show(f"1 MiB of one sign, {len(rows)} signs, each at most", "1,048,576", "", max(seconds for _, seconds, _ in rows), max(peak for _, _, peak in rows))
+        tried, wrong = tried + len(rows), wrong + sum(not well for well, _, _ in rows)
     print(f"{tried} inputs, {wrong} answered otherwise")
     return 1 if wrong or not tried else 0
 
