@@ -1,7 +1,7 @@
 #!/usr/bin/env python3
 """Times `run` and `query` beside other ways to the same events, in one run for all. Run by hand; it needs a built program.
 
-    python3 bench/run.py PROGRAM [--events N] [--repeats N]
+    python3 bench/run.py PROGRAM [--events N] [--repeats N] [--keep FOLDER]
 
 PROGRAM is the built program, as crates/sigma_app/out/sigma_app. The script makes N events of Windows process creations as JSON lines,
 and a rule that some of them match, and prints for each way the least of some times, in seconds of the clock, the events in a second, and
@@ -9,7 +9,7 @@ the peak of its memory: `sigma run`; `sigma query` with the rule's query in SQL,
 there; `sigma correlate` with the rule and one correlation of it, `event_count` by user in a minute; `jq`, where it is installed, with the like filter; `grep -i` for one word;
 `wc -l`. The ways take turns, so that a busy machine slows none of them alone. That `sigma run` and `sigma query` select the events that SQLite selects, and that
 `sigma correlate` reports what counting the selected events plainly gives, is looked at too. Then the memory of `sigma run` and of `sigma correlate`
-is measured at a tenth of the events.
+is measured at a tenth of the events. With --keep FOLDER the rule (r.yml), the events, the queries (sqlite, lucene) and their schema (schema.json) stay there.
 """
 import argparse
 import collections
@@ -133,6 +133,7 @@ def main():
     parser.add_argument("program", help="the built program")
     parser.add_argument("--events", type=int, default=1000000, help="how many events (1,000,000)")
     parser.add_argument("--repeats", type=int, default=3, help="how many times (3)")
+    parser.add_argument("--keep", help="a folder that the files are copied to")
     told = parser.parse_args()
     program = os.path.abspath(told.program)
     with tempfile.TemporaryDirectory() as folder:
@@ -167,6 +168,8 @@ def main():
             ways["jq"] = ["jq", "-c", FILTER]
         ways["grep -i"] = ["grep", "-i", "powershell"]
         ways["wc -l"] = ["wc", "-l"]
+        if told.keep:
+            shutil.copytree(folder, told.keep, dirs_exist_ok=True)
         size = os.path.getsize(path)
         print(f"{told.events} events, {size / told.events:.0f} bytes each")
         times, peaks, outs = {way: math.inf for way in ways}, {}, {way: os.path.join(folder, f"out{number}") for number, way in enumerate(ways)}
