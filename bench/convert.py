@@ -18,15 +18,16 @@ rules may stand in one file than were asked for.
 import argparse
 import os
 import random
-import subprocess
 import sys
 import tempfile
 import time
 import uuid
 
+import processes
+
 MOST_BYTES = 1_048_576
 MOST_DOCUMENTS = 4_096
-MIB = 1 << 20
+MIB = processes.MIB
 PARTING = "---\n"
 
 # ---- rules
@@ -229,46 +230,15 @@ class Run:
         self.seconds, self.peak = seconds, peak
 
 
-# A process begins with the peak memory of the one that it is made by, so that a small one makes those that are measured. What
-# is below its own, some 8 MiB, can't be told.
-SPAWN = """
-import os, sys, time
-started = time.perf_counter()
-process = os.posix_spawn(sys.argv[2], sys.argv[2:], os.environ)
-_, status, usage = os.wait4(process, 0)
-seconds = time.perf_counter() - started
-with open(sys.argv[1], "w") as report:
-    report.write(f"{seconds} {usage.ru_maxrss} {os.waitstatus_to_exitcode(status)}")
-"""
-
-
-def child(words, folder, out):
-    """Runs a process: its time, its peak memory and its exit status. What it writes stands in `out` and beside it."""
-    report = out + ".report"
-    with open(out, "wb") as sink, open(out + ".err", "wb") as faults:
-        subprocess.run([sys.executable, "-I", "-S", "-c", SPAWN, report, *words], cwd=folder, stdin=subprocess.DEVNULL,
-                       stdout=sink, stderr=faults, check=True)
-    with open(report) as file:
-        seconds, peak, status = file.read().split()
-    return float(seconds), int(peak) * (1 if sys.platform == "darwin" else 1024) / MIB, int(status)
-
-
-def lines_in(path):
-    with open(path, "rb") as file:
-        return sum(1 for _ in file)
-
-
 def run_sigma(told, command, names, wanted):
     """Runs the program, which has to accept all of the wanted rules."""
     words = [told.program, *command, *names]
     best = Run(float("inf"), 0.0)
-    out = os.path.join(told.folder, "out")
     for _ in range(told.repeat):
-        seconds, peak, status = child(words, told.folder, out)
-        if status != 0 or lines_in(out) != wanted:
-            with open(out + ".err", errors="replace") as faults:
-                sys.exit(f"{' '.join(command)}: status {status}, {lines_in(out)} of {wanted} lines\n{faults.read(2000)}")
-        best = Run(min(best.seconds, seconds), max(best.peak, peak))
+        ran = processes.run(words, told.folder)
+        if ran.status != 0 or ran.out.count(10) != wanted:
+            sys.exit(f"{' '.join(command)}: status {ran.status}, {ran.out.count(10)} of {wanted} lines\n{ran.err.decode(errors='replace')[:2000]}")
+        best = Run(min(best.seconds, ran.seconds), max(best.peak, ran.peak))
     return best
 
 
@@ -276,14 +246,11 @@ def run_loader(told, loader, names):
     """Parses the files by a loader of PyYAML, in a process of its own that tells the time."""
     words = [sys.executable, os.path.abspath(__file__), "--load", loader, *names]
     best = Run(float("inf"), 0.0)
-    out = os.path.join(told.folder, "out")
     for _ in range(told.repeat):
-        _, peak, status = child(words, told.folder, out)
-        if status != 0:
-            with open(out + ".err", errors="replace") as faults:
-                sys.exit(f"{loader}: status {status}\n{faults.read(2000)}")
-        with open(out) as answer:
-            best = Run(min(best.seconds, float(answer.read())), max(best.peak, peak))
+        ran = processes.run(words, told.folder)
+        if ran.status != 0:
+            sys.exit(f"{loader}: status {ran.status}\n{ran.err.decode(errors='replace')[:2000]}")
+        best = Run(min(best.seconds, float(ran.out)), max(best.peak, ran.peak))
     return best
 
 

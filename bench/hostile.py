@@ -18,7 +18,8 @@ import subprocess
 import sys
 import tempfile
 
-MIB = 1 << 20
+import processes
+
 MOST_BYTES = 1_048_576
 HEAD = "title: T\nlogsource:\n  product: windows\ndetection:\n"
 LETTERS = "abcdefghijklmnopqrstuvwxyz0123456789"
@@ -57,6 +58,12 @@ def fitting(head, make, foot=""):
         number += 1
 
 
+def many_fields():
+    """A rule of one detection with as many fields as a file has room for, and how many these are."""
+    four = names(200_000)
+    return fitting(f"{HEAD}  condition: a\n  a: {{", lambda n: f"{four[n]}: x,", "}\n")
+
+
 def rule(detection, condition="a"):
     return f"{HEAD}{detection}  condition: {condition}\n"
 
@@ -69,9 +76,9 @@ def event(**values):
 
 
 def shapes():
-    """Rules of which `check` keeps much for each byte, and documents that are none."""
+    """Rules of which `check` keeps much for each byte."""
     four = names(200_000)
-    fields, count = fitting(f"{HEAD}  condition: a\n  a: {{", lambda n: f"{four[n]}: x,", "}\n")
+    fields, count = many_fields()
     yield Input(f"a detection of {count:,} fields with a letter each", {"r.yml": fields}, ["check", "r.yml"], 0, r"r\.yml:1:1: ok")
     words, count = fitting(f"{HEAD} condition: a\n a: [b]\n", lambda n: f" {four[n]}: [x]\n")
     yield Input(f"{count:,} detections of a keyword each", {"r.yml": words}, ["check", "r.yml"], 0, r"r\.yml:1:1: ok")
@@ -103,8 +110,7 @@ def conditions():
     yield Input("30,000 times `1 of *` over 30,000 detections", {"r.yml": rule(many, " or ".join(["1 of *"] * 30_000))}, [*CONVERT, "r.yml"], 5, "")
     one = f"  a: {{A: {'x' * 8192}}}\n"
     yield Input("16,384 times a text of 8,192 characters", {"r.yml": rule(one, " or ".join(["a"] * 16_384))}, [*CONVERT, "r.yml"], 1, r"r\.yml:1:1: 114 ")
-    four = names(200_000)
-    fields, count = fitting(f"{HEAD}  condition: a\n  a: {{", lambda n: f"{four[n]}: x,", "}\n")
+    fields, count = many_fields()
     yield Input(f"{count:,} names", {"r.yml": fields}, [*CONVERT, "r.yml"], 1, r"r\.yml:1:1: 110 ")
     value = (" -b" * 4 + "x" * 8192)[:8000]
     dashes = "  a:\n" + "".join(f"    F{n:02}|windash: '{value}'\n" for n in range(26))
@@ -227,35 +233,6 @@ DEEPEST = [
 
 # ---- runs
 
-# A process begins with the peak memory of the one that it is made by, so that a small one makes those that are measured.
-SPAWN = """
-import os, signal, sys
-actions = []
-if sys.argv[2] == "full":
-    actions = [(os.POSIX_SPAWN_OPEN, 1, "/dev/full", os.O_WRONLY, 0)]
-elif sys.argv[2] == "closed":
-    actions = [(os.POSIX_SPAWN_CLOSE, 1)]
-elif sys.argv[2] == "pipe":
-    read, write = os.pipe()
-    os.close(read)
-    actions = [(os.POSIX_SPAWN_DUP2, write, 1)]
-process = os.posix_spawn(sys.argv[3], sys.argv[3:], os.environ, file_actions=actions, setsigdef=[signal.SIGPIPE])
-_, status, usage = os.wait4(process, 0)
-with open(sys.argv[1], "w") as report:
-    report.write(f"{usage.ru_utime + usage.ru_stime} {usage.ru_maxrss} {os.waitstatus_to_exitcode(status)}")
-"""
-
-
-def ran(program, folder, entry):
-    """The processor's seconds of a run, its peak in MiB, its status and what it wrote on both streams."""
-    report = os.path.join(folder, "report")
-    with open(os.path.join(folder, "given"), "rb") as given:
-        done = subprocess.run([sys.executable, "-I", "-S", "-c", SPAWN, report, entry.out, program, *entry.words], cwd=folder, stdin=given, capture_output=True, check=True)
-    with open(report) as file:
-        seconds, peak, status = file.read().split()
-    return float(seconds), int(peak) * (1 if sys.platform == "darwin" else 1024) / MIB, int(status), done.stdout, done.stderr
-
-
 def first_line(out, err):
     text = (err or out).split(b"\n", 1)[0].decode("utf-8", "replace")
     return text if len(text) < 60 else text[:57] + ".."
@@ -269,11 +246,10 @@ def row(program, entry, repeat, quiet=False):
             with open(os.path.join(folder, name), "w", encoding="utf-8", newline="") as file:
                 file.write(content)
             size += os.path.getsize(os.path.join(folder, name))
-        runs = [ran(program, folder, entry) for _ in range(repeat)]
-    _, _, status, out, err = runs[0]
-    line = first_line(out, err)
+        runs = [processes.run([program, *entry.words], folder, os.path.join(folder, "given"), entry.out) for _ in range(repeat)]
+    status, line = runs[0].status, first_line(runs[0].out, runs[0].err)
     well = status == entry.status and (re.match(entry.line, line) if entry.line else not line)
-    seconds, peak = min(run[0] for run in runs), max(run[1] for run in runs)
+    seconds, peak = min(ran.processor for ran in runs), max(ran.peak for ran in runs)
     if not quiet or not well:
         show(entry.name, f"{size:,}", f"{status} {line}", seconds, peak, "" if well else f"   WANTED {entry.status} {entry.line}")
     return bool(well), seconds, peak
