@@ -4,7 +4,7 @@ use Rattle.std.proofs.Math.Seq.{take-suc}
 use Rattle.std.specs.List.{AllZip}
 use Rattle.event_schema.specs.Lists.{EachOf}
 use Rattle.event_schema.specs.Occurrence.{Occurrence}
-use Rattle.rule_matching.proofs.Iffs.{iff_then}
+use Rattle.rule_model.proofs.Iffs.{iff_then}
 use Rattle.event_schema.specs.declared.value.Value.{Value}
 use Rattle.comparison.specs.Compared.{Flags}
 

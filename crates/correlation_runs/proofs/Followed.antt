@@ -18,7 +18,7 @@ use Rattle.event_reading.specs.EventOf.{event_of}
 use Rattle.event_schema.specs.Occurrence.{Occurrence}
 use Rattle.event_schema.specs.declared.schema.Field.{Field}
 use Rattle.event_schema.specs.declared.value.Value.{Value}
-use Rattle.rule_matching.specs.Matching.{Matches}
+use Rattle.rule_model.specs.Matching.{Matches}
 use Rattle.rule_model.specs.Plain.{PlainRule}
 
 -- a rule matches an event, or it doesn't

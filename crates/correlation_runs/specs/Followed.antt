@@ -18,7 +18,7 @@ use Rattle.event_schema.specs.Occurrence.{Occurrence}
 use Rattle.event_schema.specs.declared.schema.Field.{Field}
 use Rattle.event_schema.specs.declared.schema.Schema.{Schema}
 use Rattle.event_schema.specs.declared.value.Value.{Value}
-use Rattle.rule_matching.specs.Matching.{Matches}
+use Rattle.rule_model.specs.Matching.{Matches}
 use Rattle.rule_model.specs.Plain.{PlainRule}
 use Rattle.selected_lines.specs.Selected.{line_share}
 use Rattle.sig_base.specs.Codes.{code_name}

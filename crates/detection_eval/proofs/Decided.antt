@@ -16,7 +16,7 @@ use Rattle.matching.proofs.SuffixLemmas.{SuffixHolds-here, SuffixHolds-more, Suf
 use Rattle.matching.specs.Steps.{is_dash}
 use Rattle.matching.specs.Suffixes.{SuffixHolds, CharThen}
 use Rattle.event_schema.specs.Lists.{EachOf, SomeOf, HasElement, HasNoElement}
-use Rattle.rule_matching.specs.Matching.{named, JoinedHolds, FieldSatisfies, KeywordSatisfied, FieldsHold, ItemHolds, DetectionHolds, NumberHolds, FormHolds, AllFormsHold, SomeFormHolds, Matches}
+use Rattle.rule_model.specs.Matching.{named, JoinedHolds, FieldSatisfies, KeywordSatisfied, FieldsHold, ItemHolds, DetectionHolds, NumberHolds, FormHolds, AllFormsHold, SomeFormHolds, Matches}
 use Rattle.rule_model.specs.Plain.{PlainRule}
 use Rattle.rule_items.specs.declared.detection.Detection.{Detection}
 use Rattle.rule_items.specs.declared.item.Fields.{Fields}
@@ -24,13 +24,13 @@ use Rattle.rule_items.specs.declared.item.Fields.TheVariants.{Keyword, Names}
 use Rattle.rule_items.specs.declared.item.Item.{Item}
 use Rattle.sig_conditions.specs.Formulas.{PlainFormula, FDetection, FNot, FAnd, FOr, PlainFormulas, no_forms, form}
 use Rattle.sig_base.specs.Folding.{folded}
-use Rattle.sig_modifiers.specs.Holds.{AreSame, Holds, Stands, ValueStands}
+use Rattle.rule_items.specs.Holds.{AreSame, Holds, Stands, ValueStands}
 use Rattle.modifier_chains.specs.declared.modifier.Joined.{Joined}
 use Rattle.modifier_chains.specs.declared.modifier.Joined.TheVariants.{All, Any}
 use Rattle.modifier_chains.specs.declared.modifier.Op.{Op}
 use Rattle.modifier_chains.specs.declared.modifier.Op.TheVariants as ops
-use Rattle.sig_modifiers.specs.declared.test.Test.{Test}
-use Rattle.sig_modifiers.specs.declared.test.Test.TheVariants as tests
+use Rattle.rule_items.specs.declared.test.Test.{Test}
+use Rattle.rule_items.specs.declared.test.Test.TheVariants as tests
 use Rattle.detection_eval.proofs.Networks.{inside_decided}
 use Rattle.sig_strings.specs.Fits.{Fits, same_char}
 use Rattle.sig_strings.specs.declared.part.Part.{Part}

@@ -1,5 +1,5 @@
 -- A rule made ready for the events of a schema: each name is the number of its field, and each regular expression its own number
--- among the rule's. What a rule means stands in `rule_matching`; here stands how it's kept, and what is asked of an event's values
+-- among the rule's. What a rule means stands in `rule_model` (`Matching`); here stands how it's kept, and what is asked of an event's values
 -- by these numbers.
 use Rattle.std.specs.Prelude.{ℕ, ◌≡◌, ◌↔◌, Bool, true, false, IsTrue, List, map, slice_get, Option, Some, None, option_and_then}
 use Rattle.std.specs.List.{AllZip}
@@ -18,12 +18,12 @@ use Rattle.rule_items.specs.declared.item.Item.{Item}
 use Rattle.rule_model.specs.Expressions.{rule_expressions}
 use Rattle.rule_model.specs.Plain.{PlainRule}
 use Rattle.sig_conditions.specs.Formulas.{PlainFormula, forms_view}
-use Rattle.sig_modifiers.specs.Expressions.{expression_of}
-use Rattle.sig_modifiers.specs.Holds.{Holds}
-use Rattle.sig_modifiers.specs.References.{reference_of}
+use Rattle.rule_items.specs.TestExpressions.{expression_of}
+use Rattle.rule_items.specs.Holds.{Holds}
+use Rattle.rule_items.specs.References.{reference_of}
 use Rattle.modifier_chains.specs.declared.modifier.Joined.{Joined}
 use Rattle.modifier_chains.specs.declared.modifier.Joined.TheVariants.{All, Any}
-use Rattle.sig_modifiers.specs.declared.test.Test.{Test}
+use Rattle.rule_items.specs.declared.test.Test.{Test}
 use Rattle.text_index.specs.Numbers.{first_number}
 use Rattle.detection_eval.specs.declared.judge.Judge.{Judge}
 use Rattle.detection_eval.specs.declared.numbered.Asked.{Asked}

@@ -2,7 +2,7 @@
 
 ghost use Rattle.std.specs.Prelude.{◌≡◌, ◌↔◌, List, length, IsTrue};
 ghost use Rattle.event_schema.specs.declared.schema.Field.{Field};
-ghost use Rattle.rule_matching.specs.Matching.{Matches};
+ghost use Rattle.rule_model.specs.Matching.{Matches};
 ghost use Rattle.rule_model.specs.Plain.{PlainRule};
 ghost use Rattle.detection_eval.specs.Ready.{AlternativesHold, AreTruths, JudgesFor};
 

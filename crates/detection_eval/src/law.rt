@@ -3,7 +3,7 @@
 ghost use Rattle.std.specs.Prelude.{List, ◌⊎◌};
 ghost use Rattle.event_schema.specs.declared.schema.Field.{Field};
 ghost use Rattle.event_schema.specs.declared.value.Value.{Value};
-ghost use Rattle.rule_matching.specs.Matching.{Matches};
+ghost use Rattle.rule_model.specs.Matching.{Matches};
 ghost use Rattle.rule_model.specs.Plain.{PlainRule};
 
 /// A rule matches an event, or it doesn't.

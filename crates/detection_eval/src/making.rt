@@ -3,8 +3,8 @@
 ghost use Rattle.std.specs.Prelude.{◌≡◌, map, option_and_then, IfOk, IfErr};
 ghost use Rattle.event_schema.specs.Rows.{field_number};
 ghost use Rattle.field_numbers.specs.Numbered.{AreNumbered};
-ghost use Rattle.sig_modifiers.specs.Expressions.{expression_of};
-ghost use Rattle.sig_modifiers.specs.References.{reference_of};
+ghost use Rattle.rule_items.specs.TestExpressions.{expression_of};
+ghost use Rattle.rule_items.specs.References.{reference_of};
 ghost use Rattle.text_index.specs.Numbers.{first_number};
 ghost use Rattle.detection_eval.specs.Ready as spec;
 
@@ -14,9 +14,8 @@ use crate::numbered::{
 };
 use event_schema::Field;
 use field_numbers::FieldNumbers;
-use rule_items::{Detection, Fields, Item};
+use rule_items::{Detection, Fields, Item, Test, Tests};
 use sig_base::{Fault, Text};
-use sig_modifiers::{Test, Tests};
 use std::alloc::Global;
 use text_index::TextIndex;
 

@@ -1,8 +1,8 @@
 //! Items of detections whose names and regular expressions are numbers.
 
 use modifier_chains::Joined;
+use rule_items::Test;
 use sig_base::Sequence;
-use sig_modifiers::Test;
 
 /// The numbers of an item's fields; none for a name that no field has.
 pub type FieldPlaces = Sequence<Option<u32>>;

@@ -6,8 +6,8 @@ use Rattle.event_schema.specs.Lists.{EachOf}
 use Rattle.event_schema.specs.Names.{IsName}
 use Rattle.rule_items.specs.Whole.{IsWholeDetection}
 use Rattle.rule_model.specs.Whole.{IsWhole}
-use Rattle.sig_modifiers.specs.PlainTests.{IsPlainTest}
-use Rattle.sig_modifiers.specs.declared.test.Test.{Test}
+use Rattle.rule_items.specs.PlainTests.{IsPlainTest}
+use Rattle.rule_items.specs.declared.test.Test.{Test}
 use Rattle.generated.specs.Draws.{first_draw, second_draw, third_draw}
 use Rattle.generated.specs.Rules.{is_text, has_text, is_from, asks, rule_of}
 use Rattle.generated.specs.Words.{words, word}

@@ -11,8 +11,8 @@ use Rattle.rule_items.specs.declared.item.Item.{Item}
 use Rattle.rule_model.specs.Plain.{PlainRule}
 use Rattle.sig_base.specs.declared.refusal.Place.{Place}
 use Rattle.sig_conditions.specs.Formulas.{PlainFormula, FDetection, FNot, FAnd, FOr, no_forms, form}
-use Rattle.sig_modifiers.specs.declared.test.Test.{Test}
-use Rattle.sig_modifiers.specs.declared.test.Test.TheVariants.{Fits, Compare}
+use Rattle.rule_items.specs.declared.test.Test.{Test}
+use Rattle.rule_items.specs.declared.test.Test.TheVariants.{Fits, Compare}
 use Rattle.sig_strings.specs.Edits.{with_run_before, with_run_after}
 use Rattle.sig_strings.specs.declared.part.Part.{Part}
 use Rattle.sig_strings.specs.declared.part.Part.TheVariants.{Char}

@@ -4,7 +4,7 @@ ghost use Rattle.std.specs.Prelude.{◌≡◌, true, false, IfOk, IfErr};
 ghost use Rattle.sig_base.specs.Texts.{is_ascii};
 ghost use Rattle.rule_head.specs.Plain.{head_view};
 ghost use Rattle.sig_conditions.specs.Formulas.{form_view};
-ghost use Rattle.sig_modifiers.specs.declared.test.Test.TheVariants as tests;
+ghost use Rattle.rule_items.specs.declared.test.Test.TheVariants as tests;
 ghost use Rattle.rule_model.specs.Plain.{rule_view};
 ghost use Rattle.generated.specs.Rules as spec;
 
@@ -12,11 +12,12 @@ use crate::draws::{first_draw, second_draw, third_draw};
 use crate::words::{ascii_text, word};
 use modifier_chains::{Joined, Op};
 use rule_head::{Head, LogSource};
-use rule_items::{Alternative, Alternatives, Detection, Detections, Fields, Item, Values};
+use rule_items::{
+    Alternative, Alternatives, Detection, Detections, Fields, Item, Test, Tests, Values,
+};
 use rule_model::Rule;
 use sig_base::{Fault, Place, Texts};
 use sig_conditions::Formula;
-use sig_modifiers::{Test, Tests};
 use sig_strings::{Part, Pattern, SharedPattern};
 use std::alloc::Global;
 

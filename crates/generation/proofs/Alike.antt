@@ -24,8 +24,8 @@ use Rattle.lucene_lang.specs.Meaning.{LuceneSelects}
 use Rattle.lucene_lang.specs.Reading as lucene
 use Rattle.lucene_queries.specs.Queries as lucene_within
 use Rattle.rule_lowering.specs.TreeOf.{tree_of}
-use Rattle.rule_matching.proofs.Iffs.{iff_then, iff_back}
-use Rattle.rule_matching.specs.Matching.{Matches}
+use Rattle.rule_model.proofs.Iffs.{iff_then, iff_back}
+use Rattle.rule_model.specs.Matching.{Matches}
 use Rattle.rule_model.specs.Plain.{PlainRule}
 use Rattle.sig_base.specs.declared.limits.Limits.{Limits}
 use Rattle.sql_lang.specs.Reading as sql

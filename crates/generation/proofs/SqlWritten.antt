@@ -2,7 +2,7 @@
 use Rattle.std.proofs.Common.{◌≡◌, ◌≤◌, ◌<◌, ℕ, List, [], ◌∷◌, ◌++◌, true, nat_le, length, refl}
 use Rattle.std.specs.Prelude.{pos, codes, decimal}
 use Rattle.event_schema.specs.Lists.{EachOf}
-use Rattle.sql_halves.specs.Halves.{ors_in_halves, ands_in_halves}
+use Rattle.sql_layout.specs.Halves.{ors_in_halves, ands_in_halves}
 use Rattle.sql_lang.specs.Expression.{depth}
 use Rattle.sqlite_writer.specs.Queries.{query_expr, query_text}
 use Rattle.generated.specs.Events.{schema}

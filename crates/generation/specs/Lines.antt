@@ -10,7 +10,7 @@ use Rattle.lucene_lang.specs.Meaning.{LuceneSelects}
 use Rattle.lucene_lang.specs.Reading as lucene
 use Rattle.lucene_writer.specs.Queries as lucene_queries
 use Rattle.rule_lowering.specs.TreeOf.{tree_of}
-use Rattle.rule_matching.specs.Matching.{Matches}
+use Rattle.rule_model.specs.Matching.{Matches}
 use Rattle.sql_lang.specs.Reading as sql
 use Rattle.sql_queries.specs.Queries.{Picks}
 use Rattle.sqlite_writer.specs.Queries as sql_queries

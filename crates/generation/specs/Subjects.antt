@@ -12,7 +12,7 @@ use Rattle.generated.specs.Rules.{start}
 use Rattle.lucene_writer.specs.Lacking.{lucene_lacks}
 use Rattle.lucene_writer.specs.Queries as lucene
 use Rattle.lucene_writer.specs.Refused as lucene_refused
-use Rattle.rule_matching.specs.Matching.{Matches}
+use Rattle.rule_model.specs.Matching.{Matches}
 use Rattle.rule_model.specs.Plain.{PlainRule}
 use Rattle.sig_base.specs.declared.limits.Limits.{Limits}
 use Rattle.sig_base.specs.declared.refusal.Refusal.{Refusal}

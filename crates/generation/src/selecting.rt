@@ -11,7 +11,7 @@ ghost use Rattle.detection_eval.specs.Ready.{JudgesFor};
 ghost use Rattle.event_schema.specs.Events.{IsEvent};
 ghost use Rattle.event_schema.specs.Lists.{EachOf};
 ghost use Rattle.event_schema.specs.declared.schema.Field.{Field};
-ghost use Rattle.rule_matching.specs.Matching.{Matches};
+ghost use Rattle.rule_model.specs.Matching.{Matches};
 ghost use Rattle.rule_model.specs.Plain.{PlainRule};
 ghost use Rattle.generated.specs.Rules.{start};
 

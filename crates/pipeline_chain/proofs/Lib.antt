@@ -4,3 +4,12 @@ mod Keeping
 mod WholeChain
 mod Heads
 mod Naming
+mod ViewLaw
+mod AddedItems
+mod ByType
+mod Lists
+mod OneStep
+mod ScalarTexts
+mod SomePipeline
+mod Unrefused
+mod WholeSteps

@@ -4,7 +4,7 @@ use Rattle.std.specs.Prelude.{if◌then◌else◌, ◌&&◌, Ok}
 use Rattle.std.specs.List.{list_all}
 use Rattle.event_schema.specs.declared.schema.Field.{Field}
 use Rattle.event_schema.specs.declared.value.Value.{Value}
-use Rattle.rule_matching.specs.Matching.{Matches}
+use Rattle.rule_model.specs.Matching.{Matches}
 use Rattle.rule_model.specs.Plain.{PlainRule}
 use Rattle.sig_base.specs.declared.limits.Limits.{Limits}
 use Rattle.pipeline_model.specs.Concerned.{acts_on}
@@ -15,7 +15,7 @@ use Rattle.pipeline_model.specs.declared.step.Action.TheVariants.{MapNames, Pref
 use Rattle.pipeline_model.specs.declared.step.Step.{Step}
 use Rattle.pipeline_names.specs.Names.{names_for}
 use Rattle.pipeline_names.specs.Renamed.{renamed}
-use Rattle.pipeline_names.specs.View.{MatchesAs, itself, step_renamed, steps_renamed, steps_view}
+use Rattle.pipeline_chain.specs.ReadAs.{MatchesAs, itself, step_renamed, steps_renamed, steps_view}
 use Rattle.pipeline_chain.specs.Chained.{acted, act_refusal, made_unless, run_step, run_steps, run_pipelines}
 use Rattle.pipeline_chain.specs.View.{is_on_names, steps_of, are_on_names, view}
 use Rattle.pipeline_chain.proofs.Keeping.{same_made, goes, unrefused}

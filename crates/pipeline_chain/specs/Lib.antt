@@ -1,4 +1,5 @@
 pub mod Chained
 pub mod Priorities
 pub mod Kept
+pub mod ReadAs
 pub mod View

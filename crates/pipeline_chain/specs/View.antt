@@ -6,7 +6,7 @@ use Rattle.pipeline_model.specs.declared.pipeline.Pipeline.{Pipeline}
 use Rattle.pipeline_model.specs.declared.step.Action.{Action}
 use Rattle.pipeline_model.specs.declared.step.Action.TheVariants.{MapNames, Prefix, Suffix, MapPrefixes, Drop, Add, Source, MapTexts, FillHoles, WildHoles, FailRule, FailItem}
 use Rattle.pipeline_model.specs.declared.step.Step.{Step}
-use Rattle.pipeline_names.specs.View.{steps_view, itself}
+use Rattle.pipeline_chain.specs.ReadAs.{steps_view, itself}
 
 -- a step on names
 abbrev pub is_on_names : Action → Bool

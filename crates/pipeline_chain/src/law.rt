@@ -6,12 +6,13 @@ ghost use Rattle.event_schema.specs.declared.schema.Field.{Field};
 ghost use Rattle.event_schema.specs.declared.value.Value.{Value};
 ghost use Rattle.sig_base.specs.declared.limits.Limits.{Limits};
 ghost use Rattle.sig_base.specs.declared.refusal.Refusal.{Refusal};
-ghost use Rattle.rule_matching.specs.Matching.{Matches};
+ghost use Rattle.rule_model.specs.Matching.{Matches};
 ghost use Rattle.rule_model.specs.Plain.{PlainRule, rule_with};
 ghost use Rattle.rule_model.specs.Whole.{IsWhole};
 ghost use Rattle.yaml_tree.specs.Tree.{Member};
 ghost use Rattle.pipeline_model.specs.declared.pipeline.Pipeline.{Pipeline};
-ghost use Rattle.pipeline_names.specs.View.{MatchesAs};
+ghost use Rattle.pipeline_model.specs.declared.step.Step.{Step};
+ghost use Rattle.pipeline_chain.specs.ReadAs.{MatchesAs, itself, steps_renamed, steps_view};
 ghost use Rattle.pipeline_chain.specs.Chained.{run_pipelines};
 ghost use Rattle.pipeline_chain.specs.Kept.{IsWholePipeline};
 ghost use Rattle.pipeline_chain.specs.Priorities.{by_priority, is_ascending, of_priority};
@@ -36,6 +37,13 @@ pub fn heads_are_kept()
         → run_pipelines limits ps rule ≡ Err r → run_pipelines limits ps (rule_with rest rule) ≡ Err r }
 {}
 
+/// The rule that steps on names make matches an event exactly where the first one does with each of its names, those that tests
+/// compare with too, read as one of the names that it becomes.
+pub fn steps_on_names_are_read()
+    ensures { (steps : List Step) (rule : PlainRule) (fields : List Field) (row : List (List Value))
+        → (Matches fields row (steps_renamed steps rule) ↔ MatchesAs (steps_view rule.source steps itself) fields row rule) }
+{}
+
 /// The rule that pipelines of steps on names make matches an event exactly where the first one does with each of its names, those
 /// that tests compare with too, read as one of the names that it becomes.
 pub fn names_are_read()
@@ -43,7 +51,7 @@ pub fn names_are_read()
         → are_on_names ps ≡ true → run_pipelines limits ps rule ≡ Ok made
         → (Matches fields row made ↔ MatchesAs (view ps rule.source) fields row rule) }
 {
-    pipeline_names::names_are_read();
+    steps_on_names_are_read();
 }
 
 /// Pipelines are run by ascending priority, and those of one priority in the order in which they're given.

@@ -1,10 +1,16 @@
-//! Pipelines run on a rule: their steps one after another.
+//! Pipelines run on a rule: their steps one after another; and what follows of documents that are read as pipelines, for the
+//! proofs of callers (`built`: laws alone).
 #![tactic(auto)]
 
-pub use law::{each_is_run_in_its_turn, heads_are_kept, names_are_read, whole_rules_stay_whole};
+pub use built::{one_pipeline, pipeline_or_refusal, pipelines_are_whole};
+pub use law::{
+    each_is_run_in_its_turn, heads_are_kept, names_are_read, steps_on_names_are_read,
+    whole_rules_stay_whole,
+};
 pub use ordering::by_priority;
 pub use running::run_pipelines;
 
+mod built;
 mod law;
 mod ordering;
 mod running;

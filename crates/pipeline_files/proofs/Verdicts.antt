@@ -8,7 +8,7 @@ use Rattle.rule_runs.specs.Files.{yaml_refusal}
 use Rattle.sig_base.specs.declared.limits.Limits.{Limits}
 use Rattle.sig_base.specs.declared.refusal.Place.{Place}
 use Rattle.sig_base.specs.declared.refusal.Refusal.{Refusal}
-use Rattle.yaml_bounds.specs.Laws.{TextsAreScalars}
+use Rattle.yaml_files.specs.Bounds.{TextsAreScalars}
 use Rattle.yaml_documents.specs.Verdicts as yaml
 use Rattle.yaml_files.specs.Call.{IsCallRefusal, IsTaken}
 use Rattle.yaml_tree.specs.Texts.{HasScalarTexts, AnswerHas}

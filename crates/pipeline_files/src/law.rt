@@ -10,10 +10,10 @@ pub fn one_outcome()
     ensures causes { OneCauses }
     ensures whole { AreWhole }
 {
-    pipeline_laws::one_pipeline();
-    pipeline_laws::pipeline_or_refusal();
-    pipeline_laws::pipelines_are_whole();
+    pipeline_chain::one_pipeline();
+    pipeline_chain::pipeline_or_refusal();
+    pipeline_chain::pipelines_are_whole();
     yaml_documents::laws::verdicts();
     yaml_documents::laws::one_verdict();
-    yaml_bounds::laws::texts_are_scalars();
+    yaml_files::bounds::texts_are_scalars();
 }

@@ -3,7 +3,7 @@ use Rattle.std.specs.Prelude.{ℕ, ℤ, pos, ◌≡◌, Bool, false, ◌&&◌, L
 use Rattle.std.specs.Fmt.{signed_decimal}
 use Rattle.std.specs.List.{AllZip}
 use Rattle.std.specs.Str.{bytes_eq}
-use Rattle.sig_modifiers.specs.TestsOf.{truth_text}
+use Rattle.rule_items.specs.TestsOf.{truth_text}
 use Rattle.yaml_tree.specs.Tree.{Scalar, null, truth, whole, text, Tree, scalar, list, map, Member}
 use Rattle.yaml_tree.specs.Nodes.{place_of, is_text, text_in, entries_in, parts_in, value_in, text_at}
 use Rattle.rule_head.specs.Sources.{source_of}

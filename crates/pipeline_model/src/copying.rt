@@ -4,7 +4,7 @@ ghost use Rattle.std.specs.Prelude.{◌≡◌, true, map as list_map, IfOk, IfEr
 ghost use Rattle.std.specs.Str.{chars};
 ghost use Rattle.sig_base.specs.Texts.{is_ascii};
 ghost use Rattle.rule_head.specs.Sources.{source_of};
-ghost use Rattle.sig_modifiers.specs.TestsOf.{truth_text};
+ghost use Rattle.rule_items.specs.TestsOf.{truth_text};
 ghost use Rattle.yaml_tree.specs.View.{node_view, nodes_view, entry_view, entries_view};
 ghost use Rattle.yaml_tree.specs.Nodes as nodes;
 ghost use Rattle.pipeline_model.specs.Pipelines as spec;

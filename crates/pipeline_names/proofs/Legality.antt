@@ -6,7 +6,7 @@ use Rattle.event_schema.specs.Names.{is_legal}
 use Rattle.sig_base.specs.declared.refusal.Place.{Place}
 use Rattle.sig_base.specs.declared.refusal.Fault.{Fault}
 use Rattle.sig_base.specs.declared.refusal.Fault.TheVariants.{Memory, Refused}
-use Rattle.sig_modifiers.specs.declared.test.Test.TheVariants as tests
+use Rattle.rule_items.specs.declared.test.Test.TheVariants as tests
 use Rattle.pipeline_names.specs.Names.{each_before}
 use Rattle.pipeline_names.specs.Sizes.{compares_legally}
 use Rattle.pipeline_names.specs.Made.{AreUnfitTests, IsFull, IsIllegal, IsOneUnfit, IsUnfit}

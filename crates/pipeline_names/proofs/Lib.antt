@@ -4,5 +4,4 @@ mod Once
 mod Totals
 mod Fronts
 mod Knowing
-mod ViewLaw
 mod WholeNames

@@ -9,9 +9,9 @@ use Rattle.event_schema.specs.Lists.{EachOf, HasElement}
 use Rattle.event_schema.specs.Names.{is_legal, IsName}
 use Rattle.sig_base.specs.declared.limits.Limits.{Limits}
 use Rattle.sig_base.proofs.Checks.{must_holds}
-use Rattle.sig_modifiers.specs.PlainTests.{IsPlainTest, ArePlainTests}
-use Rattle.sig_modifiers.specs.declared.test.Test.{Test}
-use Rattle.sig_modifiers.specs.declared.test.Test.TheVariants as tests
+use Rattle.rule_items.specs.PlainTests.{IsPlainTest, ArePlainTests}
+use Rattle.rule_items.specs.declared.test.Test.{Test}
+use Rattle.rule_items.specs.declared.test.Test.TheVariants as tests
 use Rattle.rule_items.specs.Whole.{IsWholeValue, AreWholeFields, IsWholeItem, IsWholeAlternative, IsWholeDetection}
 use Rattle.rule_items.specs.declared.detection.Detection.{Detection}
 use Rattle.rule_items.specs.declared.item.Fields.{Fields}

@@ -3,5 +3,4 @@ pub mod Names
 pub mod Renamed
 pub mod Sizes
 pub mod Made
-pub mod View
 pub mod Kept

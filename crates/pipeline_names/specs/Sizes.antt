@@ -6,9 +6,9 @@ use Rattle.sig_base.specs.declared.limits.Limits.{Limits}
 use Rattle.sig_base.specs.declared.refusal.Place.{Place}
 use Rattle.sig_base.specs.declared.refusal.Refusal.{Refusal}
 use Rattle.sig_base.specs.Judged.{must}
-use Rattle.sig_modifiers.specs.References.{reference_of}
-use Rattle.sig_modifiers.specs.declared.test.Test.{Test}
-use Rattle.sig_modifiers.specs.declared.test.Test.TheVariants as tests
+use Rattle.rule_items.specs.References.{reference_of}
+use Rattle.rule_items.specs.declared.test.Test.{Test}
+use Rattle.rule_items.specs.declared.test.Test.TheVariants as tests
 use Rattle.rule_items.specs.declared.detection.Detection.{Detection}
 use Rattle.rule_items.specs.declared.item.Fields.{Fields}
 use Rattle.rule_items.specs.declared.item.Fields.TheVariants.{Keyword, Names}

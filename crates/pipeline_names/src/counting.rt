@@ -1,8 +1,7 @@
 //! Whether a rule has more than a few names, and a mapping more than a few targets of one.
 
 use pipeline_model::Pair;
-use rule_items::{Detection, Fields, Item};
-use sig_modifiers::Tests;
+use rule_items::{Detection, Fields, Item, Tests};
 
 /// So few names, entries or targets are gone through one by one.
 pub const FEW: usize = 32;

@@ -12,9 +12,8 @@ use crate::mapping::Renaming;
 use crate::names::rename_names;
 use crate::references::rename_values;
 use crate::room::{Room, pay};
-use rule_items::{Alternative, Alternatives, Detection, Detections, Fields, Item, Values};
+use rule_items::{Alternative, Alternatives, Detection, Detections, Fields, Item, Tests, Values};
 use sig_base::{Fault, Place, Texts};
-use sig_modifiers::Tests;
 use std::alloc::Global;
 
 #[tactic(auto, using(crate::proofs::Legality::full_unfit))]

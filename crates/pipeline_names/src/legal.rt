@@ -6,9 +6,8 @@ ghost use Rattle.event_schema.specs.Names as legal;
 ghost use Rattle.pipeline_names.specs.Sizes as spec;
 
 use event_schema::is_legal;
-use rule_items::{Alternative, Detection, Fields, Item};
+use rule_items::{Alternative, Detection, Fields, Item, Test, Tests};
 use sig_base::{Limits, Text};
-use sig_modifiers::{Test, Tests};
 
 fn names_legal(names: &[Text]) -> bool
     ensures { result ≡ list_all legal.is_legal names.now }

@@ -1,7 +1,7 @@
 //! The steps of pipelines that change the names of a rule's fields.
 #![tactic(auto)]
 
-pub use law::{names_are_read, names_stay_whole};
+pub use law::names_stay_whole;
 pub use legal::{detections_legal, detections_short, items_legal, items_short};
 pub use renaming::rename;
 

@@ -7,15 +7,14 @@ ghost use Rattle.pipeline_names.specs.Made.{texts_made, AreUnfitTests, AreUnfitV
 ghost use Rattle.pipeline_names.specs.Names as spec;
 ghost use Rattle.pipeline_names.specs.Renamed as renamed;
 ghost use Rattle.pipeline_names.specs.Sizes.{values_count, compares_legally};
-ghost use Rattle.sig_modifiers.specs.declared.test.Test.TheVariants as tests;
+ghost use Rattle.rule_items.specs.declared.test.Test.TheVariants as tests;
 
 use crate::made::{Made, joined};
 use crate::mapping::Renaming;
 use crate::room::{grown, pay};
 use event_schema::is_legal;
-use rule_items::Values;
+use rule_items::{Test, Tests, Values};
 use sig_base::{Fault, Place, Sequence, Text};
-use sig_modifiers::{Test, Tests};
 use std::alloc::Global;
 
 /// Adds a test that compares with the field of a name, where the name is legal.

@@ -9,8 +9,8 @@ use Rattle.sig_base.specs.declared.refusal.Place.{Place}
 use Rattle.sig_conditions.specs.Formulas.{PlainFormula, FDetection, FNot, FAnd, FOr, PlainFormulas, no_forms, form}
 use Rattle.rule_items.specs.declared.detection.Detection.{Detection}
 use Rattle.rule_items.specs.declared.item.Item.{Item}
-use Rattle.rule_matching.specs.Matching.{ItemHolds, DetectionHolds, NumberHolds, FormHolds, AllFormsHold, SomeFormHolds, Matches}
-use Rattle.rule_matching.proofs.Iffs.{iff_same, iff_then, iff_not, iff_both, iff_either}
+use Rattle.rule_model.specs.Matching.{ItemHolds, DetectionHolds, NumberHolds, FormHolds, AllFormsHold, SomeFormHolds, Matches}
+use Rattle.rule_model.proofs.Iffs.{iff_same, iff_then, iff_not, iff_both, iff_either}
 use Rattle.rule_model.specs.Plain.{PlainRule}
 use Rattle.rule_model.specs.Whole.{IsWholeForm, AreSomeForms, AreWholeForms, IsWhole}
 use Rattle.pipeline_steps.specs.Added.{placed, added_detection, added_form, and_also, and_each, with_condition, HoldsUnless}

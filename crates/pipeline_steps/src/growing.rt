@@ -8,9 +8,8 @@ ghost use Rattle.pipeline_steps.specs.Added.{added_detection};
 ghost use Rattle.pipeline_steps.specs.Counted as spec;
 
 use pipeline_names::{detections_legal, detections_short, items_legal, items_short};
-use rule_items::{Alternative, Detection, Fields, Item};
+use rule_items::{Alternative, Detection, Fields, Item, Tests};
 use sig_base::{Code, Fault, Limits, Place, must};
-use sig_modifiers::Tests;
 
 /// What is counted of items: their names, or the tests of their values.
 #[derive(Clone, Copy)]

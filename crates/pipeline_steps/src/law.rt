@@ -6,7 +6,7 @@ ghost use Rattle.event_schema.specs.declared.schema.Field.{Field};
 ghost use Rattle.event_schema.specs.declared.value.Value.{Value};
 ghost use Rattle.sig_base.specs.declared.limits.Limits.{Limits};
 ghost use Rattle.rule_items.specs.declared.item.Item.{Item};
-ghost use Rattle.rule_matching.specs.Matching.{ItemHolds, Matches};
+ghost use Rattle.rule_model.specs.Matching.{ItemHolds, Matches};
 ghost use Rattle.rule_model.specs.Plain.{PlainRule};
 ghost use Rattle.rule_model.specs.Whole.{IsWhole};
 ghost use Rattle.pipeline_model.specs.declared.step.Step.{Step};

@@ -6,8 +6,8 @@ use Rattle.std.specs.List.{list_any}
 use Rattle.std.proofs.lemmas.Bool.{or_parts}
 use Rattle.std.proofs.lemmas.List.{length-map}
 use Rattle.sig_base.specs.declared.refusal.Fault.{Fault}
-use Rattle.sig_modifiers.specs.declared.test.Test.{Test}
-use Rattle.sig_modifiers.specs.declared.test.Test.TheVariants as tests
+use Rattle.rule_items.specs.declared.test.Test.{Test}
+use Rattle.rule_items.specs.declared.test.Test.TheVariants as tests
 use Rattle.sig_strings.specs.Edits.{has_wildcard, plain_text}
 use Rattle.sig_strings.specs.declared.part.Part.{Part}
 use Rattle.sig_strings.specs.declared.part.Part.TheVariants.{Char, One, Run, Dash, Hole}

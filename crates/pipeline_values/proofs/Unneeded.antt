@@ -8,9 +8,9 @@ use Rattle.sig_base.specs.declared.limits.Limits.{Limits}
 use Rattle.sig_base.specs.declared.refusal.Fault.{Fault}
 use Rattle.sig_base.specs.declared.refusal.Place.{Place}
 use Rattle.sig_base.specs.declared.refusal.Refusal.{Refusal}
-use Rattle.sig_modifiers.specs.PlainTests.{is_filled_test}
-use Rattle.sig_modifiers.specs.declared.test.Test.{Test}
-use Rattle.sig_modifiers.specs.declared.test.Test.TheVariants as tests
+use Rattle.rule_items.specs.PlainTests.{is_filled_test}
+use Rattle.rule_items.specs.declared.test.Test.{Test}
+use Rattle.rule_items.specs.declared.test.Test.TheVariants as tests
 use Rattle.sig_strings.specs.declared.part.Part.{Part}
 use Rattle.sig_strings.specs.declared.part.Part.TheVariants.{Char, One, Run, Dash, Hole}
 use Rattle.value_patterns.specs.PlainPatterns.{is_filled}

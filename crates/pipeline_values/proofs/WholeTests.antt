@@ -9,9 +9,9 @@ use Rattle.sig_base.specs.declared.limits.Limits.{Limits}
 use Rattle.sig_base.specs.declared.refusal.Place.{Place}
 use Rattle.sig_base.specs.declared.refusal.Refusal.{Refusal}
 use Rattle.sig_base.proofs.Checks.{first_holds, must_holds, not_holds}
-use Rattle.sig_modifiers.specs.PlainTests.{IsPlainTest, ArePlainTests, IsPatternTest}
-use Rattle.sig_modifiers.specs.declared.test.Test.{Test}
-use Rattle.sig_modifiers.specs.declared.test.Test.TheVariants as tests
+use Rattle.rule_items.specs.PlainTests.{IsPlainTest, ArePlainTests, IsPatternTest}
+use Rattle.rule_items.specs.declared.test.Test.{Test}
+use Rattle.rule_items.specs.declared.test.Test.TheVariants as tests
 use Rattle.sig_strings.specs.declared.part.Part.{Part}
 use Rattle.rule_items.specs.Whole.{IsWholeValue, AreWholeFields, IsWholeItem, IsWholeAlternative, IsWholeDetection}
 use Rattle.rule_items.specs.declared.detection.Detection.{Detection}

@@ -1,8 +1,8 @@
 -- What the steps on values make of a rule (pySigma, value placeholders, wildcard placeholders and map string).
 use Rattle.std.specs.Prelude.{Bool, false, List, [], ◌∷◌, map, if◌then◌else◌, Option, Some, None}
 use Rattle.std.specs.List.{list_any, flat_map}
-use Rattle.sig_modifiers.specs.declared.test.Test.{Test}
-use Rattle.sig_modifiers.specs.declared.test.Test.TheVariants as tests
+use Rattle.rule_items.specs.declared.test.Test.{Test}
+use Rattle.rule_items.specs.declared.test.Test.TheVariants as tests
 use Rattle.sig_strings.specs.Edits.{has_wildcard, plain_text}
 use Rattle.sig_strings.specs.declared.part.Part.{Part}
 use Rattle.rule_items.specs.declared.detection.Detection.{Detection}

@@ -1,6 +1,6 @@
 -- How many parts the longest pattern of a rule has.
 use Rattle.std.specs.Prelude.{ℕ, List}
-use Rattle.sig_modifiers.specs.declared.test.Test.{Test}
+use Rattle.rule_items.specs.declared.test.Test.{Test}
 use Rattle.rule_items.specs.declared.detection.Detection.{Detection}
 use Rattle.rule_items.specs.declared.item.Item.{Item}
 use Rattle.pipeline_names.specs.Sizes.{part_count}

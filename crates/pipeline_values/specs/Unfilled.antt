@@ -3,7 +3,7 @@ use Rattle.std.specs.Prelude.{Bool, List}
 use Rattle.std.specs.List.{list_all}
 use Rattle.rule_items.specs.declared.detection.Detection.{Detection}
 use Rattle.rule_items.specs.declared.item.Item.{Item}
-use Rattle.sig_modifiers.specs.PlainTests.{is_filled_test}
+use Rattle.rule_items.specs.PlainTests.{is_filled_test}
 
 abbrev pub is_filled_item : Item → Bool
 is_filled_item i = list_all (list_all is_filled_test) i.tests

@@ -2,11 +2,10 @@
 
 ghost use Rattle.std.specs.Prelude.{◌≡◌};
 ghost use Rattle.std.specs.List.{list_all};
-ghost use Rattle.sig_modifiers.specs.PlainTests.{is_filled_test};
+ghost use Rattle.rule_items.specs.PlainTests.{is_filled_test};
 ghost use Rattle.pipeline_values.specs.Unfilled as spec;
 
-use rule_items::{Alternative, Detection, Item};
-use sig_modifiers::{Test, Tests};
+use rule_items::{Alternative, Detection, Item, Test, Tests};
 
 fn is_filled_value(tests: &Tests) -> bool
     ensures { result ≡ list_all is_filled_test tests.now }

@@ -5,9 +5,8 @@ ghost use Rattle.pipeline_values.specs.Changed as changed;
 
 use crate::change::Change;
 use crate::made::change_value;
-use rule_items::{Alternative, Alternatives, Detection, Detections, Item, Values};
+use rule_items::{Alternative, Alternatives, Detection, Detections, Item, Tests, Values};
 use sig_base::Fault;
-use sig_modifiers::Tests;
 use std::alloc::Global;
 
 fn change_values(alloc: Global, change: &Change, values: Vec<Tests>) -> Result<Values, Fault>

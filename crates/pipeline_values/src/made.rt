@@ -1,7 +1,7 @@
 //! The tests that take a test's place.
 
 ghost use Rattle.std.specs.Prelude.{◌≡◌, ◌++◌, map as list_map, IfOk, IfErr, OnOk};
-ghost use Rattle.sig_modifiers.specs.declared.test.Test.TheVariants as tests;
+ghost use Rattle.rule_items.specs.declared.test.Test.TheVariants as tests;
 ghost use Rattle.pipeline_values.specs.Changed as changed;
 ghost use Rattle.pipeline_values.specs.Entries as spec;
 
@@ -9,8 +9,8 @@ use crate::change::Change;
 use crate::fillings::fill;
 use crate::reading::{Front, read_values};
 use pipeline_model::Action;
+use rule_items::{Test, Tests};
 use sig_base::{Fault, Sequence};
-use sig_modifiers::{Test, Tests};
 use sig_strings::{Part, Pattern, SharedPattern};
 use std::alloc::Global;
 

@@ -18,8 +18,8 @@ use crate::change::Change;
 use crate::filling::Filling;
 use crate::growth::{Growth, add, larger, times};
 use pipeline_model::Action;
+use rule_items::{Test, Tests};
 use sig_base::Fault;
-use sig_modifiers::{Test, Tests};
 use sig_strings::{Part, SharedPattern};
 use std::alloc::Global;
 

@@ -8,7 +8,7 @@ use Rattle.modifier_chains.specs.declared.form.Flags.{Flags}
 use Rattle.rule_items.specs.Expressions.{expression_at, use_expressions}
 use Rattle.rule_items.specs.declared.expression.Expression.{Expression}
 use Rattle.sig_base.specs.declared.refusal.Place.{Place}
-use Rattle.sig_modifiers.specs.TestsOf.{scalar_use, form_use}
+use Rattle.rule_items.specs.TestsOf.{scalar_use, form_use}
 use Rattle.value_patterns.specs.Uses.{Use, text_of, expression_in}
 use Rattle.yaml_tree.specs.Nodes.{place_of}
 use Rattle.yaml_tree.specs.Tree.{Scalar, null, truth, whole, text, Tree, scalar, list, map}

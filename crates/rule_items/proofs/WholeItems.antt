@@ -8,11 +8,11 @@ use Rattle.modifier_chains.specs.Chains.{chain_refusal}
 use Rattle.sig_base.specs.Judged.{first, must}
 use Rattle.std.specs.Str.{all_scalars}
 use Rattle.yaml_tree.specs.Tree.{Tree, scalar, list, map, null, truth, whole, text, Member}
-use Rattle.sig_modifiers.specs.PlainTests.{ArePlainTests, IsPatternTest}
-use Rattle.sig_modifiers.specs.TestsOf.{TestsOf, value_refusal}
+use Rattle.rule_items.specs.PlainTests.{ArePlainTests, IsPatternTest}
+use Rattle.rule_items.specs.TestsOf.{TestsOf, value_refusal}
 use Rattle.yaml_tree.specs.Nodes.{place_of}
 use Rattle.modifier_chains.specs.Written.{Written}
-use Rattle.sig_modifiers.specs.declared.test.Test.{Test}
+use Rattle.rule_items.specs.declared.test.Test.{Test}
 use Rattle.rule_items.specs.Items.{IsItem, IsKeyword, bare_chain, key_chain, shape_refusal, values_refusal, item_refusal}
 use Rattle.event_schema.specs.Names.{is_legal}
 use Rattle.rule_items.specs.Keys.{name_in, words_in, is_item_key, is_keyword_key}

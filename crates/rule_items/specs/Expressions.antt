@@ -7,7 +7,7 @@ use Rattle.sig_base.specs.Judged.{must, first}
 use Rattle.sig_base.specs.declared.limits.Limits.{Limits}
 use Rattle.sig_base.specs.declared.refusal.Place.{Place}
 use Rattle.sig_base.specs.declared.refusal.Refusal.{Refusal}
-use Rattle.sig_modifiers.specs.TestsOf.{use_of}
+use Rattle.rule_items.specs.TestsOf.{use_of}
 use Rattle.value_patterns.specs.Uses.{Use, text_of, expression_in}
 use Rattle.yaml_tree.specs.Nodes.{parts_in, place_of, entered, key_place}
 use Rattle.yaml_tree.specs.Tree.{Tree, scalar, list, map, Member}

@@ -7,7 +7,7 @@ use Rattle.sig_base.specs.declared.refusal.Place.{Place}
 use Rattle.sig_base.specs.declared.refusal.Refusal.{Refusal}
 use Rattle.modifier_chains.specs.Chains.{chain_of, chain_refusal, joined_of}
 use Rattle.sig_base.specs.Judged.{must, first}
-use Rattle.sig_modifiers.specs.TestsOf.{TestsOf, value_refusal}
+use Rattle.rule_items.specs.TestsOf.{TestsOf, value_refusal}
 use Rattle.yaml_tree.specs.Nodes.{place_of}
 use Rattle.modifier_chains.specs.Written.{Written}
 use Rattle.yaml_tree.specs.Tree.{Tree, Member}

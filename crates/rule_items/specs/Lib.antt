@@ -4,3 +4,9 @@ pub mod Items
 pub mod Detections
 pub mod Expressions
 pub mod Whole
+pub mod TestExpressions
+pub mod Holds
+pub mod PlainTests
+pub mod References
+pub mod Resolved
+pub mod TestsOf

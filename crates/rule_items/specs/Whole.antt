@@ -2,8 +2,8 @@
 -- U+0000.
 use Rattle.std.specs.Prelude.{List}
 use Rattle.event_schema.specs.Lists.{EachOf, HasElement}
-use Rattle.sig_modifiers.specs.PlainTests.{ArePlainTests, IsPatternTest}
-use Rattle.sig_modifiers.specs.declared.test.Test.{Test}
+use Rattle.rule_items.specs.PlainTests.{ArePlainTests, IsPatternTest}
+use Rattle.rule_items.specs.declared.test.Test.{Test}
 use Rattle.event_schema.specs.Names.{IsName}
 use Rattle.rule_items.specs.declared.detection.Detection.{Detection}
 use Rattle.rule_items.specs.declared.item.Fields.{Fields}

@@ -6,7 +6,7 @@ ghost use Rattle.modifier_chains.specs.declared.form.ChainForm.TheVariants as fo
 ghost use Rattle.rule_items.specs.Detections.{is_no_condition as spec_is_no_condition};
 ghost use Rattle.rule_items.specs.Expressions as spec;
 ghost use Rattle.rule_items.specs.Items.{key_chain};
-ghost use Rattle.sig_modifiers.specs.TestsOf.{form_use};
+ghost use Rattle.rule_items.specs.TestsOf.{form_use};
 ghost use Rattle.value_patterns.specs.Uses as uses;
 ghost use Rattle.yaml_tree.specs.Nodes.{place_of as node_place};
 ghost use Rattle.yaml_tree.specs.View.{node_view, nodes_view, entry_view, entries_view};

@@ -1,8 +1,8 @@
 //! Items of detections: fields with the tests of their values.
 
+use crate::test::Tests;
 use modifier_chains::Joined;
 use sig_base::{Place, Sequence, Texts};
-use sig_modifiers::Tests;
 
 /// The values of an item, each as the tests of which one has to hold; contracts see a list of lists.
 pub type Values = Sequence<Tests>;

@@ -4,8 +4,8 @@ ghost use Rattle.std.specs.Prelude.{◌≡◌, true, map as list_map, [], ◌∷
 ghost use Rattle.std.specs.List.{AllZip};
 ghost use Rattle.sig_base.specs.Judged.{Judged, first, refusal};
 ghost use Rattle.event_schema.specs.Lists.{EachOf};
-ghost use Rattle.sig_modifiers.specs.PlainTests.{ArePlainTests};
-ghost use Rattle.sig_modifiers.specs.TestsOf.{TestsOf, value_refusal};
+ghost use Rattle.rule_items.specs.PlainTests.{ArePlainTests};
+ghost use Rattle.rule_items.specs.TestsOf.{TestsOf, value_refusal};
 ghost use Rattle.yaml_tree.specs.View.{node_view, nodes_view, entry_view};
 ghost use Rattle.rule_items.specs.Items as spec;
 ghost use Rattle.yaml_tree.specs.Nodes.{parts_in, place_of as node_place};
@@ -13,9 +13,10 @@ ghost use Rattle.rule_items.specs.Whole.{IsWholeItem};
 
 use crate::item::{Fields, Item, Values};
 use crate::keys::Key;
+use crate::law::{keyword_tests, some_test};
+use crate::resolving::resolve;
 use modifier_chains::Chain;
 use sig_base::{Code, Fault, Limits, Place, Text, Texts, must};
-use sig_modifiers::{keyword_tests, resolve, some_test};
 use std::alloc::Global;
 use yaml_tree::{Entry, Node, is_empty, is_scalar, parts_of, place_of};
 

@@ -1,4 +1,5 @@
-//! Detections: items with their keys and values, and the alternatives that they make.
+//! Detections: items with their keys and values, the tests that chains of modifiers make of these values, and the alternatives
+//! that the items make.
 #![tactic(auto)]
 
 pub use detection::{Alternative, Alternatives, Detection, Detections};
@@ -6,12 +7,22 @@ pub use detections::read_detections;
 pub use expression::{Expression, Expressions};
 pub use expressions::{add_entries, find_expressions};
 pub use item::{Fields, Item, Values};
+pub use law::{keyword_tests, one_tests, plain_tests, some_test, tests_or_refusal};
+pub use resolving::resolve;
+pub use test::{Test, Tests};
 
 mod copies;
+mod copying;
 mod detection;
 mod detections;
 mod expression;
 mod expressions;
+mod filling;
+mod holding;
 mod item;
 mod items;
 mod keys;
+mod law;
+mod resolving;
+mod test;
+mod test_expressions;

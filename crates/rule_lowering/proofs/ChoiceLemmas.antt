@@ -17,8 +17,8 @@ use Rattle.sig_base.specs.declared.refusal.Place.{Place}
 use Rattle.modifier_chains.specs.declared.modifier.Joined.TheVariants.{Any}
 use Rattle.modifier_chains.specs.declared.form.Flags.{Flags}
 use Rattle.modifier_chains.specs.declared.modifier.Op.{Op}
-use Rattle.sig_modifiers.specs.declared.test.Test.{Test}
-use Rattle.sig_modifiers.specs.declared.test.Test.TheVariants as tests
+use Rattle.rule_items.specs.declared.test.Test.{Test}
+use Rattle.rule_items.specs.declared.test.Test.TheVariants as tests
 use Rattle.sig_strings.specs.declared.part.Part.{Part}
 use Rattle.sig_strings.specs.declared.part.Part.TheVariants.{Char, One, Run, Dash, Hole}
 use Rattle.rule_lowering.specs.Joining.{parts_of, closed, join}

@@ -5,7 +5,7 @@ use Rattle.backend_core.specs.Holds.{TreeHolds, EachHolds, OneHolds}
 use Rattle.backend_core.specs.Trees.{Plain, all, any, negated, leaf, never, Plains, no_parts, a_part}
 use Rattle.event_schema.specs.Lists.{EachOf}
 use Rattle.event_schema.specs.declared.value.Value.{Value}
-use Rattle.rule_matching.proofs.Iffs.{Over, Both, iff_same, iff_then, iff_back, iff_pair, over_cons, over_empty, over_map, over_flat}
+use Rattle.rule_model.proofs.Iffs.{Over, Both, iff_same, iff_then, iff_back, iff_pair, over_cons, over_empty, over_map, over_flat}
 use Rattle.modifier_chains.specs.declared.modifier.Joined.{Joined}
 use Rattle.modifier_chains.specs.declared.modifier.Joined.TheVariants.{All, Any}
 use Rattle.rule_lowering.specs.Joining.{plains, listed, parts_of, tree_with, closed, join}

@@ -21,8 +21,8 @@ use Rattle.sig_conditions.specs.Formulas.{PlainFormula, FDetection, FNot, FAnd, 
 use Rattle.sig_conditions.specs.declared.formula.Formula.{Formula}
 use Rattle.modifier_chains.specs.declared.modifier.Joined.{Joined}
 use Rattle.modifier_chains.specs.declared.modifier.Joined.TheVariants.{All, Any}
-use Rattle.sig_modifiers.specs.declared.test.Test.{Test}
-use Rattle.sig_modifiers.specs.declared.test.Test.TheVariants as tests
+use Rattle.rule_items.specs.declared.test.Test.{Test}
+use Rattle.rule_items.specs.declared.test.Test.TheVariants as tests
 use Rattle.sig_strings.specs.declared.part.Part.{Part}
 use Rattle.dash_choices.specs.Choices.{choices, dash_count}
 use Rattle.sig_encode.specs.Networks.{Net, pattern_count, patterns_of}

@@ -16,7 +16,7 @@ use Rattle.rule_items.specs.declared.item.Item.{Item}
 use Rattle.sig_base.specs.declared.refusal.Place.{Place}
 use Rattle.modifier_chains.specs.declared.modifier.Joined.{Joined}
 use Rattle.modifier_chains.specs.declared.modifier.Joined.TheVariants.{All, Any}
-use Rattle.sig_modifiers.specs.declared.test.Test.{Test}
+use Rattle.rule_items.specs.declared.test.Test.{Test}
 use Rattle.rule_lowering.specs.Joining.{plains, listed, parts_of, closed, join}
 use Rattle.rule_lowering.specs.TreeOf.{leaf_test, leaf_if_any, written_tree, written_tests, test_tree, value_tree, values_tree, keyword_tree, number_tree, fields_tree, item_tree, alternative_tree, detection_tree}
 use Rattle.field_numbers.specs.Numbers.{number_of, searched}

@@ -14,10 +14,10 @@ use Rattle.event_schema.specs.declared.schema.FieldKind.{FieldKind}
 use Rattle.event_schema.specs.declared.schema.FieldKind.TheVariants as kinds
 use Rattle.event_schema.specs.declared.schema.Schema.{Schema}
 use Rattle.rule_schema.specs.Inferred.{is_field, fields_refusal, open_refusal, fit_refusal}
-use Rattle.sig_modifiers.specs.References.{references_in}
+use Rattle.rule_items.specs.References.{references_in}
 use Rattle.event_schema.specs.Lists.{EachOf, HasElement}
 use Rattle.rule_model.specs.Plain.{PlainRule}
-use Rattle.sig_modifiers.specs.PlainTests.{IsPlainTest, IsPatternTest, is_filled_test}
+use Rattle.rule_items.specs.PlainTests.{IsPlainTest, IsPatternTest, is_filled_test}
 use Rattle.value_patterns.specs.PlainPatterns.{IsDashedPattern, IsPlainPattern}
 use Rattle.rule_items.specs.Whole.{IsWholeValue, AreWholeFields, IsWholeItem, IsWholeAlternative, IsWholeDetection}
 use Rattle.rule_model.specs.Whole.{IsWholeForm, AreSomeForms, AreWholeForms, IsWhole}
@@ -30,8 +30,8 @@ use Rattle.sig_conditions.specs.Formulas.{PlainFormula, FDetection, FNot, FAnd, 
 use Rattle.modifier_chains.specs.declared.form.Flags.{Flags}
 use Rattle.modifier_chains.specs.declared.modifier.Joined.{Joined}
 use Rattle.modifier_chains.specs.declared.modifier.Joined.TheVariants.{All, Any}
-use Rattle.sig_modifiers.specs.declared.test.Test.{Test}
-use Rattle.sig_modifiers.specs.declared.test.Test.TheVariants as tests
+use Rattle.rule_items.specs.declared.test.Test.{Test}
+use Rattle.rule_items.specs.declared.test.Test.TheVariants as tests
 use Rattle.sig_strings.specs.Edits.{has_wildcard, plain_text}
 use Rattle.dash_choices.specs.Choices.{choices, before_each}
 use Rattle.sig_encode.specs.Networks.{Net, pattern_count, patterns_of, told_octets}
@@ -49,7 +49,7 @@ use Rattle.rule_lowering.proofs.Decimals.{characters, own_text, characters_writt
 use Rattle.field_numbers.proofs.Found.{field_within, searched_within}
 use Rattle.rule_lowering.proofs.Fitted.{each_both, ItemIsReady, DetectionIsReady, AreReady, names_fit, rule_ready, IsLike, IsMet, AreMet, patterns_met, names_met}
 use Rattle.rule_lowering.proofs.Found.{some_searched, must_holds, each_name}
-use Rattle.rule_matching.proofs.Iffs.{each_append}
+use Rattle.rule_model.proofs.Iffs.{each_append}
 use Rattle.rule_lowering.proofs.Written.{written_is}
 
 -- ---- lists

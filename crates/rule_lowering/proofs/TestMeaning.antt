@@ -20,9 +20,9 @@ use Rattle.modifier_chains.specs.declared.modifier.Op.{Op}
 use Rattle.modifier_chains.specs.declared.modifier.Op.TheVariants as ops
 use Rattle.sig_base.specs.Folding.{folded}
 use Rattle.sig_base.specs.declared.refusal.Place.{Place}
-use Rattle.sig_modifiers.specs.Holds.{Stands, ValueStands, Holds}
-use Rattle.sig_modifiers.specs.declared.test.Test.{Test}
-use Rattle.sig_modifiers.specs.declared.test.Test.TheVariants as tests
+use Rattle.rule_items.specs.Holds.{Stands, ValueStands, Holds}
+use Rattle.rule_items.specs.declared.test.Test.{Test}
+use Rattle.rule_items.specs.declared.test.Test.TheVariants as tests
 use Rattle.sig_strings.specs.Edits.{has_wildcard, plain_text}
 use Rattle.sig_strings.specs.Fits.{Fits}
 use Rattle.sig_strings.specs.declared.part.Part.{Part}
@@ -31,7 +31,7 @@ use Rattle.value_patterns.proofs.Numbers.{whole_tests}
 use Rattle.rule_lowering.specs.TreeOf.{leaf_op, text_test, whole_test, leaf_test, leaf_if_any}
 use Rattle.rule_lowering.specs.WholeNumbers.{written_number}
 use Rattle.rule_lowering.proofs.Decimals.{is_low, characters, no_wildcard, own_text, low_decimal, low_text}
-use Rattle.rule_matching.proofs.Iffs.{iff_same, iff_then, iff_back, iff_either, some_same}
+use Rattle.rule_model.proofs.Iffs.{iff_same, iff_then, iff_back, iff_either, some_same}
 use Rattle.rule_lowering.proofs.Written.{same_number, written_is, written_gives}
 
 -- ---- lists whose elements are known

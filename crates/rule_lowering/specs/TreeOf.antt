@@ -27,8 +27,8 @@ use Rattle.modifier_chains.specs.declared.modifier.Joined.TheVariants.{All, Any}
 use Rattle.modifier_chains.specs.declared.modifier.Op.{Op}
 use Rattle.modifier_chains.specs.declared.modifier.Op.TheVariants as ops
 use Rattle.sig_encode.specs.Networks.{patterns_of}
-use Rattle.sig_modifiers.specs.declared.test.Test.{Test}
-use Rattle.sig_modifiers.specs.declared.test.Test.TheVariants as tests
+use Rattle.rule_items.specs.declared.test.Test.{Test}
+use Rattle.rule_items.specs.declared.test.Test.TheVariants as tests
 use Rattle.sig_strings.specs.Edits.{has_wildcard, plain_text}
 use Rattle.value_patterns.specs.Expressions.{expression_text}
 use Rattle.sig_strings.specs.declared.part.Part.TheVariants.{Char}

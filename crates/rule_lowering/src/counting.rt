@@ -6,11 +6,10 @@ ghost use Rattle.rule_model.specs.Plain.{rule_view};
 ghost use Rattle.sig_conditions.specs.Formulas.{form_view, forms_view, forms_of, numbered};
 
 use dash_choices::dash_count;
-use rule_items::{Alternative, Detection, Fields, Item};
+use rule_items::{Alternative, Detection, Fields, Item, Test, Tests};
 use rule_model::Rule;
 use sig_base::Fault;
 use sig_conditions::Formula;
-use sig_modifiers::{Test, Tests};
 use std::alloc::Global;
 
 /// The greatest number that is told.

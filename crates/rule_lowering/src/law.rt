@@ -7,7 +7,7 @@ ghost use Rattle.event_schema.specs.Events.{IsEvent};
 ghost use Rattle.event_schema.specs.declared.schema.Schema.{Schema};
 ghost use Rattle.event_schema.specs.declared.value.Value.{Value};
 ghost use Rattle.rule_schema.specs.Inferred.{fit_refusal, open_refusal};
-ghost use Rattle.rule_matching.specs.Matching.{Matches};
+ghost use Rattle.rule_model.specs.Matching.{Matches};
 ghost use Rattle.rule_model.specs.Plain.{PlainRule};
 ghost use Rattle.rule_model.specs.Whole.{IsWhole};
 ghost use Rattle.rule_lowering.specs.TreeOf.{tree_of};

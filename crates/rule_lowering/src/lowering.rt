@@ -10,7 +10,7 @@ ghost use Rattle.field_numbers.specs.Numbers.{number_of};
 ghost use Rattle.rule_lowering.specs.TreeOf as spec;
 ghost use Rattle.rule_items.specs.declared.item.Fields.TheVariants.{Keyword, Names};
 ghost use Rattle.modifier_chains.specs.declared.modifier.Joined.TheVariants.{Any};
-ghost use Rattle.sig_modifiers.specs.declared.test.Test.TheVariants.{Fits, Inside};
+ghost use Rattle.rule_items.specs.declared.test.Test.TheVariants.{Fits, Inside};
 
 use crate::field_kind::kind_of;
 use crate::joining::{add_part, close_parts};
@@ -20,10 +20,9 @@ use dash_choices::{choice, dash_count};
 use event_schema::Field;
 use field_numbers::FieldNumbers;
 use modifier_chains::Joined;
-use rule_items::{Detection, Fields, Item};
+use rule_items::{Detection, Fields, Item, Test, Tests};
 use sig_base::{Fault, Place, Text};
 use sig_encode::Network;
-use sig_modifiers::{Test, Tests};
 use sig_strings::SharedPattern;
 use std::alloc::Global;
 

@@ -9,7 +9,7 @@ ghost use Rattle.event_schema.specs.declared.value.Value.{Value};
 ghost use Rattle.rule_lowering.specs.Refused.{told, leaves_refusal};
 ghost use Rattle.rule_lowering.specs.TreeOf.{tree_of};
 ghost use Rattle.rule_schema.specs.Inferred.{fit_refusal, open_refusal};
-ghost use Rattle.rule_matching.specs.Matching.{Matches};
+ghost use Rattle.rule_model.specs.Matching.{Matches};
 ghost use Rattle.rule_model.specs.Plain.{rule_view};
 ghost use Rattle.rule_model.specs.Whole.{IsWhole};
 ghost use Rattle.sig_base.specs.Judged.{Judged};

@@ -18,7 +18,7 @@ use Rattle.sig_base.specs.Judged.{must, first, refusal}
 use Rattle.sig_base.specs.declared.limits.Limits.{Limits}
 use Rattle.sig_base.specs.declared.refusal.Place.{Place}
 use Rattle.sig_base.specs.declared.refusal.Refusal.{Refusal}
-use Rattle.sig_modifiers.specs.TestsOf.{use_of, value_refusal}
+use Rattle.rule_items.specs.TestsOf.{use_of, value_refusal}
 use Rattle.value_patterns.specs.Expressions.{is_same_place, is_built_at}
 use Rattle.value_patterns.specs.Uses.{Use, expression_in, use_checks, use_refusal}
 use Rattle.yaml_tree.specs.Nodes.{entered, entries_in, is_empty, is_map, is_null, key_place, parts_in, place_of, refused_at, refused_by, required, value_in}

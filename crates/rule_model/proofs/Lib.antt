@@ -9,3 +9,4 @@ pub mod WholeRule
 mod AsBuilt
 mod Lone
 mod Placed
+pub mod Iffs

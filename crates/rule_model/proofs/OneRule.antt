@@ -8,10 +8,10 @@ use Rattle.sig_conditions.specs.Formulas.{PlainFormula, formula_of}
 use Rattle.sig_conditions.specs.Grammar.{ConditionReads}
 use Rattle.sig_conditions.specs.Words.{words}
 use Rattle.sig_conditions.specs.declared.word.Word.{Word}
-use Rattle.sig_modifiers.specs.TestsOf.{TestsOf}
+use Rattle.rule_items.specs.TestsOf.{TestsOf}
 use Rattle.modifier_chains.specs.Written.{Written}
 use Rattle.modifier_chains.specs.declared.modifier.Joined.{Joined}
-use Rattle.sig_modifiers.specs.declared.test.Test.{Test}
+use Rattle.rule_items.specs.declared.test.Test.{Test}
 use Rattle.yaml_tree.specs.Tree.{Tree, scalar, list, map, Member}
 use Rattle.rule_model.specs.Conditions.{names_of, IsFormula, conditions_in, AreConditions}
 use Rattle.rule_items.specs.Detections.{IsAlternative, IsDetection, detection_entries, AreDetections}

@@ -12,10 +12,10 @@ use Rattle.sig_conditions.specs.Words.{has_bar, nesting, words}
 use Rattle.sig_conditions.proofs.Sound.{is_condition}
 use Rattle.modifier_chains.specs.Chains.{chain_refusal, joined_of}
 use Rattle.sig_base.specs.Judged.{must, first}
-use Rattle.sig_modifiers.specs.TestsOf.{TestsOf, value_refusal}
+use Rattle.rule_items.specs.TestsOf.{TestsOf, value_refusal}
 use Rattle.yaml_tree.specs.Nodes.{place_of}
 use Rattle.modifier_chains.specs.Written.{Written}
-use Rattle.sig_modifiers.specs.declared.test.Test.{Test}
+use Rattle.rule_items.specs.declared.test.Test.{Test}
 use Rattle.yaml_tree.specs.Tree.{Tree, scalar, list, map as tree_map, Member}
 use Rattle.rule_model.specs.Conditions.{condition_of, first_fault, unresolved, condition_refusal, IsFormula, names_of, listed_refusal, conditions_refusal, conditions_in, AreConditions}
 use Rattle.rule_items.specs.Detections.{alternative_refusal, IsAlternative, content_refusal, is_detection_key, detection_refusal, IsDetection, detection_entries, is_identified, begins_with_timeframe, detections_refusal, AreDetections}

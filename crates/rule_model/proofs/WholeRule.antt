@@ -11,11 +11,11 @@ use Rattle.sig_base.specs.declared.refusal.Place.{Place}
 use Rattle.sig_base.specs.declared.refusal.Refusal.{Refusal}
 use Rattle.modifier_chains.specs.Chains.{chain_refusal}
 use Rattle.sig_base.specs.Judged.{must, first}
-use Rattle.sig_modifiers.specs.PlainTests.{ArePlainTests, IsPatternTest}
-use Rattle.sig_modifiers.specs.TestsOf.{TestsOf, value_refusal}
+use Rattle.rule_items.specs.PlainTests.{ArePlainTests, IsPatternTest}
+use Rattle.rule_items.specs.TestsOf.{TestsOf, value_refusal}
 use Rattle.yaml_tree.specs.Nodes.{place_of}
 use Rattle.modifier_chains.specs.Written.{Written}
-use Rattle.sig_modifiers.specs.declared.test.Test.{Test}
+use Rattle.rule_items.specs.declared.test.Test.{Test}
 use Rattle.yaml_tree.specs.Texts.{IsScalarText, HasScalarTexts, HaveScalarTexts, MembersHave}
 use Rattle.yaml_tree.specs.Tree.{Scalar, null, truth, whole, text, Tree, scalar as scalar_node, list, map as tree_map, Elements, no_elements, element, Members, no_members, member, Member}
 use Rattle.rule_model.specs.Conditions.{conditions_refusal}

@@ -6,7 +6,7 @@ use Rattle.rule_items.specs.declared.detection.Detection.{Detection}
 use Rattle.rule_items.specs.declared.expression.Expression.{Expression}
 use Rattle.rule_items.specs.declared.item.Item.{Item}
 use Rattle.sig_base.specs.declared.limits.Limits.{Limits}
-use Rattle.sig_modifiers.specs.Expressions.{expressions_in}
+use Rattle.rule_items.specs.TestExpressions.{expressions_in}
 use Rattle.yaml_tree.specs.Nodes.{value_in, entries_in}
 use Rattle.yaml_tree.specs.Tree.{Tree}
 use Rattle.rule_model.specs.Plain.{PlainRule}

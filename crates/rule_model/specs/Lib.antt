@@ -4,3 +4,4 @@ pub mod Conditions
 pub mod Expressions
 pub mod Rules
 pub mod Whole
+pub mod Matching

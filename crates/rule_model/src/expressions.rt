@@ -5,13 +5,12 @@ ghost use Rattle.std.specs.List.{flat_map};
 ghost use Rattle.rule_items.specs.Expressions.{expression_at};
 ghost use Rattle.rule_model.specs.Expressions as spec;
 ghost use Rattle.rule_model.specs.Plain.{rule_view};
-ghost use Rattle.sig_modifiers.specs.Expressions.{expression_of};
+ghost use Rattle.rule_items.specs.TestExpressions.{expression_of};
 ghost use Rattle.yaml_tree.specs.View.{node_view};
 
 use crate::rule::Rule;
-use rule_items::{Alternative, Detection, Expression, Expressions, Item};
+use rule_items::{Alternative, Detection, Expression, Expressions, Item, Test, Tests};
 use sig_base::{Fault, Limits, Place};
-use sig_modifiers::{Test, Tests};
 use std::alloc::Global;
 use yaml_tree::{Node, value_at};
 

@@ -15,8 +15,8 @@ ghost use Rattle.rule_model.specs.Plain.{PlainRule};
 ghost use Rattle.rule_model.specs.Rules.{rule_refusal, lone_refusal, IsRule, IsLoneRule};
 ghost use Rattle.rule_model.specs.Whole.{IsWhole};
 
+use rule_items::{keyword_tests, one_tests, plain_tests, some_test, tests_or_refusal};
 use sig_conditions::one_condition;
-use sig_modifiers::{keyword_tests, one_tests, plain_tests, some_test, tests_or_refusal};
 
 /// A condition that a text has in the tables is one of the grammar's, and of a text with at most so many words that nest the
 /// tables have each that the grammar has.

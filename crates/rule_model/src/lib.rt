@@ -1,4 +1,4 @@
-//! Sigma rules: what a document's tree is read as, and what every rule that is read keeps.
+//! Sigma rules: what a document's tree is read as, what every rule that is read keeps, and when a rule matches an event (a definition).
 #![tactic(auto)]
 
 pub use expressions::find_expressions;

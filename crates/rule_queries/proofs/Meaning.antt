@@ -19,7 +19,7 @@ use Rattle.pipeline_chain.specs.Chained.{Makes}
 use Rattle.pipeline_chain.specs.Kept.{IsWholePipeline}
 use Rattle.pipeline_model.specs.declared.pipeline.Pipeline.{Pipeline}
 use Rattle.rule_lowering.specs.TreeOf.{tree_of}
-use Rattle.rule_matching.specs.Matching.{Matches}
+use Rattle.rule_model.specs.Matching.{Matches}
 use Rattle.rule_building.specs.Unbuilt.{Unbuilt}
 use Rattle.rule_model.specs.Plain.{PlainRule}
 use Rattle.rule_model.specs.Rules.{rule_refusal, correlation_refusal, IsRule}

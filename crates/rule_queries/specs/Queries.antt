@@ -11,7 +11,7 @@ use Rattle.event_schema.specs.declared.schema.Schema.{Schema}
 use Rattle.event_schema.specs.declared.value.Value.{Value}
 use Rattle.rule_schema.specs.Inferred.{schema_for, open_refusal, made_refusal, fit_refusal}
 use Rattle.rule_building.specs.Unbuilt.{unbuilt_refusal}
-use Rattle.rule_matching.specs.Matching.{Matches}
+use Rattle.rule_model.specs.Matching.{Matches}
 use Rattle.rule_model.specs.Expressions.{rule_expressions}
 use Rattle.rule_model.specs.Plain.{PlainRule}
 use Rattle.rule_lowering.specs.Leaves.{leaves}

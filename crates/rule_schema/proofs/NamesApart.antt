@@ -11,10 +11,10 @@ use Rattle.event_schema.specs.Names.{IsName}
 use Rattle.event_schema.specs.Schemas.{IsOther, AreApart, twin, IsField, names_of, IsSchema}
 use Rattle.sig_base.specs.declared.refusal.Place.{Place}
 use Rattle.sig_base.specs.declared.refusal.Refusal.{Refusal}
-use Rattle.sig_modifiers.specs.PlainTests.{IsPlainTest, ArePlainTests}
-use Rattle.sig_modifiers.specs.References.{references_in}
-use Rattle.sig_modifiers.specs.declared.test.Test.{Test}
-use Rattle.sig_modifiers.specs.declared.test.Test.TheVariants as tests
+use Rattle.rule_items.specs.PlainTests.{IsPlainTest, ArePlainTests}
+use Rattle.rule_items.specs.References.{references_in}
+use Rattle.rule_items.specs.declared.test.Test.{Test}
+use Rattle.rule_items.specs.declared.test.Test.TheVariants as tests
 use Rattle.rule_items.specs.Whole.{IsWholeValue, IsWholeItem, IsWholeAlternative, IsWholeDetection, AreWholeFields}
 use Rattle.rule_items.specs.declared.detection.Detection.{Detection}
 use Rattle.rule_items.specs.declared.item.Fields.{Fields}

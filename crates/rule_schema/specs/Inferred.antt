@@ -14,9 +14,9 @@ use Rattle.rule_items.specs.declared.detection.Detection.{Detection}
 use Rattle.rule_items.specs.declared.item.Fields.{Fields}
 use Rattle.rule_items.specs.declared.item.Fields.TheVariants.{Keyword, Names}
 use Rattle.rule_items.specs.declared.item.Item.{Item}
-use Rattle.sig_modifiers.specs.PlainTests.{is_filled_test}
-use Rattle.sig_modifiers.specs.References.{references_in}
-use Rattle.sig_modifiers.specs.declared.test.Test.{Test}
+use Rattle.rule_items.specs.PlainTests.{is_filled_test}
+use Rattle.rule_items.specs.References.{references_in}
+use Rattle.rule_items.specs.declared.test.Test.{Test}
 use Rattle.rule_schema.specs.Kinds.{Asks, nothing_asked, asks_of, opposed, kind_for, names_in, are_of_kinds}
 
 -- the items of a rule, in its order

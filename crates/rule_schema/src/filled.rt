@@ -6,13 +6,12 @@ ghost use Rattle.rule_model.specs.Plain.{rule_view};
 ghost use Rattle.rule_schema.specs.Fitting.{AnswersRefusal};
 ghost use Rattle.rule_schema.specs.Inferred as spec;
 ghost use Rattle.sig_base.specs.Judged.{first};
-ghost use Rattle.sig_modifiers.specs.PlainTests.{is_filled_test};
+ghost use Rattle.rule_items.specs.PlainTests.{is_filled_test};
 
 use crate::fit::unless;
-use rule_items::{Alternative, Detection, Item};
+use rule_items::{Alternative, Detection, Item, Test, Tests};
 use rule_model::Rule;
 use sig_base::{Code, Refusal};
-use sig_modifiers::{Test, Tests};
 
 fn is_filled(tests: &Tests) -> bool
     ensures { result ≡ list_all is_filled_test tests.now }

@@ -15,10 +15,9 @@ use crate::kinds::asked_by;
 use crate::seen::{look_names, look_references};
 use event_schema::{Field, Schema};
 use field_numbers::FieldNumbers;
-use rule_items::{Alternative, Detection, Fields, Item};
+use rule_items::{Alternative, Detection, Fields, Item, Tests};
 use rule_model::Rule;
 use sig_base::{Code, Detail, Fault, Place, Refusal, Text};
-use sig_modifiers::Tests;
 use std::alloc::Global;
 
 /// Whether keywords search one of the fields.

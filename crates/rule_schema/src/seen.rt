@@ -9,8 +9,8 @@ ghost use Rattle.rule_schema.specs.Looked as spec;
 use crate::kinds::Asked;
 use event_schema::{Field, FieldKind};
 use field_numbers::FieldNumbers;
+use rule_items::{Test, Tests};
 use sig_base::Text;
-use sig_modifiers::{Test, Tests};
 
 /// Whether there is a name, and whether all names have a field, one of whole numbers, none of whole numbers, one of addresses.
 #[derive(Clone, Copy)]

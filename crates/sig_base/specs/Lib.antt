@@ -4,6 +4,5 @@ pub mod Files
 pub mod Folding
 pub mod Fronts
 pub mod Judged
-pub mod Memory
 pub mod Shelves
 pub mod Texts

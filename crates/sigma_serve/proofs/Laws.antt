@@ -44,7 +44,7 @@ use Rattle.sigma_serve.specs.RuleFiles.{DocumentGives, as_one_at, by_document_at
 use Rattle.sigma_serve.specs.UnderPipelines.{unpiped, piped_by, not_piped, PipedBuilder}
 use Rattle.sigma_serve.specs.UnderSchema.{without, under, refused}
 use Rattle.sigma_serve.specs.declared.request.Request.TheVariants.{Check, Convert, Run, Query, Correlate, Generate}
-use Rattle.yaml_bounds.specs.Laws.{TextsAreScalars}
+use Rattle.yaml_files.specs.Bounds.{TextsAreScalars}
 use Rattle.yaml_documents.specs.Verdicts as yaml
 use Rattle.yaml_tree.specs.Texts.{HasScalarTexts, AnswerHas}
 use Rattle.yaml_tree.specs.Tree.{Tree, Answer, tree, refusal}

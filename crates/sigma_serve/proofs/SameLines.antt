@@ -32,7 +32,7 @@ use Rattle.pipeline_model.specs.declared.pipeline.Pipeline.{Pipeline}
 use Rattle.rule_building.proofs.Lists.{some_left, some_right}
 use Rattle.rule_building.specs.Unbuilt.{Unbuilt, none_unbuilt, refused_texts, unbuilt_refusal, AreUnbuilt, IsOneOf, IsOfItem}
 use Rattle.rule_items.specs.declared.expression.Expression.{Expression}
-use Rattle.rule_matching.specs.Matching.{Matches}
+use Rattle.rule_model.specs.Matching.{Matches}
 use Rattle.rule_model.specs.AsBuilt.{IsRefusedAsBuilt}
 use Rattle.rule_model.specs.Expressions.{document_expressions, rule_expressions}
 use Rattle.rule_model.specs.Plain.{PlainRule}

@@ -23,7 +23,7 @@ use Rattle.sig_base.specs.Judged.{must, first, refusal as refusal_at}
 use Rattle.sig_base.specs.declared.limits.Limits.{Limits}
 use Rattle.sig_base.specs.declared.refusal.Place.{Place}
 use Rattle.sig_base.specs.declared.refusal.Refusal.{Refusal}
-use Rattle.sig_modifiers.specs.TestsOf.{use_of, value_refusal}
+use Rattle.rule_items.specs.TestsOf.{use_of, value_refusal}
 use Rattle.sigma_serve.specs.SameLines.{IsOfDocument, IsOfRefused}
 use Rattle.sigma_serve.specs.UnderPipelines.{AreReported}
 use Rattle.value_patterns.specs.Expressions.{is_same_place, is_built_at}

@@ -5,7 +5,7 @@ use Rattle.answer_parts.specs.Parts.{Share}
 use Rattle.event_schema.specs.declared.schema.Field.{Field}
 use Rattle.event_schema.specs.declared.schema.Schema.{Schema}
 use Rattle.event_schema.specs.declared.value.Value.{Value}
-use Rattle.rule_matching.specs.Matching.{Matches}
+use Rattle.rule_model.specs.Matching.{Matches}
 use Rattle.rule_model.specs.Plain.{PlainRule}
 use Rattle.selected_lines.proofs.Selected.{each_selected, one_selected}
 use Rattle.sigma_serve.specs.Laws.{EachSelected}

@@ -6,7 +6,7 @@ use Rattle.answer_parts.specs.Parts.{Part, no_share}
 use Rattle.event_schema.specs.declared.schema.Schema.{Schema}
 use Rattle.pipeline_model.specs.declared.pipeline.Pipeline.{Pipeline}
 use Rattle.rule_building.specs.Unbuilt.{Unbuilt, refused_texts}
-use Rattle.rule_matching.specs.Matching.{Matches}
+use Rattle.rule_model.specs.Matching.{Matches}
 use Rattle.rule_model.specs.Plain.{PlainRule}
 use Rattle.rule_runs.specs.Runs.{IsRun, IsNotRun, AreOfSingle}
 use Rattle.rule_schema.specs.Inferred.{schema_for}

@@ -77,6 +77,6 @@ pub fn queries_mean_rules()
 {
     event_reading::schemas_are_kept();
     rule_queries::named::queries_mean_rules();
-    yaml_bounds::laws::texts_are_scalars();
+    yaml_files::bounds::texts_are_scalars();
     pipeline_files::one_outcome();
 }

@@ -7,10 +7,10 @@ use Rattle.event_schema.specs.declared.schema.FieldKind.TheVariants as kinds
 use Rattle.sig_strings.specs.Edits.{has_wildcard}
 use Rattle.sql_lang.specs.Grammar.{Ors, last_and, and_or, Ands, last_not, not_and, Nots, enclosed}
 use Rattle.sql_lang.specs.Expression.{or_expr, or_exprs, and_expr, and_exprs, not_expr, test_of, test_depth, depth, chain_depth}
-use Rattle.sql_halves.specs.Halves.{or_join, and_join, ors_in_halves, halved_ors, halved_ands}
-use Rattle.sql_halves.specs.HalvedTrees.{layout}
-use Rattle.sql_halves.proofs.InHalves.{last_part, and_last_part}
-use Rattle.sql_halves.proofs.Chains.{or_parts, and_parts, ors_halved, ands_halved}
+use Rattle.sql_layout.specs.Halves.{or_join, and_join, ors_in_halves, halved_ors, halved_ands}
+use Rattle.sql_layout.specs.HalvedTrees.{layout}
+use Rattle.sql_layout.proofs.InHalves.{last_part, and_last_part}
+use Rattle.sql_layout.proofs.Chains.{or_parts, and_parts, ors_halved, ands_halved}
 use Rattle.backend_core.specs.declared.tree.LeafTest.{LeafTest}
 use Rattle.backend_core.specs.declared.tree.LeafTest.TheVariants as tests
 use Rattle.backend_core.specs.Trees.{Plain}

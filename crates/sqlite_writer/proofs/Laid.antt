@@ -4,9 +4,9 @@ use Rattle.std.specs.Prelude.{Option, Some, None}
 use Rattle.std.proofs.lemmas.List.{map-append}
 use Rattle.event_schema.specs.declared.schema.Field.{Field}
 use Rattle.sql_lang.specs.Grammar.{Ors, last_and, and_or, Ands, last_not, Nots, not_not, a_test, enclosed, constant}
-use Rattle.sql_halves.specs.Halves.{or_join, and_join, halved_ors, halved_ands}
-use Rattle.sql_halves.specs.HalvedTrees.{Form, form, form_of_not, form_of_or, form_of_and, ors_behind, ands_behind}
-use Rattle.sql_halves.proofs.Chains.{or_parts, and_parts, or_parts_joined, and_parts_joined}
+use Rattle.sql_layout.specs.Halves.{or_join, and_join, halved_ors, halved_ands}
+use Rattle.sql_layout.specs.HalvedTrees.{Form, form, form_of_not, form_of_or, form_of_and, ors_behind, ands_behind}
+use Rattle.sql_layout.proofs.Chains.{or_parts, and_parts, or_parts_joined, and_parts_joined}
 use Rattle.backend_core.specs.declared.tree.Leaf.{Leaf}
 use Rattle.backend_core.specs.Trees.{Plain, Plains, no_parts, a_part, all, any, negated, leaf, never}
 use Rattle.backend_core.specs.Sound.{IsSound, AreSound}

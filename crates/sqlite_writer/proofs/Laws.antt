@@ -14,7 +14,7 @@ use Rattle.sql_lang.specs.Expression.{or_expr, depth}
 use Rattle.sql_layout.specs.Layout.{has_text, is_writable, text_query}
 use Rattle.sql_lang.specs.Reading.{opens_too_far, nots_too_many, nests_too_far, SqlReads, Reads, ReadsWithin}
 use Rattle.sql_layout.specs.Trees.{Tree, EachLeaf}
-use Rattle.sql_halves.specs.HalvedTrees.{layout, layout_query}
+use Rattle.sql_layout.specs.HalvedTrees.{layout, layout_query}
 use Rattle.sqlite_writer.proofs.Nested.{IsCalm, GoodOr, good_layout, or_texts, or_opens, or_nots}
 
 spelled_texts : (table : List ℕ) (o : Ors) → all_scalars table ≡ true → list_all has_text (spell_or o) ≡ true

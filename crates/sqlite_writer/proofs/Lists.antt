@@ -4,8 +4,8 @@ use Rattle.event_schema.specs.declared.schema.Field.{Field}
 use Rattle.sql_lang.specs.Grammar.{Ors, Ands}
 use Rattle.sql_lang.specs.Expression.{Expr, or_expr, and_expr, depth}
 use Rattle.sql_layout.specs.Trees.{Tree, leaf, all, any, negated, Trees, no_trees, a_tree}
-use Rattle.sql_halves.specs.Halves.{or_count, and_count, halved_ors, halved_ands, ors_in_halves, ands_in_halves, ShallowOrs, ShallowAnds}
-use Rattle.sql_halves.specs.HalvedTrees.{form, layout}
+use Rattle.sql_layout.specs.Halves.{or_count, and_count, halved_ors, halved_ands, ors_in_halves, ands_in_halves, ShallowOrs, ShallowAnds}
+use Rattle.sql_layout.specs.HalvedTrees.{form, layout}
 use Rattle.sqlite_writer.specs.Shallow.{IsShallowAll, IsShallowAny, ListsAreShallow, EachIsShallow}
 
 module _ (fields : List Field) where

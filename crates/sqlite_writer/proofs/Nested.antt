@@ -11,9 +11,9 @@ use Rattle.sql_lang.specs.Expression.{Exprs, no_exprs, an_expr, or_expr, or_expr
 use Rattle.sql_layout.specs.Layout.{has_text}
 use Rattle.sql_lang.specs.Reading.{opens_too_far, nots_too_many}
 use Rattle.sql_layout.specs.Trees.{Tree, leaf, all, any, negated, Trees, no_trees, a_tree, EachLeaf, EachOfTrees}
-use Rattle.sql_halves.specs.Halves.{or_join, and_join, or_count, and_count, first_ors, later_ors, first_ands, later_ands, middle, ors_in_halves, ands_in_halves, halved_ors}
-use Rattle.sql_halves.specs.HalvedTrees.{Form, is_long, form, form_of_or, form_of_and, ors_behind, ands_behind, layout}
-use Rattle.sql_halves.proofs.Laid.{long_if_or, long_halved_or, long_halved_and, two_later_ors, two_later_ands, join_count_or, join_count_and}
+use Rattle.sql_layout.specs.Halves.{or_join, and_join, or_count, and_count, first_ors, later_ors, first_ands, later_ands, middle, ors_in_halves, ands_in_halves, halved_ors}
+use Rattle.sql_layout.specs.HalvedTrees.{Form, is_long, form, form_of_or, form_of_and, ors_behind, ands_behind, layout}
+use Rattle.sql_layout.proofs.Laid.{long_if_or, long_halved_or, long_halved_and, two_later_ors, two_later_ands, join_count_or, join_count_and}
 
 pub not_below : (a b : ℕ) → b ≤ a → nat_lt a b ≡ false
 not_below a b h = grind (arith, nat_tests)

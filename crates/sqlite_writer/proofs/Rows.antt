@@ -10,8 +10,8 @@ use Rattle.backend_core.specs.declared.tree.Tree.{Tree}
 use Rattle.backend_core.specs.declared.tree.Tree as trees
 use Rattle.backend_core.specs.declared.tree.Tree.TheViews.{the_lemmas}
 use Rattle.backend_core.proofs.Copies.{row_plains}
-use Rattle.sql_halves.specs.Lists.{half, halved}
-use Rattle.sql_halves.proofs.Lists.{in_a_row, in_two}
+use Rattle.sql_layout.specs.Lists.{half, halved}
+use Rattle.sql_layout.proofs.Lists.{in_a_row, in_two}
 
 pub view-All : (v : Vec Tree Global) → tree_view (trees.All v) ≡ all (plains_of v.items)
 view-All v = search (rules, the_lemmas, row_plains)

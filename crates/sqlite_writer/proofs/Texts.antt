@@ -4,9 +4,9 @@ use Rattle.std.specs.Prelude.{codes}
 use Rattle.event_schema.specs.declared.schema.Field.{Field}
 use Rattle.sql_lang.specs.Grammar.{Ors, last_and, and_or, Ands, last_not, not_and, enclosed}
 use Rattle.sql_layout.specs.Layout.{text_or, text_and, text_not}
-use Rattle.sql_halves.specs.Halves.{or_join, and_join, ors_in_halves, halved_ors, halved_ands}
-use Rattle.sql_halves.specs.HalvedTrees.{layout}
-use Rattle.sql_halves.proofs.Chains.{or_parts, and_parts, ors_halved, ands_halved}
+use Rattle.sql_layout.specs.Halves.{or_join, and_join, ors_in_halves, halved_ors, halved_ands}
+use Rattle.sql_layout.specs.HalvedTrees.{layout}
+use Rattle.sql_layout.proofs.Chains.{or_parts, and_parts, ors_halved, ands_halved}
 use Rattle.backend_core.specs.Trees.{Plain}
 use Rattle.backend_core.specs.Sound.{IsSound}
 use Rattle.sqlite_writer.specs.declared.place.Kind.TheVariants.{All, Any}

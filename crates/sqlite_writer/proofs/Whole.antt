@@ -5,7 +5,7 @@ use Rattle.event_schema.specs.declared.schema.Schema.{Schema}
 use Rattle.sql_lang.specs.Grammar.{Ors}
 use Rattle.sql_lang.specs.Expression.{depth}
 use Rattle.sql_layout.specs.Layout.{in_quotes, text_or, text_query}
-use Rattle.sql_halves.specs.HalvedTrees.{layout}
+use Rattle.sql_layout.specs.HalvedTrees.{layout}
 use Rattle.backend_core.specs.Trees.{Plain}
 use Rattle.backend_core.specs.Sound.{IsSound}
 use Rattle.sqlite_writer.specs.declared.place.Standing.TheVariants.{InOr}

@@ -10,7 +10,7 @@ use Rattle.backend_core.specs.declared.tree.LeafTest.TheVariants as tests
 use Rattle.backend_core.specs.declared.tree.Tree.{Tree}
 use Rattle.backend_core.specs.Trees.{Plain, Plains, no_parts, a_part, all, any, negated, leaf, never}
 use Rattle.backend_core.specs.View.{tree_view}
-use Rattle.sql_halves.specs.Lists.{halved}
+use Rattle.sql_layout.specs.Lists.{halved}
 
 -- COLLATE NOCASE makes a test 1 deeper
 abbrev pub text_depth : Bool → Bool → ℕ

@@ -14,7 +14,7 @@ use Rattle.sqlite_writer.specs.declared.place.Kind.TheVariants.{All, Any}
 use Rattle.sqlite_writer.specs.declared.place.Standing.{Standing}
 use Rattle.sqlite_writer.specs.declared.place.Standing.TheVariants.{InOr, InAnd, BehindNot}
 use Rattle.sqlite_writer.specs.Guarded.{name_at, written_test}
-use Rattle.sql_halves.specs.Lists.{halved}
+use Rattle.sql_layout.specs.Lists.{halved}
 
 -- where the parts of a list stand
 abbrev pub standing_in : Kind → Standing

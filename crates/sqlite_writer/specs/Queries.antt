@@ -12,7 +12,7 @@ use Rattle.sql_lang.specs.Grammar.{Query, spell_query}
 use Rattle.sql_lang.specs.Tokens.{tokens}
 use Rattle.text_places.specs.Tokens.{sorts}
 use Rattle.sql_layout.specs.Trees.{Tree}
-use Rattle.sql_halves.specs.HalvedTrees.{layout, layout_text, fine_or}
+use Rattle.sql_layout.specs.HalvedTrees.{layout, layout_text, fine_or}
 use Rattle.backend_core.specs.Trees.{Plain}
 use Rattle.backend_core.specs.Holds.{TreeHolds}
 use Rattle.sqlite_writer.specs.Guarded.{sql_tree}

@@ -3,8 +3,8 @@ use Rattle.std.specs.Prelude.{ℕ, ◌+◌, ◌*◌, ◌^◌, ◌≤◌, List, �
 use Rattle.event_schema.specs.declared.schema.Field.{Field}
 use Rattle.sql_lang.specs.Expression.{or_expr, depth}
 use Rattle.sql_layout.specs.Trees.{Tree, leaf, all, any, negated, Trees, no_trees, a_tree}
-use Rattle.sql_halves.specs.Halves.{or_count, and_count, ShallowOrs, ShallowAnds}
-use Rattle.sql_halves.specs.HalvedTrees.{form, layout}
+use Rattle.sql_layout.specs.Halves.{or_count, and_count, ShallowOrs, ShallowAnds}
+use Rattle.sql_layout.specs.HalvedTrees.{form, layout}
 
 module _ (fields : List Field) where
   -- An all of k parts, each at most d deep, is at most d + 63 + h deep, where k is at most 64 * 2 ^ h. What is joined into the

@@ -23,11 +23,11 @@ ghost use Rattle.sqlite_writer.specs.Shallow.{ListsAreShallow};
 ghost use Rattle.sqlite_writer.specs.Schemas.{IsFoundSchema, AreScalars};
 
 use sig_strings::plain_fits;
-use sql_halves::{
-    halved_layout_is_fine, halved_layout_is_read, halved_layout_means_tree, halves_are_shallow,
-};
 use sql_lang::{one_reading, one_spelling};
-use sql_layout::{leaves_are_read, leaves_are_sound, spelling_is_scanned};
+use sql_layout::{
+    halved_layout_is_fine, halved_layout_is_read, halved_layout_means_tree, halves_are_shallow,
+    leaves_are_read, leaves_are_sound, spelling_is_scanned,
+};
 use sql_patterns::{glob_means, like_means};
 
 /// Of a tree for which nothing is lacking: below an even number of words NOT it's yes exactly where it holds, and below an odd

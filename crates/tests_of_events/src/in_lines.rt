@@ -4,7 +4,8 @@ use crate::telling::assert_told;
 use event_lines::LineReader;
 use event_reading::{read_event, read_schema};
 use event_schema::{Event, Schema, Value};
-use sig_base::{Bytes, Fault, Limits, LineFault, LineStep, MemorySource};
+use sig_adapters::MemorySource;
+use sig_base::{Bytes, Fault, Limits, LineFault, LineStep};
 use std::alloc::Global;
 use std::test::Fail;
 

@@ -7,9 +7,8 @@ use crate::tables::{
 };
 use pipeline_model::Var;
 use pipeline_values::change_tests;
-use rule_items::{Alternative, Alternatives, Detection, Detections, Values};
+use rule_items::{Alternative, Alternatives, Detection, Detections, Test, Tests, Values};
 use sig_base::{Limits, Sequence, Text, Texts};
-use sig_modifiers::{Test, Tests};
 use sig_strings::{HoleName, Part, Pattern, SharedPattern};
 use std::alloc::Global;
 use std::test::Fail;

@@ -18,11 +18,12 @@
 use modifier_chains::Joined;
 use pipeline_model::{Action, Choice, FieldCond, Pair, Step, Var};
 use rule_head::{Head, LogSource};
-use rule_items::{Alternative, Alternatives, Detection, Detections, Fields, Item, Values};
+use rule_items::{
+    Alternative, Alternatives, Detection, Detections, Fields, Item, Test, Tests, Values,
+};
 use rule_model::Rule;
 use sig_base::{Limits, Place, Sequence, Text, Texts};
 use sig_conditions::Formula;
-use sig_modifiers::{Test, Tests};
 use sig_strings::{Pattern, SharedPattern};
 use std::alloc::Global;
 use std::process::Abort;

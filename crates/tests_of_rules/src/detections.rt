@@ -4,9 +4,8 @@ use crate::tables::{
     Asked, add, add_text, assert_told, at, no_row, text, three, told_fault, wrong_row,
 };
 use modifier_chains::Joined;
-use rule_items::{Alternative, Fields, Item, find_expressions, read_detections};
+use rule_items::{Alternative, Fields, Item, Test, Tests, find_expressions, read_detections};
 use sig_base::{Limits, Place};
-use sig_modifiers::{Test, Tests};
 use std::alloc::Global;
 use std::test::Fail;
 use yaml_tree::Node;

@@ -1,7 +1,9 @@
-//! Tests of files of YAML, of reading rules, of what modifiers make of values, of building regular expressions, and of the schemas that rules
-//! fit.
+//! Tests of files of YAML, of reading rules, of what modifiers make of values, of building regular expressions, of the schemas that rules
+//! fit, and of what these stand on.
 #![tactic(auto)]
 
+#[cfg(test)]
+mod below;
 #[cfg(test)]
 mod building;
 #[cfg(test)]

@@ -1,7 +1,8 @@
 //! Files, events and outputs in memory, over which `serve` is run.
 
 use languages::CrateBuilder;
-use sig_base::{Bytes, Limits, MemoryShelf, MemorySink, MemorySource, Text};
+use sig_adapters::{MemoryShelf, MemorySink, MemorySource};
+use sig_base::{Bytes, Limits, Text};
 use sigma_serve::{Status, serve};
 use std::alloc::Global;
 use std::test::Fail;

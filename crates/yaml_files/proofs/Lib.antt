@@ -5,3 +5,13 @@ pub mod Parts
 pub mod Utf8
 pub mod Refusals
 pub mod Walks
+pub mod Examples
+pub mod Flows
+pub mod Blocks
+pub mod Nodes
+pub mod Files
+pub mod Scalars
+pub mod FlowTexts
+pub mod BlockTexts
+pub mod NodeTexts
+pub mod FileTexts

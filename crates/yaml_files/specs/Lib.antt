@@ -1,3 +1,5 @@
 pub mod Call
 pub mod Views
 pub mod Ends
+pub mod Nodes
+pub mod Bounds

@@ -1,11 +1,14 @@
 //! Whole files of YAML: their characters, their lines, their documents, and the codes that lines are
-//! refused with.
+//! refused with; and how large the trees of a file are, by its bytes, and of what characters their texts
+//! are (`bounds`: laws of the definitions, for callers that reckon the work and the memory that a file
+//! may cost, and for those that write its texts).
 #![tactic(auto)]
 
 pub use documents::documents_in;
 pub use lines::lines_of;
 pub use text::characters;
 
+pub mod bounds;
 pub mod codes;
 mod documents;
 mod lines;

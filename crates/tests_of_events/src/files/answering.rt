@@ -9,7 +9,8 @@ use super::ends::{ending, shown};
 use super::signs::{columns, written};
 use crate::telling::assert_told;
 use answer_parts::{Lent, LineCommand, Outside, Stop, answer_lines, put_line, tell_line_refusal};
-use sig_base::{Bytes, Code, Limits, MemoryShelf, MemorySink, MemorySource};
+use sig_adapters::{MemoryShelf, MemorySink, MemorySource};
+use sig_base::{Bytes, Code, Limits};
 use std::alloc::Global;
 use std::test::Fail;
 

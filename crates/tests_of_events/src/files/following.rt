@@ -10,7 +10,8 @@ use super::ends::{ending, shown};
 use super::signs::{columns, written};
 use crate::telling::assert_told;
 use answer_parts::{Lent, LineFollower, Outside, Stop, follow_lines, put_line, tell_line_refusal};
-use sig_base::{Bytes, Code, Limits, MemoryShelf, MemorySource};
+use sig_adapters::{MemoryShelf, MemorySource};
+use sig_base::{Bytes, Code, Limits};
 use std::alloc::Global;
 use std::test::Fail;
 

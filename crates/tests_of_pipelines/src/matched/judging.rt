@@ -8,10 +8,9 @@ use event_schema::{Event, Field, FieldKind, FieldList, FieldValues, Schema, Valu
 use languages::{BuildFault, Builder, CrateBuilder};
 use modifier_chains::{Flags, Joined, Op};
 use regex::Regex;
-use rule_items::{Alternatives, Detection, Detections, Item, Values};
+use rule_items::{Alternatives, Detection, Detections, Item, Test, Tests, Values};
 use rule_model::Rule;
 use sig_base::{Fault, Limits, Place, Text, Texts};
-use sig_modifiers::{Test, Tests};
 use sig_strings::{Pattern, SharedPattern};
 use std::alloc::Global;
 use std::test::Fail;

@@ -1,7 +1,7 @@
 use Rattle.std.proofs.Common.{rules, arith, ◌↔◌, ◌<◌, ◌≤◌, IsTrue, length, ◌∙◌}
 use Rattle.correlation_runs.proofs.Judged.{set_next, set_many, set_long, hits_all}
 use Rattle.detection_eval.specs.Ready.{JudgesFor}
-use Rattle.rule_matching.specs.Matching.{Matches}
+use Rattle.rule_model.specs.Matching.{Matches}
 use Rattle.correlation_runs.proofs.judging.judge_all.Goals as goal
 
 pub loop-number-preserved : goal.loop-number-preserved

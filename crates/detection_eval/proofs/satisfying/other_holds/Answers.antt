@@ -1,8 +1,8 @@
 use Rattle.std.proofs.Common.{◌≡◌, ◌↔◌, ◌∙◌, IsTrue, ℕ, List, subst, sym}
 use Rattle.std.specs.Prelude.{None}
 use Rattle.event_schema.specs.declared.value.Value.{Value}
-use Rattle.sig_modifiers.specs.Expressions.{expression_of}
-use Rattle.sig_modifiers.specs.Holds.{Holds}
+use Rattle.rule_items.specs.TestExpressions.{expression_of}
+use Rattle.rule_items.specs.Holds.{Holds}
 use Rattle.detection_eval.proofs.Founds.{none_is}
 use Rattle.detection_eval.proofs.satisfying.other_holds.Goals as goal
 

@@ -4,8 +4,8 @@ use Rattle.generated.specs.Rules.{start, rule_of}
 use Rattle.comparison.proofs.Turns.{carried}
 use Rattle.event_schema.specs.Events.{IsEvent}
 use Rattle.rule_lowering.specs.TreeOf.{tree_of}
-use Rattle.rule_matching.proofs.Iffs.{iff_back}
-use Rattle.rule_matching.specs.Matching.{Matches}
+use Rattle.rule_model.proofs.Iffs.{iff_back}
+use Rattle.rule_model.specs.Matching.{Matches}
 use Rattle.generation.proofs.Alike.{decided, told, one_line}
 use Rattle.generation.specs.Lines.{line_of, set_in}
 use Rattle.generation.specs.Subjects.{IsStandard}

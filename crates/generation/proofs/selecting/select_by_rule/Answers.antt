@@ -1,6 +1,6 @@
 use Rattle.std.proofs.Common.{rules, refl}
 use Rattle.comparison.proofs.Turns.{turn}
-use Rattle.rule_matching.specs.Matching.{Matches}
+use Rattle.rule_model.specs.Matching.{Matches}
 use Rattle.generation.proofs.selecting.select_by_rule.Goals as goal
 
 pub loop-event-preserved : goal.loop-event-preserved

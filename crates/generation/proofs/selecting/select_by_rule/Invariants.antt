@@ -2,7 +2,7 @@ use Rattle.std.proofs.Common.{List, take}
 use Rattle.comparison.specs.Compared.{Flags}
 use Rattle.detection_eval.specs.Ready.{JudgesFor}
 use Rattle.event_schema.specs.declared.schema.Field.{Field}
-use Rattle.rule_matching.specs.Matching.{Matches}
+use Rattle.rule_model.specs.Matching.{Matches}
 use Rattle.rule_model.specs.Plain.{PlainRule}
 use Rattle.generation.proofs.selecting.select_by_rule.Given as goal
 

@@ -1,6 +1,6 @@
 use Rattle.std.proofs.Common.{◌≡◌, ◌++◌, drop, map}
 use Rattle.pipeline_names.specs.Names.{each_before}
-use Rattle.sig_modifiers.specs.declared.test.Test.TheVariants as tests
+use Rattle.rule_items.specs.declared.test.Test.TheVariants as tests
 use Rattle.pipeline_names.proofs.references.push_each.Given as goal
 
 abbrev pub invariant-loop-front : goal.invariant-loop-front

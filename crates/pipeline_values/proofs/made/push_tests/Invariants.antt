@@ -1,6 +1,6 @@
 use Rattle.std.proofs.Common.{◌≡◌, ◌++◌, map}
 use Rattle.std.specs.Vec.Iter.{into_iter_items}
-use Rattle.sig_modifiers.specs.declared.test.Test.TheVariants as tests
+use Rattle.rule_items.specs.declared.test.Test.TheVariants as tests
 use Rattle.pipeline_values.proofs.made.push_tests.Given as goal
 
 abbrev pub invariant-loop-front : goal.invariant-loop-front

@@ -3,7 +3,7 @@ use Rattle.std.specs.List.{flat_map}
 use Rattle.modifier_chains.specs.declared.form.ChainForm.{ChainForm}
 use Rattle.rule_items.specs.Expressions.{use_expressions}
 use Rattle.rule_items.specs.declared.expression.Expression.{Expression}
-use Rattle.sig_modifiers.specs.TestsOf.{form_use}
+use Rattle.rule_items.specs.TestsOf.{form_use}
 use Rattle.yaml_tree.specs.Nodes.{place_of}
 use Rattle.yaml_tree.specs.View.{nodes_view}
 use Rattle.rule_items.proofs.Found.{none_found}

@@ -2,7 +2,7 @@ use Rattle.std.proofs.Common.{◌≡◌, ◌++◌, drop}
 use Rattle.std.specs.List.{flat_map}
 use Rattle.modifier_chains.specs.declared.form.ChainForm.TheVariants.{Expressions}
 use Rattle.rule_items.specs.Expressions.{use_expressions}
-use Rattle.sig_modifiers.specs.TestsOf.{form_use}
+use Rattle.rule_items.specs.TestsOf.{form_use}
 use Rattle.yaml_tree.specs.Nodes.{place_of}
 use Rattle.yaml_tree.specs.View.{nodes_view}
 use Rattle.rule_items.proofs.expressions.add_values.Given as goal

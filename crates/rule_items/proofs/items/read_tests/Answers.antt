@@ -3,7 +3,7 @@ use Rattle.std.specs.Prelude.{None}
 use Rattle.std.specs.List.{AllZip}
 use Rattle.std.proofs.lemmas.List.{length-map}
 use Rattle.sig_base.specs.Judged.{first, must, Judged}
-use Rattle.sig_modifiers.specs.TestsOf.{TestsOf, value_refusal}
+use Rattle.rule_items.specs.TestsOf.{TestsOf, value_refusal}
 use Rattle.yaml_tree.specs.Nodes.{place_of}
 use Rattle.yaml_tree.specs.Tree.{Tree}
 use Rattle.yaml_tree.specs.View.{node_view, nodes_view}

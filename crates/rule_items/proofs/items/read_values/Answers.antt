@@ -1,9 +1,9 @@
 use Rattle.std.proofs.Common.{◌∙◌, ◌+◌, sym, subst, take}
 use Rattle.std.specs.Prelude.{List}
 use Rattle.std.specs.List.{AllZip}
-use Rattle.sig_modifiers.specs.PlainTests.{ArePlainTests}
-use Rattle.sig_modifiers.specs.TestsOf.{TestsOf, value_refusal}
-use Rattle.sig_modifiers.specs.declared.test.Test.{Test}
+use Rattle.rule_items.specs.PlainTests.{ArePlainTests}
+use Rattle.rule_items.specs.TestsOf.{TestsOf, value_refusal}
+use Rattle.rule_items.specs.declared.test.Test.{Test}
 use Rattle.yaml_tree.specs.View.{node_view, nodes_view}
 use Rattle.event_schema.specs.Lists.{EachOf}
 use Rattle.sig_base.proofs.Firsts.{one_more, rest_first}

@@ -1,8 +1,8 @@
 use Rattle.std.proofs.Common.{◌≡◌, drop, map, take}
 use Rattle.std.specs.List.{AllZip}
 use Rattle.sig_base.specs.Judged.{first}
-use Rattle.sig_modifiers.specs.PlainTests.{ArePlainTests}
-use Rattle.sig_modifiers.specs.TestsOf.{TestsOf, value_refusal}
+use Rattle.rule_items.specs.PlainTests.{ArePlainTests}
+use Rattle.rule_items.specs.TestsOf.{TestsOf, value_refusal}
 use Rattle.yaml_tree.specs.View.{nodes_view}
 use Rattle.event_schema.specs.Lists.{EachOf}
 use Rattle.rule_items.proofs.items.read_values.Given as goal

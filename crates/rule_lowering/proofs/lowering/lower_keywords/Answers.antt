@@ -2,7 +2,7 @@ use Rattle.std.proofs.Common.{◌∙◌, ◌≡◌, ◌<◌, ap, subst, map, ℕ
 use Rattle.backend_core.specs.Sound.{kind_at}
 use Rattle.backend_core.specs.View.{tree_view}
 use Rattle.modifier_chains.specs.declared.modifier.Joined.TheVariants.{Any}
-use Rattle.sig_modifiers.specs.declared.test.Test.{Test}
+use Rattle.rule_items.specs.declared.test.Test.{Test}
 use Rattle.rule_lowering.specs.Joining.{join}
 use Rattle.rule_lowering.specs.TreeOf.{keyword_tree, value_tree}
 use Rattle.rule_lowering.proofs.Levels.{level_goes}

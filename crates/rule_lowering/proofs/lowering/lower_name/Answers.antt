@@ -1,7 +1,7 @@
 use Rattle.std.proofs.Common.{ℕ, ◌≡◌, subst, List}
 use Rattle.std.specs.Prelude.{IfOk}
 use Rattle.backend_core.specs.View.{tree_view}
-use Rattle.sig_modifiers.specs.declared.test.Test.{Test}
+use Rattle.rule_items.specs.declared.test.Test.{Test}
 use Rattle.rule_lowering.specs.TreeOf.{number_tree}
 use Rattle.rule_lowering.proofs.lowering.lower_name.Goals as goal
 

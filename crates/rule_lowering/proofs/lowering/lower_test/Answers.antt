@@ -1,6 +1,6 @@
 use Rattle.std.proofs.Common.{◌≡◌, ◌∙◌, sym, subst, [], ◌∷◌}
 use Rattle.backend_core.specs.Sound.{kind_at}
-use Rattle.sig_modifiers.specs.declared.test.Test.{Test}
+use Rattle.rule_items.specs.declared.test.Test.{Test}
 use Rattle.rule_lowering.specs.TreeOf.{written_tests}
 use Rattle.rule_lowering.proofs.ChoiceLemmas.{alone_fits, no_pattern}
 use Rattle.rule_lowering.proofs.Ones.{alone}

@@ -2,7 +2,7 @@ use Rattle.std.proofs.Common.{◌≡◌, subst, List}
 use Rattle.std.specs.Prelude.{IfOk}
 use Rattle.backend_core.specs.Sound.{kind_at}
 use Rattle.backend_core.specs.View.{tree_view}
-use Rattle.sig_modifiers.specs.declared.test.Test.{Test}
+use Rattle.rule_items.specs.declared.test.Test.{Test}
 use Rattle.rule_lowering.specs.TreeOf.{value_tree}
 use Rattle.rule_lowering.proofs.Ones.{level_one, value_closed}
 use Rattle.rule_lowering.proofs.lowering.lower_values.Goals as goal

@@ -4,7 +4,7 @@ use Rattle.backend_core.specs.Sound.{IsSound}
 use Rattle.backend_core.specs.View.{tree_view}
 use Rattle.event_schema.specs.Events.{IsEvent}
 use Rattle.event_schema.specs.declared.value.Value.{Value}
-use Rattle.rule_matching.specs.Matching.{Matches}
+use Rattle.rule_model.specs.Matching.{Matches}
 use Rattle.rule_model.specs.Plain.{rule_view}
 use Rattle.rule_lowering.specs.Leaves.{leaves}
 use Rattle.rule_lowering.specs.Refused.{told}

@@ -4,7 +4,7 @@ use Rattle.std.proofs.lemmas.Str.{encodes_same}
 use Rattle.sql_lang.specs.Grammar.{Query}
 use Rattle.event_schema.specs.Rows.{first_values}
 use Rattle.sql_layout.specs.Trees.{IsSound as IsSoundLeaf}
-use Rattle.sql_halves.specs.HalvedTrees.{layout_query, fine_or}
+use Rattle.sql_layout.specs.HalvedTrees.{layout_query, fine_or}
 use Rattle.sqlite_writer.specs.Guarded.{name_at}
 use Rattle.sqlite_writer.specs.Queries.{query_tree, query_text, query_bytes, query_expr}
 use Rattle.sqlite_writer.proofs.Nested.{IsCalm}

@@ -2,7 +2,7 @@ use Rattle.std.proofs.Common.{◌≡◌, ◌∙◌, ap}
 use Rattle.backend_core.specs.Holds.{TreeHolds}
 use Rattle.backend_core.specs.View.{tree_view}
 use Rattle.event_schema.specs.Events.{IsEvent}
-use Rattle.rule_matching.specs.Matching.{Matches}
+use Rattle.rule_model.specs.Matching.{Matches}
 use Rattle.rule_model.specs.Plain.{rule_view}
 use Rattle.generation.proofs.Alike.{counted}
 use Rattle.generation.specs.Lines.{set_in}

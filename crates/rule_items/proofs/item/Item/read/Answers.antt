@@ -8,7 +8,7 @@ use Rattle.sig_base.specs.declared.refusal.Place.{Place}
 use Rattle.modifier_chains.specs.Chains.{chain_of, chain_refusal, joined_of}
 use Rattle.sig_base.specs.Judged.{Judged, must}
 use Rattle.modifier_chains.specs.Written.{Written}
-use Rattle.sig_modifiers.specs.TestsOf.{TestsOf}
+use Rattle.rule_items.specs.TestsOf.{TestsOf}
 use Rattle.yaml_tree.specs.Tree.{Member}
 use Rattle.yaml_tree.specs.View.{node_view, entry_view}
 use Rattle.rule_items.specs.Items.{IsItem, item_refusal, values_refusal, key_chain}

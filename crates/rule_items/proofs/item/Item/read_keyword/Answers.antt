@@ -1,8 +1,8 @@
 use Rattle.std.proofs.Common.{◌≡◌, ◌∙◌, ◌∷◌, ◌++◌, [], List, Bool, true, ap, sym, subst}
 use Rattle.event_schema.specs.Lists.{EachOf, HasElement}
 use Rattle.modifier_chains.specs.Written.{Written}
-use Rattle.sig_modifiers.specs.PlainTests.{IsPatternTest}
-use Rattle.sig_modifiers.specs.declared.test.Test.{Test}
+use Rattle.rule_items.specs.PlainTests.{IsPatternTest}
+use Rattle.rule_items.specs.declared.test.Test.{Test}
 use Rattle.yaml_tree.specs.View.{node_view}
 use Rattle.rule_items.specs.Whole.{IsWholeValue}
 use Rattle.rule_items.proofs.item.Item.read_keyword.Goals as goal

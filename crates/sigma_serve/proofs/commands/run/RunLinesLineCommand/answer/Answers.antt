@@ -3,7 +3,7 @@ use Rattle.answer_parts.proofs.Wrote.{writes_memory}
 use Rattle.event_reading.specs.Answers.{Answers}
 use Rattle.event_reading.specs.EventOf.{event_of}
 use Rattle.event_schema.specs.Occurrence.{Occurrence}
-use Rattle.rule_matching.specs.Matching.{Matches}
+use Rattle.rule_model.specs.Matching.{Matches}
 use Rattle.rule_model.specs.Plain.{rule_view}
 use Rattle.sig_base.specs.declared.refusal.Fault.TheVariants.{Refused}
 use Rattle.sig_base.specs.declared.refusal.Place.{Place}

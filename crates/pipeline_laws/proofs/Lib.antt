@@ -1,8 +1,0 @@
-mod AddedItems
-mod ByType
-mod Lists
-mod OneStep
-mod ScalarTexts
-mod SomePipeline
-mod Unrefused
-mod WholeSteps

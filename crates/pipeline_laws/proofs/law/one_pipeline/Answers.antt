@@ -1,5 +1,0 @@
-use Rattle.pipeline_laws.proofs.OneStep.{pipeline_one}
-use Rattle.pipeline_laws.proofs.law.one_pipeline.Goals as goal
-
-pub returns : goal.returns
-returns c = pipeline_one c.one_tests.ensures

@@ -1,5 +1,0 @@
-use Rattle.sig_modifiers.proofs.TestsLemmas.{one_list}
-use Rattle.sig_modifiers.proofs.law.one_tests.Goals as goal
-
-pub returns : goal.returns
-returns c = one_list c.one_list_of_patterns.ensures.same c.one_network.ensures.same

@@ -1,6 +1,0 @@
-pub mod Expressions
-pub mod Holds
-pub mod PlainTests
-pub mod References
-pub mod Resolved
-pub mod TestsOf

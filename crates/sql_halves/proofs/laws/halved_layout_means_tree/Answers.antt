@@ -1,5 +1,0 @@
-use Rattle.sql_halves.proofs.Laid.{layout_means}
-use Rattle.sql_halves.proofs.laws.halved_layout_means_tree.Goals as goal
-
-pub returns : goal.returns
-returns c = λ fields t row. layout_means fields row t

@@ -1,0 +1,16 @@
+//! Tests of what reading rules stands on: texts, patterns, encodings, conditions, trees of tests, events, lines, numbers of fields, words of
+//! the command line and those that the program is called with.
+
+mod arguments;
+mod base;
+mod conditions;
+mod dashes;
+mod encodings;
+mod events;
+mod indexes;
+mod lines;
+mod numbers;
+mod strings;
+mod tables;
+mod trees;
+mod words;

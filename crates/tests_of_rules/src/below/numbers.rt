@@ -1,0 +1,90 @@
+//! Numbers of fields by hand.
+
+use crate::below::tables::{Asked, wrong_row};
+use crate::tables::assert_told;
+use event_schema::{Field, FieldKind, FieldList};
+use field_numbers::FieldNumbers;
+use sig_base::{Text, Texts};
+use std::alloc::Global;
+use std::test::Fail;
+
+fn field(alloc: Global, name: &str, search: bool) -> Result<Field, Fail> {
+    let mut at = Texts::new(alloc);
+    at.push(Text::copy(alloc, name)?)?;
+    Ok(Field {
+        name: Text::copy(alloc, name)?,
+        kind: FieldKind::Text,
+        at,
+        search,
+        cased: false,
+        many: false,
+    })
+}
+
+/// Fields with the names that the words are; keywords search those that begin with `s`.
+fn fields(alloc: Global, words: &str) -> Result<FieldList, Fail> {
+    let mut all = FieldList::new(alloc);
+    for word in words.split(' ') {
+        all.push(field(alloc, word, word.starts_with('s'))?)?;
+    }
+    Ok(all)
+}
+
+/// Asks for the number that a name is looked up by among these fields, if it's one of theirs, and the number that is found.
+#[derive(Clone, Copy)]
+struct Among {
+    words: &'static str,
+}
+
+impl Asked for Among {
+    fn told(&self, alloc: Global, given: &str) -> Result<String, Fail> {
+        let all = fields(alloc, self.words)?;
+        let numbers = FieldNumbers::of(alloc, all.as_slice())?;
+        let name = Text::copy(alloc, given)?;
+        let found = numbers.find(all.as_slice(), &name);
+        match numbers.look_up(all.as_slice(), &name) {
+            Some(number) => Ok(format!(in alloc; "{number} {found}")?),
+            None => Ok(format!(in alloc; "none {found}")?),
+        }
+    }
+}
+
+/// The numbers of the fields that keywords search, a `;` behind each.
+fn searched(alloc: Global, words: &str) -> Result<String, Fail> {
+    let all = fields(alloc, words)?;
+    let numbers = FieldNumbers::of(alloc, all.as_slice())?;
+    let mut shown = String::new(alloc);
+    for number in numbers.searched() {
+        shown.push_str(format!(in alloc; "{number};")?.as_str())?;
+    }
+    Ok(shown)
+}
+
+const FEW: &str = "a s1 b s2 A";
+
+const FEW_NUMBERS: &str = "0 0~a
+3 3~s2
+4 4~A
+none 5~B";
+
+#[test]
+fn names_have_numbers(rt: HostRuntime) -> Result<(), Fail> {
+    let among = Among { words: FEW };
+    assert_told(&rt, wrong_row(rt.alloc(), &among, FEW_NUMBERS), "")?;
+    assert_told(&rt, searched(rt.alloc(), FEW), "1;3;")
+}
+
+const MANY: &str =
+    "f0 f1 f2 f3 f4 f5 f6 f7 f8 f9 g0 g1 g2 g3 g4 g5 g6 g7 g8 g9 h0 h1 h2 h3 h4 h5 h6 h7 h8 h9 i0 i1 i2 s0";
+
+const MANY_NUMBERS: &str = "0 0~f0
+32 32~i2
+33 33~s0
+none 34~s1";
+
+#[test]
+fn more_than_a_few_are_indexed(rt: HostRuntime) -> Result<(), Fail> {
+    let among = Among { words: MANY };
+    assert_told(&rt, wrong_row(rt.alloc(), &among, MANY_NUMBERS), "")?;
+    assert_told(&rt, searched(rt.alloc(), MANY), "33;")
+}
