@@ -1,4 +1,4 @@
-//! The laws.
+//! What follows of documents that are read as pipelines.
 
 ghost use Rattle.std.specs.Prelude.{◌≡◌, List, None};
 ghost use Rattle.sig_base.specs.declared.limits.Limits.{Limits};

@@ -1,5 +1,5 @@
-//! Pipelines run on a rule: their steps one after another; and what follows of documents that are read as pipelines, for the
-//! proofs of callers (`built`: laws alone).
+//! Pipelines run on a rule: their steps one after another. Laws, for the proofs of callers: of the rules that are made (`law`), and
+//! of documents that are read as pipelines (`built`).
 #![tactic(auto)]
 
 pub use built::{one_pipeline, pipeline_or_refusal, pipelines_are_whole};

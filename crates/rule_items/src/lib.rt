@@ -1,5 +1,5 @@
-//! Detections: items with their keys and values, the tests that chains of modifiers make of these values, and the alternatives
-//! that the items make.
+//! Detections: items with their keys and values, the tests that chains of modifiers make of these values and when they hold, the
+//! alternatives that the items make, and the regular expressions of all of them.
 #![tactic(auto)]
 
 pub use detection::{Alternative, Alternatives, Detection, Detections};

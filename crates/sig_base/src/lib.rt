@@ -1,4 +1,4 @@
-//! What every other crate of the converter stands on: texts, places, codes, refusals and limits.
+//! What nearly every crate stands on: texts, places, codes, refusals, limits, and what shelves, sources and sinks promise.
 #![tactic(auto)]
 
 pub use bytes::Bytes;

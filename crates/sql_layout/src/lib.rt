@@ -1,7 +1,7 @@
 //! How queries are written: the texts of tokens, tests and patterns, and trees of tests; and long chains of OR and AND in
 //! halves, which are no deeper than a chain of 64 parts and one for each halving, with trees of tests that are laid out so.
 //!
-//! `specs/` has the definitions; the functions are their laws: what is written is read again.
+//! `specs/` has the definitions; the functions are their laws: what is written is read again, and chains in halves mean the same.
 #![tactic(auto)]
 
 mod halves;

@@ -239,6 +239,30 @@ null~
     assert_told(&rt, wrong_value(alloc, &schema, table), "")
 }
 
+#[test]
+fn several_addresses(rt: HostRuntime) -> Result<(), Fail> {
+    let alloc = rt.alloc();
+    let schema = read(
+        alloc,
+        r#"{"fields":[{"name":"F","kind":"address","many":true,"at":["a","b"]}]}"#,
+    )?;
+    let table = r#"[]~
+null~
+[null]~
+["10.0.0.1",null,"x"]~|10.0.0.1|x
+"10.0.0.255"~|10.0.0.255
+"10.evil"~26 at 7:1
+5~26 at 7:1
+[true,false]~26 at 7:1
+["10.0.0.1",7]~26 at 7:1
+["10.0.0.1","10.0.0.256"]~26 at 7:1
+["a\u0000","10.0.0.256"]~28 at 7:1
+["10.0.0.256","a\u0000"]~26 at 7:1
+[["10.0.0.1"]]~26 at 7:1
+{}~26 at 7:1"#;
+    assert_told(&rt, wrong_value(alloc, &schema, table), "")
+}
+
 fn told_text(alloc: Global, schema: &Schema, line: &str) -> Result<String, Fail> {
     told(alloc, schema, line.as_bytes())
 }

@@ -245,11 +245,12 @@ fn lucene_is_refused(rt: HostRuntime) -> Result<(), Fail> {
     )
 }
 
-/// Queries of at most 3 bytes, and of a depth of at most 2.
+/// Queries of at most 3 bytes, and of a depth of at most 2, by parentheses at most 2 in Lucene.
 fn small_queries() -> Limits {
     let mut limits = Limits::standard();
     limits.query_bytes = 3;
     limits.sql_depth = 2;
+    limits.lucene_depth = 2;
     limits
 }
 
@@ -270,7 +271,9 @@ fn long_queries() -> Limits {
 }
 
 const SMALL_LUCENE: &str = "a:1¶¶~0~1||q:1:1: 2 TooLarge¶
-a:1¶~0~1||q:1:1: 132 LuceneUnknownField¶";
+a:1¶~0~1||q:1:1: 132 LuceneUnknownField¶
+(((~0~1||q:1:1: 135 LuceneDepth¶
+((~0~1||q:1:3: 130 LuceneSyntax¶";
 
 const SMALL_SQLITE: &str = "((()~0~1||q:1:1: 124 SqlDepth¶
 ~0~1||q:1:1: 120 SqlSyntax¶";

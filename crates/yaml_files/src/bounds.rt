@@ -1,4 +1,4 @@
-//! Laws of the definitions, which callers cite. None of these functions does anything.
+//! How large the trees of a file are, and of what characters: laws, which callers cite. No function does anything.
 
 ghost use Rattle.yaml_files.specs.Bounds.{NodesWithinBytes, NodesWithinLimit, SomeHasAsMany, TextsAreScalars};
 
