@@ -1,5 +1,5 @@
-//! Tests of what reading rules stands on: texts, patterns, encodings, conditions, trees of tests, events, lines, numbers of fields, words of
-//! the command line and those that the program is called with.
+//! Tests of small crates: texts, indexes of texts, patterns, choices of dashes, encodings, conditions, trees of tests, events, lines, the shelf,
+//! source and sink in memory, numbers of fields, words of the command line and those that the program is called with.
 
 mod arguments;
 mod base;

@@ -1,5 +1,5 @@
 //! Tests of files of YAML, of reading rules, of what modifiers make of values, of building regular expressions, of the schemas that rules
-//! fit, and of what these stand on.
+//! fit, and of small crates.
 #![tactic(auto)]
 
 #[cfg(test)]
