@@ -4,14 +4,14 @@
     command_docs.py            writes them
     command_docs.py --check    says which of them, or of the launcher's help, the table has left behind; then the exit status is 1
 
-The table is crates/command_words/specs/Table.antt, which the program is proved to keep. What each command and option is for stands below.
+The table is crates/command_line/specs/Table.antt, which the program is proved to keep. What each command and option is for stands below.
 """
 import os
 import re
 import sys
 
 TOP = os.path.dirname(os.path.dirname(os.path.abspath(__file__)))
-TABLE = "crates/command_words/specs/Table.antt"
+TABLE = "crates/command_line/specs/Table.antt"
 BACKENDS = ["sqlite", "lucene"]
 
 COMMANDS = {

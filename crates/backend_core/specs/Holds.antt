@@ -5,7 +5,7 @@ use Rattle.event_schema.specs.Lists.{SomeOf, HasElement, HasNoElement}
 use Rattle.event_schema.specs.Rows.{field_values, value_text}
 use Rattle.event_schema.specs.declared.value.Value.{Value}
 use Rattle.event_schema.specs.declared.value.Value.TheVariants.{Text, Whole}
-use Rattle.languages.specs.Patterns.{finds}
+use Rattle.query_lang.specs.Patterns.{finds}
 use Rattle.sig_base.specs.Folding.{folded}
 use Rattle.sig_strings.specs.Fits.{Fits}
 use Rattle.backend_core.specs.declared.tree.LeafTest.{LeafTest}

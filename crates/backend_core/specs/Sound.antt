@@ -7,7 +7,7 @@ use Rattle.event_schema.specs.declared.schema.Field.{Field}
 use Rattle.event_schema.specs.declared.schema.FieldKind.{FieldKind}
 use Rattle.event_schema.specs.declared.schema.FieldKind.TheVariants as kinds
 use Rattle.event_schema.specs.Events.{IsPlainText, IsWholeNumber}
-use Rattle.languages.specs.Patterns.{is_pattern}
+use Rattle.query_lang.specs.Patterns.{is_pattern}
 use Rattle.sig_strings.specs.Edits.{all_written, has_wildcard, plain_text}
 use Rattle.sig_strings.specs.declared.part.Part.{Part}
 use Rattle.backend_core.specs.declared.tree.LeafTest.{LeafTest}

@@ -16,7 +16,7 @@ ghost use Rattle.backend_core.specs.Writing.{IsTooDeep, write_refusal, Writes};
 use crate::lack::Lacking;
 use crate::tree::Tree;
 use event_schema::Schema;
-use query_language::QueryLanguage;
+use query_lang::QueryLanguage;
 use sig_base::{Bytes, Fault, Limits, Place};
 use std::alloc::Global;
 

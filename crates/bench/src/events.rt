@@ -4,7 +4,7 @@
 
 use crate::unknown;
 use event_lines::LineReader;
-use event_reading::{read_event, read_schema};
+use event_read::{read_event, read_schema};
 use event_schema::Schema;
 use serde_json::Value;
 use sig_base::{Fault, Limits, LineFault, LineStep, Source};

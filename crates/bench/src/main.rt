@@ -3,11 +3,11 @@
 //! module. The word `small` makes a small run of each; the words behind it are those of `events`.
 #![tactic(auto)]
 
-use sig_adapters::InputSource;
 use sig_base::{Fault, Source};
 use std::alloc::Global;
 use std::env::Args;
 use std::{env, io};
+use system_io::InputSource;
 
 mod agreement;
 mod events;

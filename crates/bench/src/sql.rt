@@ -5,9 +5,9 @@
 
 use crate::{number, shown, unknown};
 use event_schema::{Field, FieldKind, FieldList, Schema};
-use languages::CrateBuilder;
+use query_lang::CrateBuilder;
 use sig_base::{Fault, Limits, Text, Texts};
-use sql_reader::read_select;
+use sql_read::read_select;
 use std::alloc::Global;
 use std::env::Args;
 use std::io;

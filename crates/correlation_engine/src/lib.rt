@@ -3,18 +3,18 @@
 
 pub use arrival::Arrival;
 pub use engine::Engine;
+pub use event_matches::matches_in;
 pub use fault::TakeFault;
-pub use matching::matches_in;
 
 mod arrival;
 mod conditions;
-mod counting;
+mod distinct_texts;
 mod engine;
+mod event_matches;
+mod event_reports;
 mod extents;
 mod fault;
-mod matching;
 mod places;
-mod reporting;
 mod steps;
 mod watch;
 mod windows;

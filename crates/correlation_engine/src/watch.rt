@@ -11,8 +11,8 @@ ghost use Rattle.correlation_engine.specs.Arrivals.{taken};
 ghost use Rattle.correlation_engine.specs.Steps.{IsTimely, IsGrown, IsPrepared, IsAdvanced};
 
 use crate::arrival::Arrival;
-use crate::matching::matches_in;
-use crate::reporting::add_reports;
+use crate::event_matches::matches_in;
+use crate::event_reports::add_reports;
 use correlation_windows::{Bound, Found, Group, Match, Queues, Report};
 use sig_base::Fault;
 use std::alloc::Global;

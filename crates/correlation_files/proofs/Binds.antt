@@ -3,13 +3,13 @@ use Rattle.std.proofs.Common.{◌≡◌, ℕ, zero, suc, ◌+◌, ◌<◌, ◌�
 use Rattle.std.proofs.lemmas.List.{map-append, length-map, take_all}
 use Rattle.std.specs.List.{AllZip, AllByRecursion}
 use Rattle.correlation_engine.specs.Limits.{IsWithinLimits}
-use Rattle.correlation_rules.specs.Binding.{Names, names_of_head, bind_refusal, IsBound}
-use Rattle.correlation_rules.specs.Correlations.{PlainCorrelation, correlation_view, correlation_with}
-use Rattle.correlation_rules.specs.Laws.{BoundWithin}
+use Rattle.correlation_read.specs.Binding.{Names, names_of_head, bind_refusal, IsBound}
+use Rattle.correlation_read.specs.Correlations.{PlainCorrelation, correlation_view, correlation_with}
+use Rattle.correlation_read.specs.Laws.{BoundWithin}
 use Rattle.correlation_windows.specs.declared.bound.Bound.{Bound}
 use Rattle.event_schema.specs.declared.schema.Field.{Field}
 use Rattle.event_schema.specs.declared.schema.Schema.{Schema}
-use Rattle.rule_building.proofs.Lists.{each_joined}
+use Rattle.rule_regex.proofs.Lists.{each_joined}
 use Rattle.rule_head.specs.declared.head.Head.{Head}
 use Rattle.rule_model.specs.Plain.{PlainRule}
 use Rattle.sig_base.specs.declared.refusal.Fault.{Fault}

@@ -1,16 +1,16 @@
 -- What one document is read as.
 use Rattle.std.proofs.Common.{◌≡◌, ℕ, Bool, true, false, List, [], refl, ap, sym, subst, append-nil, Some, None, Result, Ok, Err}
-use Rattle.correlation_rules.specs.Checks.{correlation_refusal}
-use Rattle.correlation_rules.specs.Correlations.{correlation_view, correlation_with}
+use Rattle.correlation_read.specs.Checks.{correlation_refusal}
+use Rattle.correlation_read.specs.Correlations.{correlation_view, correlation_with}
 use Rattle.event_schema.specs.declared.schema.Schema.{Schema}
-use Rattle.pipeline_chain.specs.Chained.{run_pipelines, Makes}
+use Rattle.pipeline_run.specs.Chained.{run_pipelines, Makes}
 use Rattle.pipeline_model.specs.declared.pipeline.Pipeline.{Pipeline}
-use Rattle.rule_building.proofs.BuiltRows.{built_at}
-use Rattle.rule_building.proofs.Documents.{found_items, found_only, found_none, no_items}
-use Rattle.rule_building.proofs.Lists.{zip_map}
-use Rattle.rule_building.specs.Building.{FoundUnbuilt}
-use Rattle.rule_building.specs.ForUnbuilt.{ForUnbuilt, ForItems, is_answered}
-use Rattle.rule_building.specs.Unbuilt.{Unbuilt, none_unbuilt, of_values, unbuilt_refusal, IsOneOf, IsOfItem}
+use Rattle.rule_regex.proofs.BuiltRows.{built_at}
+use Rattle.rule_regex.proofs.Documents.{found_items, found_only, found_none, no_items}
+use Rattle.rule_regex.proofs.Lists.{zip_map}
+use Rattle.rule_regex.specs.Building.{FoundUnbuilt}
+use Rattle.rule_regex.specs.ForUnbuilt.{ForUnbuilt, ForItems, is_answered}
+use Rattle.rule_regex.specs.Unbuilt.{Unbuilt, none_unbuilt, of_values, unbuilt_refusal, IsOneOf, IsOfItem}
 use Rattle.rule_head.specs.Heads.{rest_of}
 use Rattle.rule_model.specs.Expressions.{document_expressions, rule_expressions}
 use Rattle.rule_model.specs.Plain.{PlainRule, rule_with}

@@ -5,10 +5,10 @@ use Rattle.event_schema.specs.Lists.{EachOf}
 use Rattle.event_schema.specs.declared.schema.Schema.{Schema}
 use Rattle.pipeline_files.specs.Paired.{paired}
 use Rattle.pipeline_model.specs.declared.pipeline.Pipeline.{Pipeline}
-use Rattle.rule_building.specs.ForUnbuilt.{is_answered}
-use Rattle.rule_building.specs.Unbuilt.{Unbuilt, none_unbuilt}
-use Rattle.rule_runs.specs.Files.{yaml_refusal}
-use Rattle.rule_runs.specs.Runs.{AreDocuments}
+use Rattle.rule_regex.specs.ForUnbuilt.{is_answered}
+use Rattle.rule_regex.specs.Unbuilt.{Unbuilt, none_unbuilt}
+use Rattle.rule_run.specs.Files.{yaml_refusal}
+use Rattle.rule_run.specs.Runs.{AreDocuments}
 use Rattle.sig_base.specs.declared.limits.Limits.{Limits}
 use Rattle.sig_base.specs.declared.refusal.Detail.TheVariants as details
 use Rattle.sig_base.specs.declared.refusal.Fault.{Fault}
@@ -16,7 +16,7 @@ use Rattle.sig_base.specs.declared.refusal.Fault.TheVariants as faults
 use Rattle.sig_base.specs.declared.refusal.Refusal.{Refusal}
 use Rattle.yaml_documents.specs.Given.{answers_view}
 use Rattle.yaml_documents.specs.Verdicts as yaml
-use Rattle.yaml_files.specs.Call.{IsCallRefusal}
+use Rattle.yaml_documents.specs.Call.{IsCallRefusal}
 use Rattle.yaml_tree.specs.Tree.{At, Answer}
 use Rattle.yaml_tree.specs.View.{place_view}
 use Rattle.yaml_tree.specs.declared.tree.Document.{Document}

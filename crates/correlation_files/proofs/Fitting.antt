@@ -1,7 +1,7 @@
 -- What making a rule ready answers.
 use Rattle.std.proofs.Common.{◌≡◌, ℕ, List, [], ◌∷◌, refl, Option, Some, None, Err}
 use Rattle.event_schema.specs.declared.schema.Schema.{Schema}
-use Rattle.pipeline_chain.specs.Chained.{run_pipelines, Gives as Makes}
+use Rattle.pipeline_run.specs.Chained.{run_pipelines, Gives as Makes}
 use Rattle.pipeline_model.specs.declared.pipeline.Pipeline.{Pipeline}
 use Rattle.rule_model.specs.Plain.{PlainRule}
 use Rattle.rule_schema.specs.Inferred.{open_refusal, unfit_refusal, fit_refusal}

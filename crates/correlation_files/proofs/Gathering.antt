@@ -6,9 +6,9 @@ use Rattle.event_schema.specs.Lists.{EachOf}
 use Rattle.event_schema.specs.declared.schema.Schema.{Schema}
 use Rattle.pipeline_files.specs.Places.{file_texts}
 use Rattle.pipeline_model.specs.declared.pipeline.Pipeline.{Pipeline}
-use Rattle.rule_building.proofs.Lists.{taken, around, each_joined, zip_joined}
-use Rattle.rule_building.specs.ForUnbuilt.{is_answered}
-use Rattle.rule_building.specs.Unbuilt.{Unbuilt, none_unbuilt, refused_texts}
+use Rattle.rule_regex.proofs.Lists.{taken, around, each_joined, zip_joined}
+use Rattle.rule_regex.specs.ForUnbuilt.{is_answered}
+use Rattle.rule_regex.specs.Unbuilt.{Unbuilt, none_unbuilt, refused_texts}
 use Rattle.sig_base.specs.declared.limits.Limits.{Limits}
 use Rattle.sig_base.specs.declared.refusal.Fault.{Fault}
 use Rattle.sig_base.specs.declared.refusal.Fault.TheVariants as faults

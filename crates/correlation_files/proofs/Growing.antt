@@ -2,12 +2,12 @@
 use Rattle.std.proofs.Common.{◌≡◌, ℕ, List, [], ◌∷◌, ◌++◌, map, refl, ap, sym, ◌∙◌, subst, append_assoc, append-nil, Result, Ok, Err, OnOk}
 use Rattle.std.proofs.lemmas.List.{map-append}
 use Rattle.std.specs.List.{AllZip}
-use Rattle.correlation_rules.specs.Binding.{Names, names_of_head, names_of_plain}
-use Rattle.correlation_rules.specs.Correlations.{PlainCorrelation}
-use Rattle.correlation_rules.specs.declared.correlation.Correlation.{Correlation}
+use Rattle.correlation_read.specs.Binding.{Names, names_of_head, names_of_plain}
+use Rattle.correlation_read.specs.Correlations.{PlainCorrelation}
+use Rattle.correlation_read.specs.declared.correlation.Correlation.{Correlation}
 use Rattle.detection_eval.specs.Ready as ready
 use Rattle.event_schema.specs.declared.schema.Schema.{Schema}
-use Rattle.rule_building.proofs.Lists.{zip_joined}
+use Rattle.rule_regex.proofs.Lists.{zip_joined}
 use Rattle.rule_model.specs.Plain.{PlainRule}
 use Rattle.sig_base.specs.declared.refusal.Fault.{Fault}
 use Rattle.sig_base.specs.declared.refusal.Refusal.{Refusal}

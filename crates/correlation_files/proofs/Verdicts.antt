@@ -2,28 +2,28 @@
 use Rattle.std.proofs.Common.{◌≡◌, ℕ, Bool, true, false, List, [], ◌∷◌, map, refl, ap, sym, ◌∙◌, subst, inl, inr, Option, Some, None, Result, Ok, Err}
 use Rattle.std.specs.Prelude.{◌⊎◌}
 use Rattle.std.specs.List.{AllZip}
-use Rattle.correlation_rules.specs.Binding.{Names, bind_refusal}
-use Rattle.correlation_rules.specs.Checks.{correlation_refusal}
-use Rattle.correlation_rules.specs.Correlations.{PlainCorrelation}
-use Rattle.correlation_rules.specs.Laws.{Reads, EachRead, OneRead, Binds, EachBound, NeverBound, OneBound}
+use Rattle.correlation_read.specs.Binding.{Names, bind_refusal}
+use Rattle.correlation_read.specs.Checks.{correlation_refusal}
+use Rattle.correlation_read.specs.Correlations.{PlainCorrelation}
+use Rattle.correlation_read.specs.Laws.{Reads, EachRead, OneRead, Binds, EachBound, NeverBound, OneBound}
 use Rattle.correlation_windows.specs.declared.bound.Bound.{Bound}
 use Rattle.event_schema.specs.Lists.{EachOf}
 use Rattle.event_schema.specs.declared.schema.Field.{Field}
 use Rattle.event_schema.specs.declared.schema.Schema.{Schema}
-use Rattle.pipeline_chain.specs.Chained.{run_pipelines, Makes}
+use Rattle.pipeline_run.specs.Chained.{run_pipelines, Makes}
 use Rattle.pipeline_files.specs.Paired.{paired}
 use Rattle.pipeline_model.specs.declared.pipeline.Pipeline.{Pipeline}
-use Rattle.rule_building.specs.Unbuilt.{Unbuilt, none_unbuilt, unbuilt_refusal}
+use Rattle.rule_regex.specs.Unbuilt.{Unbuilt, none_unbuilt, unbuilt_refusal}
 use Rattle.rule_model.specs.Expressions.{rule_expressions}
 use Rattle.rule_model.specs.Plain.{PlainRule}
 use Rattle.rule_model.specs.Rules.{lone_refusal, IsLoneRule}
-use Rattle.rule_runs.specs.Files.{yaml_refusal}
+use Rattle.rule_run.specs.Files.{yaml_refusal}
 use Rattle.rule_schema.specs.Inferred.{unfit_refusal}
 use Rattle.sig_base.specs.declared.limits.Limits.{Limits}
 use Rattle.sig_base.specs.declared.refusal.Place.{Place}
 use Rattle.sig_base.specs.declared.refusal.Refusal.{Refusal}
 use Rattle.yaml_documents.specs.Verdicts as yaml
-use Rattle.yaml_files.specs.Call.{IsCallRefusal, IsTaken}
+use Rattle.yaml_documents.specs.Call.{IsCallRefusal, IsTaken}
 use Rattle.yaml_tree.specs.Tree.{At, Tree, Answer, tree, refusal}
 use Rattle.correlation_files.specs.Bindings.{Verdict, IsVerdict, AreJudged}
 use Rattle.correlation_files.specs.Found.{Named}

@@ -1,13 +1,13 @@
 -- What is made of a document that isn't refused, as the code keeps it.
 use Rattle.std.specs.Prelude.{◌≡◌, ⊤, ◌≤◌, ℕ, List, [], ◌∷◌, length, Option, Some, None, Result, Ok, Err}
-use Rattle.correlation_rules.specs.Binding.{names_of_head, names_of_plain}
-use Rattle.correlation_rules.specs.Correlations.{IsCorrelation, IsSpan, correlation_view, correlation_with}
-use Rattle.correlation_rules.specs.declared.correlation.Correlation.{Correlation}
+use Rattle.correlation_read.specs.Binding.{names_of_head, names_of_plain}
+use Rattle.correlation_read.specs.Correlations.{IsCorrelation, IsSpan, correlation_view, correlation_with}
+use Rattle.correlation_read.specs.declared.correlation.Correlation.{Correlation}
 use Rattle.detection_eval.specs.Ready as ready
 use Rattle.event_schema.specs.declared.schema.Schema.{Schema}
-use Rattle.pipeline_chain.specs.Chained.{run_pipelines, Makes}
+use Rattle.pipeline_run.specs.Chained.{run_pipelines, Makes}
 use Rattle.pipeline_model.specs.declared.pipeline.Pipeline.{Pipeline}
-use Rattle.rule_building.specs.Building.{Builds}
+use Rattle.rule_regex.specs.Building.{Builds}
 use Rattle.rule_head.specs.Heads.{rest_of}
 use Rattle.rule_model.specs.Expressions.{rule_expressions}
 use Rattle.rule_model.specs.Plain.{PlainRule, rule_view}

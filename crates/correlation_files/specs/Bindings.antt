@@ -1,7 +1,7 @@
 -- Which correlations are bound to rules and to the fields of a schema, and which are refused, once all files are read.
 use Rattle.std.specs.Prelude.{◌≡◌, ℕ, List, [], ◌∷◌, map, None, Some, Result, Ok, Err, unwrap_or}
-use Rattle.correlation_rules.specs.Binding.{Names, bind_refusal, IsBound}
-use Rattle.correlation_rules.specs.Correlations.{PlainCorrelation}
+use Rattle.correlation_read.specs.Binding.{Names, bind_refusal, IsBound}
+use Rattle.correlation_read.specs.Correlations.{PlainCorrelation}
 use Rattle.correlation_windows.specs.declared.bound.Bound.{Bound}
 use Rattle.event_schema.specs.Lists.{EachOf}
 use Rattle.event_schema.specs.declared.schema.Field.{Field}

@@ -1,7 +1,7 @@
 -- Which documents `check` accepts: rules and correlations.
 use Rattle.std.specs.Prelude.{List, if◌then◌else◌}
 use Rattle.std.specs.declared.option.Option.{Option}
-use Rattle.correlation_rules.specs.Checks.{correlation_refusal}
+use Rattle.correlation_read.specs.Checks.{correlation_refusal}
 use Rattle.rule_model.specs.Rules.{rule_refusal}
 use Rattle.sig_base.specs.declared.limits.Limits.{Limits}
 use Rattle.sig_base.specs.declared.refusal.Place.{Place}

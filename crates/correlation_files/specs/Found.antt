@@ -1,14 +1,14 @@
 -- What the code keeps of the files that it read.
 use Rattle.std.specs.Prelude.{◌≡◌, ◌≤◌, ℕ, List, ◌++◌, map, length}
 use Rattle.std.specs.List.{AllZip}
-use Rattle.correlation_rules.specs.Binding.{Names, names_of_head, names_of_plain}
-use Rattle.correlation_rules.specs.Correlations.{PlainCorrelation, correlation_view, correlation_with, IsSpan}
-use Rattle.correlation_rules.specs.declared.correlation.Correlation.{Correlation}
+use Rattle.correlation_read.specs.Binding.{Names, names_of_head, names_of_plain}
+use Rattle.correlation_read.specs.Correlations.{PlainCorrelation, correlation_view, correlation_with, IsSpan}
+use Rattle.correlation_read.specs.declared.correlation.Correlation.{Correlation}
 use Rattle.detection_eval.specs.Ready as ready
 use Rattle.event_schema.specs.declared.schema.Schema.{Schema}
 use Rattle.rule_model.specs.Plain.{PlainRule}
 use Rattle.rule_model.specs.declared.rule.Rule.{Rule}
-use Rattle.rule_runs.specs.Answers.{IsBare}
+use Rattle.rule_run.specs.Answers.{IsBare}
 use Rattle.yaml_tree.specs.Tree.{Member}
 use Rattle.correlation_files.specs.Outcomes.{Outcome, rules_in, correlations_in}
 use Rattle.correlation_files.specs.declared.found.Found.{Found}

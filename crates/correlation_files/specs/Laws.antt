@@ -1,10 +1,10 @@
 -- Laws: each document, file and correlation has exactly one outcome.
 use Rattle.std.specs.Prelude.{◌≡◌, ℕ, List}
-use Rattle.correlation_rules.specs.Binding.{Names}
+use Rattle.correlation_read.specs.Binding.{Names}
 use Rattle.event_schema.specs.declared.schema.Field.{Field}
 use Rattle.event_schema.specs.declared.schema.Schema.{Schema}
 use Rattle.pipeline_model.specs.declared.pipeline.Pipeline.{Pipeline}
-use Rattle.rule_building.specs.Unbuilt.{Unbuilt}
+use Rattle.rule_regex.specs.Unbuilt.{Unbuilt}
 use Rattle.sig_base.specs.declared.limits.Limits.{Limits}
 use Rattle.yaml_tree.specs.Tree.{Answer}
 use Rattle.correlation_files.specs.Bindings.{Verdict, AreJudged}

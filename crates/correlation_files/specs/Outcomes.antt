@@ -2,22 +2,22 @@
 -- correlations specification 2.0).
 use Rattle.std.specs.Prelude.{◌≡◌, ℕ, Bool, true, false, List, [], ◌∷◌, codes, None, Some, Err}
 use Rattle.std.specs.List.{AllZip}
-use Rattle.correlation_rules.specs.Checks.{correlation_refusal}
-use Rattle.correlation_rules.specs.Correlations.{PlainCorrelation, IsCorrelation}
+use Rattle.correlation_read.specs.Checks.{correlation_refusal}
+use Rattle.correlation_read.specs.Correlations.{PlainCorrelation, IsCorrelation}
 use Rattle.event_schema.specs.declared.schema.Schema.{Schema}
-use Rattle.pipeline_chain.specs.Chained.{run_pipelines, Makes}
+use Rattle.pipeline_run.specs.Chained.{run_pipelines, Makes}
 use Rattle.pipeline_files.specs.Paired.{paired}
 use Rattle.pipeline_model.specs.declared.pipeline.Pipeline.{Pipeline}
-use Rattle.rule_building.specs.Unbuilt.{Unbuilt, none_unbuilt, unbuilt_refusal}
+use Rattle.rule_regex.specs.Unbuilt.{Unbuilt, none_unbuilt, unbuilt_refusal}
 use Rattle.rule_model.specs.Expressions.{rule_expressions}
 use Rattle.rule_model.specs.Plain.{PlainRule}
 use Rattle.rule_model.specs.Rules.{lone_refusal, IsLoneRule}
-use Rattle.rule_runs.specs.Files.{yaml_refusal}
-use Rattle.rule_runs.specs.Runs.{AreDocuments}
+use Rattle.rule_run.specs.Files.{yaml_refusal}
+use Rattle.rule_run.specs.Runs.{AreDocuments}
 use Rattle.rule_schema.specs.Inferred.{unfit_refusal}
 use Rattle.sig_base.specs.declared.limits.Limits.{Limits}
 use Rattle.sig_base.specs.declared.refusal.Refusal.{Refusal}
-use Rattle.yaml_files.specs.Call.{IsCallRefusal}
+use Rattle.yaml_documents.specs.Call.{IsCallRefusal}
 use Rattle.yaml_tree.specs.Nodes.{has_key}
 use Rattle.yaml_tree.specs.Tree.{At, Tree, Answer, tree, refusal}
 

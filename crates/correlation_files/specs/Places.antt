@@ -1,14 +1,14 @@
 -- Where regular expressions of a rule file aren't built: those of its documents' values, and those of items of the rules that pipelines make.
 use Rattle.std.specs.Prelude.{◌≡◌, ◌≤◌, ℕ, Bool, List, [], ◌++◌, length}
 use Rattle.event_schema.specs.Lists.{EachOf}
-use Rattle.pipeline_chain.specs.Chained.{Makes}
+use Rattle.pipeline_run.specs.Chained.{Makes}
 use Rattle.pipeline_files.specs.Paired.{paired}
 use Rattle.pipeline_files.specs.Places.{file_texts}
 use Rattle.pipeline_model.specs.declared.pipeline.Pipeline.{Pipeline}
-use Rattle.rule_building.specs.Unbuilt.{Unbuilt, none_unbuilt, AreUnbuilt}
-use Rattle.rule_runs.specs.Runs.{AreDocuments}
+use Rattle.rule_regex.specs.Unbuilt.{Unbuilt, none_unbuilt, AreUnbuilt}
+use Rattle.rule_run.specs.Runs.{AreDocuments}
 use Rattle.sig_base.specs.declared.limits.Limits.{Limits}
-use Rattle.yaml_files.specs.Call.{IsCallRefusal}
+use Rattle.yaml_documents.specs.Call.{IsCallRefusal}
 use Rattle.yaml_tree.specs.Tree.{At, Answer, tree, refusal}
 
 -- of a document that is a tree, and of the rule that these pipelines make of it; of one that YAML refuses there are none

@@ -1,6 +1,6 @@
 //! What is made of a document that isn't refused.
 
-use correlation_rules::Correlation;
+use correlation_read::Correlation;
 use detection_eval::Ready;
 use rule_head::Head;
 use rule_model::Rule;

@@ -6,18 +6,18 @@ ghost use Rattle.correlation_engine.specs.Limits.{IsWithinLimits};
 ghost use Rattle.correlation_files.specs.Bindings.{Verdict, IsVerdict, AreJudged, bounds_in, names_in, unbound_in, shown_name};
 ghost use Rattle.correlation_files.specs.Bound.{AreKept};
 ghost use Rattle.correlation_files.specs.Found.{StandsFor, IsKept, Named, names_of_rules};
-ghost use Rattle.correlation_rules.specs.Binding.{names_of_head};
-ghost use Rattle.correlation_rules.specs.Correlations.{correlation_view};
-ghost use Rattle.correlation_rules.specs.Indexed.{IsRuleIndex};
-ghost use Rattle.field_numbers.specs.Numbered.{AreNumbered};
+ghost use Rattle.correlation_read.specs.Binding.{names_of_head};
+ghost use Rattle.correlation_read.specs.Correlations.{correlation_view};
+ghost use Rattle.correlation_read.specs.Indexed.{IsRuleIndex};
+ghost use Rattle.schema_index.specs.Numbered.{AreNumbered};
 ghost use Rattle.rule_model.specs.Plain.{PlainRule};
 
 use crate::found::{Found, Sourced};
-use correlation_rules::{Correlation, RuleIndex};
+use correlation_read::{Correlation, RuleIndex};
 use correlation_windows::Bound;
 use event_schema::Schema;
-use field_numbers::FieldNumbers;
 use rule_head::Head;
+use schema_index::FieldNumbers;
 use sig_base::{Fault, Refusal, Text};
 use std::alloc::Global;
 
@@ -94,7 +94,7 @@ impl Bindings {
             → OnOk result ((v : Verdict) × IsVerdict (map names_of_head heads.now) schema.now.fields c v × AreKept (judged ++ (c, v) ∷ []) self.new) }
         ensures err { IfErr result (λ e. e ≡ Fault.Memory) }
     {
-        correlation_rules::bounds_are_within();
+        correlation_read::bounds_are_within();
         let correlation = &sourced.correlation;
         match correlation.bind_by(alloc, index, heads, numbers, schema) {
             Ok(bound) => self.add_bound(alloc, correlation, bound),

@@ -4,10 +4,10 @@ ghost use Rattle.std.specs.Prelude.{◌≡◌, ◌++◌, ◌∷◌, [], true, If
 ghost use Rattle.correlation_files.specs.Accepted.{Keeps, refused_of};
 ghost use Rattle.correlation_files.specs.Found.{StandsFor};
 ghost use Rattle.event_schema.specs.declared.schema.Schema.{Schema};
-ghost use Rattle.rule_building.specs.ForUnbuilt.{is_answered};
+ghost use Rattle.rule_regex.specs.ForUnbuilt.{is_answered};
 
 use crate::accepted::{Accepted, ReadyRule};
-use correlation_rules::Correlation;
+use correlation_read::Correlation;
 use detection_eval::Ready;
 use rule_head::Head;
 use rule_model::Rule;

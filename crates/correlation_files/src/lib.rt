@@ -2,16 +2,16 @@
 #![tactic(auto)]
 
 pub use bindings::{Bindings, Unbound};
-pub use checking::check_document;
+pub use document_check::check_document;
 pub use found::{Found, Sourced};
-pub use law::{one_binding, one_outcome};
-pub use reading::read_rules;
+pub use laws::{one_binding, one_outcome};
+pub use rule_files::read_rules;
 
 mod accepted;
 mod bindings;
-mod checking;
+mod document_check;
 mod found;
-mod law;
-mod reading;
-mod readying;
+mod laws;
+mod ready_rules;
+mod rule_files;
 mod single;

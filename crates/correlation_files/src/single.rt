@@ -3,22 +3,22 @@
 ghost use Rattle.correlation_files.specs.Accepted.{Gives, IsReadCorrelation};
 ghost use Rattle.correlation_files.specs.Outcomes.{is_correlation, IsTreeOutcome, IsOutcome};
 ghost use Rattle.correlation_files.specs.Read.{ForDocument};
-ghost use Rattle.correlation_rules.specs.Checks.{correlation_refusal};
-ghost use Rattle.pipeline_chain.specs.Chained.{Makes};
-ghost use Rattle.rule_building.specs.ForUnbuilt.{ForItems, ForUnbuilt, is_answered};
+ghost use Rattle.correlation_read.specs.Checks.{correlation_refusal};
+ghost use Rattle.pipeline_run.specs.Chained.{Makes};
+ghost use Rattle.rule_regex.specs.ForUnbuilt.{ForItems, ForUnbuilt, is_answered};
 ghost use Rattle.sig_base.specs.Judged.{Judged};
 ghost use Rattle.std.specs.Prelude.{false};
 ghost use Rattle.yaml_documents.specs.Given.{IsPlain};
 ghost use Rattle.yaml_tree.specs.View.{node_view, document_view};
 
 use crate::accepted::Accepted;
-use crate::readying::ready_chained;
-use correlation_rules::Correlation;
+use crate::ready_rules::ready_chained;
+use correlation_read::Correlation;
 use event_schema::Schema;
-use languages::Builder;
 use pipeline_model::Pipeline;
-use rule_building::find_unbuilt;
+use query_lang::Builder;
 use rule_model::Rule;
+use rule_regex::find_unbuilt;
 use sig_base::{Fault, Limits, Place, refused};
 use std::alloc::Global;
 use yaml_tree::{Document, Node, has_key};
@@ -27,7 +27,7 @@ use yaml_tree::{Document, Node, has_key};
 fn read_correlation(alloc: Global, node: &Node) -> Result<Accepted, Fault>
     ensures { Judged (IsReadCorrelation (node_view node.now)) (correlation_refusal (node_view node.now)) result }
 {
-    correlation_rules::bounds_are_within();
+    correlation_read::bounds_are_within();
     match Correlation::read(alloc, node) {
         Ok(correlation) => Ok(Accepted::Correlation(correlation)),
         Err(fault) => Err(fault),
@@ -47,7 +47,7 @@ fn read_rule<B: Builder>(
     ensures { ForItems (Makes limits.now pipelines.now) (node_view node.now) unbuilt.now (B.refused builder.old) (B.refused builder.new)
         (λ places. Gives (IsTreeOutcome false limits.now pipelines.now schema.now places (node_view node.now)) schema.now result) }
 {
-    pipeline_chain::heads_are_kept();
+    pipeline_run::heads_are_kept();
     match Rule::read_lone(alloc, limits, unbuilt, node) {
         Ok(rule) => ready_chained(alloc, limits, pipelines, schema, rule, builder),
         Err(fault) => Err(fault),

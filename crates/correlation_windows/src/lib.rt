@@ -4,7 +4,7 @@
 pub use bound::{Bound, CorrelationKind, Op};
 pub use found::Found;
 pub use group::Group;
-pub use law::{kept_goes, kept_suffices, matches_follow};
+pub use laws::{kept_goes, kept_suffices, matches_follow};
 pub use matches::Match;
 pub use report::Report;
 pub use store::Queues;
@@ -15,7 +15,7 @@ mod drops;
 mod found;
 mod group;
 mod growth;
-mod law;
+mod laws;
 mod matches;
 mod report;
 mod store;

@@ -11,31 +11,31 @@ use Rattle.event_schema.specs.Rows.{value_text}
 use Rattle.event_schema.specs.declared.schema.Field.{Field}
 use Rattle.event_schema.specs.declared.value.Value.{Value}
 use Rattle.event_schema.specs.declared.value.Value.TheVariants as values
-use Rattle.languages.specs.Patterns.{finds}
+use Rattle.query_lang.specs.Patterns.{finds}
 use Rattle.matching.proofs.SuffixLemmas.{SuffixHolds-here, SuffixHolds-more, SuffixHolds-split, SuffixHolds-nil}
 use Rattle.matching.specs.Steps.{is_dash}
 use Rattle.matching.specs.Suffixes.{SuffixHolds, CharThen}
 use Rattle.event_schema.specs.Lists.{EachOf, SomeOf, HasElement, HasNoElement}
 use Rattle.rule_model.specs.Matching.{named, JoinedHolds, FieldSatisfies, KeywordSatisfied, FieldsHold, ItemHolds, DetectionHolds, NumberHolds, FormHolds, AllFormsHold, SomeFormHolds, Matches}
 use Rattle.rule_model.specs.Plain.{PlainRule}
-use Rattle.rule_items.specs.declared.detection.Detection.{Detection}
-use Rattle.rule_items.specs.declared.item.Fields.{Fields}
-use Rattle.rule_items.specs.declared.item.Fields.TheVariants.{Keyword, Names}
-use Rattle.rule_items.specs.declared.item.Item.{Item}
+use Rattle.rule_detections.specs.declared.detection.Detection.{Detection}
+use Rattle.rule_detections.specs.declared.item.Fields.{Fields}
+use Rattle.rule_detections.specs.declared.item.Fields.TheVariants.{Keyword, Names}
+use Rattle.rule_detections.specs.declared.item.Item.{Item}
 use Rattle.sig_conditions.specs.Formulas.{PlainFormula, FDetection, FNot, FAnd, FOr, PlainFormulas, no_forms, form}
 use Rattle.sig_base.specs.Folding.{folded}
-use Rattle.rule_items.specs.Holds.{AreSame, Holds, Stands, ValueStands}
-use Rattle.modifier_chains.specs.declared.modifier.Joined.{Joined}
-use Rattle.modifier_chains.specs.declared.modifier.Joined.TheVariants.{All, Any}
-use Rattle.modifier_chains.specs.declared.modifier.Op.{Op}
-use Rattle.modifier_chains.specs.declared.modifier.Op.TheVariants as ops
-use Rattle.rule_items.specs.declared.test.Test.{Test}
-use Rattle.rule_items.specs.declared.test.Test.TheVariants as tests
+use Rattle.rule_detections.specs.Holds.{AreSame, Holds, Stands, ValueStands}
+use Rattle.modifier_words.specs.declared.modifier.Joined.{Joined}
+use Rattle.modifier_words.specs.declared.modifier.Joined.TheVariants.{All, Any}
+use Rattle.modifier_words.specs.declared.modifier.Op.{Op}
+use Rattle.modifier_words.specs.declared.modifier.Op.TheVariants as ops
+use Rattle.rule_detections.specs.declared.test.Test.{Test}
+use Rattle.rule_detections.specs.declared.test.Test.TheVariants as tests
 use Rattle.detection_eval.proofs.Networks.{inside_decided}
 use Rattle.sig_strings.specs.Fits.{Fits, same_char}
 use Rattle.sig_strings.specs.declared.part.Part.{Part}
 use Rattle.sig_strings.specs.declared.part.Part.TheVariants.{Char, One, Run, Dash, Hole}
-use Rattle.value_patterns.specs.Expressions.{expression_text}
+use Rattle.modifier_values.specs.Expressions.{expression_text}
 
 -- it holds, or it doesn't
 abbrev pub Decided : Type 0 → Type 0

@@ -5,7 +5,7 @@ use Rattle.std.specs.Prelude.{Option, Some, None, is_some, slice_get}
 use Rattle.event_schema.specs.Lists.{SomeOf}
 use Rattle.event_schema.specs.Rows.{value_text}
 use Rattle.event_schema.specs.declared.value.Value.{Value}
-use Rattle.languages.specs.Patterns.{finds}
+use Rattle.query_lang.specs.Patterns.{finds}
 use Rattle.detection_eval.specs.Ready.{is_found, SomeFound}
 
 pub none_is : {A : Type 0} (o : Option A) → is_some o ≡ false → o ≡ None

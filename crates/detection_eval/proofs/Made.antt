@@ -1,9 +1,9 @@
 -- What is made of regular expressions that are built.
 use Rattle.std.proofs.Common.{◌≡◌, ℕ, List}
 use Rattle.std.specs.Prelude.{Result, Ok, Err, IfOk, IfErr}
-use Rattle.rule_building.proofs.BuiltRows.{no_memory}
-use Rattle.rule_building.specs.Building.{Builds}
-use Rattle.rule_items.specs.declared.expression.Expression.{Expression}
+use Rattle.rule_regex.proofs.BuiltRows.{no_memory}
+use Rattle.rule_regex.specs.Building.{Builds}
+use Rattle.rule_detections.specs.declared.expression.Expression.{Expression}
 use Rattle.sig_base.specs.declared.refusal.Fault.{Fault}
 use Rattle.sig_base.specs.declared.refusal.Fault.TheVariants.{Memory}
 

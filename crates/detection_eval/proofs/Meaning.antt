@@ -7,25 +7,25 @@ use Rattle.event_schema.specs.Lists.{EachOf, SomeOf}
 use Rattle.event_schema.specs.Rows.{field_number, field_values, values_if_any}
 use Rattle.event_schema.specs.declared.schema.Field.{Field}
 use Rattle.event_schema.specs.declared.value.Value.{Value}
-use Rattle.field_numbers.proofs.Found.{each_within, number_found}
-use Rattle.field_numbers.specs.Numbers.{number_of, searched}
-use Rattle.rule_items.specs.declared.detection.Detection.{Detection}
-use Rattle.rule_items.specs.declared.expression.Expression.{Expression}
-use Rattle.rule_items.specs.declared.item.Fields.{Fields}
-use Rattle.rule_items.specs.declared.item.Fields.TheVariants.{Keyword, Names}
-use Rattle.rule_items.specs.declared.item.Item.{Item}
+use Rattle.schema_index.proofs.Found.{each_within, number_found}
+use Rattle.schema_index.specs.Numbers.{number_of, searched}
+use Rattle.rule_detections.specs.declared.detection.Detection.{Detection}
+use Rattle.rule_detections.specs.declared.expression.Expression.{Expression}
+use Rattle.rule_detections.specs.declared.item.Fields.{Fields}
+use Rattle.rule_detections.specs.declared.item.Fields.TheVariants.{Keyword, Names}
+use Rattle.rule_detections.specs.declared.item.Item.{Item}
 use Rattle.rule_model.proofs.Iffs.{iff_same, iff_then, each_then, some_filtered_of, over_map}
 use Rattle.rule_model.specs.Matching.{named, JoinedHolds, FieldSatisfies, KeywordSatisfied, FieldsHold, ItemHolds, DetectionHolds, NumberHolds, FormHolds, AllFormsHold, SomeFormHolds, Matches}
 use Rattle.rule_model.specs.Expressions.{item_expressions, detection_expressions, rule_expressions}
 use Rattle.rule_model.specs.Plain.{PlainRule}
 use Rattle.sig_conditions.specs.Formulas.{PlainFormula, FDetection, FNot, FAnd, FOr, PlainFormulas, no_forms, form, forms_of, value, all_true, some_true}
-use Rattle.modifier_chains.specs.declared.modifier.Joined.{Joined}
-use Rattle.modifier_chains.specs.declared.modifier.Joined.TheVariants.{All, Any}
-use Rattle.rule_items.specs.TestExpressions.{expression_of, expressions_in}
-use Rattle.rule_items.specs.Holds.{Holds}
-use Rattle.rule_items.specs.References.{listed}
-use Rattle.rule_items.specs.declared.test.Test.{Test}
-use Rattle.rule_items.specs.declared.test.Test.TheVariants as tests
+use Rattle.modifier_words.specs.declared.modifier.Joined.{Joined}
+use Rattle.modifier_words.specs.declared.modifier.Joined.TheVariants.{All, Any}
+use Rattle.rule_detections.specs.TestExpressions.{expression_of, expressions_in}
+use Rattle.rule_detections.specs.Holds.{Holds}
+use Rattle.rule_detections.specs.References.{listed}
+use Rattle.rule_detections.specs.declared.test.Test.{Test}
+use Rattle.rule_detections.specs.declared.test.Test.TheVariants as tests
 use Rattle.detection_eval.specs.Ready.{NumberedHolds, Satisfies, ValuesHold, SearchSatisfies, AskedHolds, NumberedItemHolds, AlternativesHold, AreTruths, asked_of, numbered_test, numbered_item, numbered_detection, texts_of, PlainReady, ready_rule}
 use Rattle.detection_eval.specs.Truths.{truth_at}
 use Rattle.detection_eval.specs.declared.numbered.NumberedTest.{NumberedTest}

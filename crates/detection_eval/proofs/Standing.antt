@@ -7,7 +7,7 @@ use Rattle.std.proofs.lemmas.Bool.{lt-ltb}
 use Rattle.std.proofs.lemmas.List.{append_assoc}
 use Rattle.std.proofs.lemmas.Slice.Eq.{bytes_eq-Decides}
 use Rattle.event_schema.specs.Lists.{EachOf}
-use Rattle.modifier_chains.specs.declared.modifier.Joined.{Joined}
+use Rattle.modifier_words.specs.declared.modifier.Joined.{Joined}
 use Rattle.rule_model.proofs.Iffs.{Over, iff_pair, iff_then, iff_back, over_cons, over_empty, each_append}
 use Rattle.text_index.specs.Numbers.{first_number}
 

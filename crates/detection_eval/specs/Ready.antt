@@ -7,23 +7,23 @@ use Rattle.event_schema.specs.Lists.{EachOf, SomeOf}
 use Rattle.event_schema.specs.Rows.{field_number, field_values, values_if_any, value_text}
 use Rattle.event_schema.specs.declared.schema.Field.{Field}
 use Rattle.event_schema.specs.declared.value.Value.{Value}
-use Rattle.field_numbers.specs.Numbers.{searched}
-use Rattle.languages.specs.Patterns.{finds}
-use Rattle.languages.specs.declared.search.Search.{Search}
-use Rattle.rule_items.specs.declared.detection.Detection.{Detection}
-use Rattle.rule_items.specs.declared.expression.Expression.{Expression}
-use Rattle.rule_items.specs.declared.item.Fields.{Fields}
-use Rattle.rule_items.specs.declared.item.Fields.TheVariants.{Keyword, Names}
-use Rattle.rule_items.specs.declared.item.Item.{Item}
+use Rattle.schema_index.specs.Numbers.{searched}
+use Rattle.query_lang.specs.Patterns.{finds}
+use Rattle.query_lang.specs.declared.search.Search.{Search}
+use Rattle.rule_detections.specs.declared.detection.Detection.{Detection}
+use Rattle.rule_detections.specs.declared.expression.Expression.{Expression}
+use Rattle.rule_detections.specs.declared.item.Fields.{Fields}
+use Rattle.rule_detections.specs.declared.item.Fields.TheVariants.{Keyword, Names}
+use Rattle.rule_detections.specs.declared.item.Item.{Item}
 use Rattle.rule_model.specs.Expressions.{rule_expressions}
 use Rattle.rule_model.specs.Plain.{PlainRule}
 use Rattle.sig_conditions.specs.Formulas.{PlainFormula, forms_view}
-use Rattle.rule_items.specs.TestExpressions.{expression_of}
-use Rattle.rule_items.specs.Holds.{Holds}
-use Rattle.rule_items.specs.References.{reference_of}
-use Rattle.modifier_chains.specs.declared.modifier.Joined.{Joined}
-use Rattle.modifier_chains.specs.declared.modifier.Joined.TheVariants.{All, Any}
-use Rattle.rule_items.specs.declared.test.Test.{Test}
+use Rattle.rule_detections.specs.TestExpressions.{expression_of}
+use Rattle.rule_detections.specs.Holds.{Holds}
+use Rattle.rule_detections.specs.References.{reference_of}
+use Rattle.modifier_words.specs.declared.modifier.Joined.{Joined}
+use Rattle.modifier_words.specs.declared.modifier.Joined.TheVariants.{All, Any}
+use Rattle.rule_detections.specs.declared.test.Test.{Test}
 use Rattle.text_index.specs.Numbers.{first_number}
 use Rattle.detection_eval.specs.declared.judge.Judge.{Judge}
 use Rattle.detection_eval.specs.declared.numbered.Asked.{Asked}

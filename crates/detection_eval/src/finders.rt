@@ -3,12 +3,12 @@
 ghost use Rattle.std.specs.Prelude.{◌≡◌, ◌↔◌, true, IsTrue, IfOk, IfErr};
 ghost use Rattle.event_schema.specs.Lists.{SomeOf};
 ghost use Rattle.event_schema.specs.Rows.{value_text};
-ghost use Rattle.languages.specs.Patterns.{finds};
+ghost use Rattle.query_lang.specs.Patterns.{finds};
 ghost use Rattle.detection_eval.specs.Ready.{SomeFound, searches_view};
 
 use event_schema::{Value, decimal_in};
 use itoa::Buffer;
-use languages::{Finder, Search};
+use query_lang::{Finder, Search};
 use sig_base::Fault;
 use std::alloc::Global;
 use std::marker::Model;

@@ -3,17 +3,17 @@
 #![tactic(auto)]
 
 pub use judge::Judge;
-pub use law::matches_or_not;
+pub use laws::matches_or_not;
 pub use ready::Ready;
 
 mod copying;
+mod event_truth;
 mod finders;
 mod formula;
-mod indexing;
+mod item_truth;
 mod judge;
-mod judging;
-mod law;
-mod making;
+mod laws;
 mod numbered;
+mod numbered_detections;
 mod ready;
-mod satisfying;
+mod search_numbers;

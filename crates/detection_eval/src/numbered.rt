@@ -1,7 +1,7 @@
 //! Items of detections whose names and regular expressions are numbers.
 
-use modifier_chains::Joined;
-use rule_items::Test;
+use modifier_words::Joined;
+use rule_detections::Test;
 use sig_base::Sequence;
 
 /// The numbers of an item's fields; none for a name that no field has.

@@ -2,22 +2,22 @@
 
 ghost use Rattle.std.specs.Prelude.{◌≡◌, List, IfOk, IfErr};
 ghost use Rattle.event_schema.specs.declared.schema.Field.{Field};
-ghost use Rattle.rule_building.specs.Building.{Builds};
+ghost use Rattle.rule_regex.specs.Building.{Builds};
 ghost use Rattle.rule_model.specs.Expressions.{rule_expressions};
 ghost use Rattle.rule_model.specs.Plain.{PlainRule, rule_view};
 ghost use Rattle.detection_eval.specs.Ready.{StandsFor, JudgesFor, ready_of, ready_view, searches_view};
 
 use crate::copying::{copy_formulas, copy_numbers};
 use crate::finders::Finders;
-use crate::indexing::index_texts;
 use crate::judge::Judge;
-use crate::making::number_detections;
 use crate::numbered::NumberedDetection;
+use crate::numbered_detections::number_detections;
+use crate::search_numbers::index_texts;
 use event_schema::Schema;
-use field_numbers::FieldNumbers;
-use languages::{Builder, Search};
-use rule_building::build_searches;
+use query_lang::{Builder, Search};
 use rule_model::Rule;
+use rule_regex::build_searches;
+use schema_index::FieldNumbers;
 use sig_base::Fault;
 use sig_conditions::Formula;
 use std::alloc::Global;

@@ -6,11 +6,11 @@ use Rattle.std.proofs.lemmas.List.{take_all}
 use Rattle.std.proofs.lemmas.Str.{IsUtf8-from_is_utf8, is_utf8-from_IsUtf8}
 use Rattle.event_schema.specs.declared.schema.Field.{Field}
 use Rattle.event_schema.specs.declared.schema.FieldKind.TheVariants as kinds
-use Rattle.text_places.specs.Places.{IsText, IsBadAt}
+use Rattle.query_tokens.specs.Places.{IsText, IsBadAt}
 use Rattle.lucene_lang.specs.declared.written.Written.TheVariants.{Bare, Escaped}
 use Rattle.lucene_lang.specs.Tokens.{Sort, Joins, Not, Star, Wild, To, Decimal, Plain, Phrase, Opening, Closing, Opens, Closes, Colon, Unclosed, tokens, scan, run_sort, is_decimal}
 use Rattle.lucene_lang.specs.declared.query.Word.TheVariants.{And, Or}
-use Rattle.text_places.specs.Tokens.{sorts}
+use Rattle.query_tokens.specs.Tokens.{sorts}
 use Rattle.lucene_lang.specs.Query.{FieldName, named, found_in}
 use Rattle.lucene_lang.specs.Faults.{is_number}
 use Rattle.lucene_lang.specs.Reading.{opens_too_far, Reads, ReadsWithin, BytesRead, BytesRefused, no_text, no_query}

@@ -4,7 +4,7 @@ use Rattle.std.specs.Prelude.{Result, Ok, Err, pos, negsuc}
 use Rattle.std.specs.Fmt.{digits}
 use Rattle.event_schema.specs.declared.value.Value.{Value}
 use Rattle.event_schema.specs.declared.value.Value.TheVariants as values
-use Rattle.text_places.specs.Places.{CodeAt}
+use Rattle.query_tokens.specs.Places.{CodeAt}
 use Rattle.lucene_lang.specs.Query.{Group}
 use Rattle.lucene_lang.specs.Meaning.{selects, term_fits}
 use Rattle.lucene_lang.specs.Tokens.{tokens, scan, run_sort, is_decimal}

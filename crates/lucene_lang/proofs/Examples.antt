@@ -6,7 +6,7 @@ use Rattle.event_schema.specs.declared.schema.Field.{Field}
 use Rattle.event_schema.specs.declared.schema.FieldKind.{FieldKind}
 use Rattle.event_schema.specs.declared.schema.FieldKind.TheVariants as kinds
 use Rattle.event_schema.specs.declared.schema.Schema.{Schema}
-use Rattle.text_places.specs.Places.{CodeAt}
+use Rattle.query_tokens.specs.Places.{CodeAt}
 use Rattle.lucene_lang.specs.declared.query.Glyph.{Glyph}
 use Rattle.lucene_lang.specs.declared.query.Glyph.TheVariants.{Char, One, Run}
 use Rattle.lucene_lang.specs.declared.query.Word.{Word}

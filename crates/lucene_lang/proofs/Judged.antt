@@ -2,9 +2,9 @@
 use Rattle.std.proofs.Common.{ℕ, ◌≡◌, ◌-◌, refl, sym, ◌∙◌, ap, Bool, true, false, List, [], ◌∷◌, ◌++◌, length, ◌⊎◌, inl, inr, subst, arith, length-append}
 use Rattle.std.specs.Prelude.{Option, Some, None, Result, Ok, Err}
 use Rattle.event_schema.specs.declared.schema.Schema.{Schema}
-use Rattle.text_places.specs.Places.{At, CodeAt, code_at}
-use Rattle.text_places.specs.Tokens.{sorts, places, token_place}
-use Rattle.text_places.proofs.Stops.{one_stop_of, no_stop_of}
+use Rattle.query_tokens.specs.Places.{At, CodeAt, code_at}
+use Rattle.query_tokens.specs.Tokens.{sorts, places, token_place}
+use Rattle.query_tokens.proofs.Stops.{one_stop_of, no_stop_of}
 use Rattle.lucene_lang.specs.Tokens.{Sort, tokens}
 use Rattle.lucene_lang.specs.Grammar as grammar
 use Rattle.lucene_lang.specs.Grammar.{spell_group, StopsAt}

@@ -5,7 +5,7 @@ use Rattle.event_schema.specs.declared.schema.Field.{Field}
 use Rattle.event_schema.specs.declared.schema.FieldKind.{FieldKind}
 use Rattle.event_schema.specs.declared.schema.FieldKind.TheVariants as kinds
 use Rattle.event_schema.specs.declared.schema.Schema.{Schema}
-use Rattle.text_places.specs.Places.{At, CodeAt, code_at, code_at_if, nth}
+use Rattle.query_tokens.specs.Places.{At, CodeAt, code_at, code_at_if, nth}
 use Rattle.lucene_lang.specs.declared.query.Word.{Word}
 use Rattle.lucene_lang.specs.declared.query.Word.TheVariants.{And, Or}
 use Rattle.lucene_lang.specs.declared.written.Written.{Written}

@@ -8,7 +8,7 @@
 -- A query is plain data here, with its parentheses; a text is this query where the query's spelling is the text's tokens.
 -- That the words of a group are all the same is no matter of the grammar, but of `Faults`.
 use Rattle.std.specs.Prelude.{ℕ, ◌≡◌, Bool, List, [], ◌∷◌, ◌++◌}
-use Rattle.text_places.specs.Spelled as spelled
+use Rattle.query_tokens.specs.Spelled as spelled
 use Rattle.lucene_lang.specs.declared.query.Word.{Word}
 use Rattle.lucene_lang.specs.declared.written.Written.{Written}
 use Rattle.lucene_lang.specs.Tokens.{Sort, Joins, Not, Star, Wild, To, Decimal, Plain, Phrase, Opening, Closing, Opens, Closes, Colon}

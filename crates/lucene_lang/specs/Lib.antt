@@ -8,3 +8,4 @@ pub mod Machine
 pub mod Verdict
 pub mod Meaning
 pub mod Selection
+pub mod Queries

@@ -2,8 +2,8 @@
 use Rattle.std.specs.Prelude.{ℕ, suc, ◌≡◌, ◌+◌, Bool, true, false, ◌||◌, nat_lt, if◌then◌else◌, List, [], ◌∷◌, length, Option, Some, None, encode_utf8_all}
 use Rattle.std.specs.Str.{all_scalars}
 use Rattle.event_schema.specs.declared.schema.Schema.{Schema}
-use Rattle.text_places.specs.Places.{At, origin, IsText, IsBadAt, CodeAt, code_at}
-use Rattle.text_places.specs.Tokens.{sorts, places, token_place}
+use Rattle.query_tokens.specs.Places.{At, origin, IsText, IsBadAt, CodeAt, code_at}
+use Rattle.query_tokens.specs.Tokens.{sorts, places, token_place}
 use Rattle.lucene_lang.specs.Tokens.{Token, Sort, Opening, Closing, tokens}
 use Rattle.lucene_lang.specs.Grammar as grammar
 use Rattle.lucene_lang.specs.Grammar.{spell_group, StopsAt}

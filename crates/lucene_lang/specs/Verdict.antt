@@ -1,8 +1,8 @@
 -- What a text is, as a function that goes by the reading token by token: its query, or its first refusal.
 use Rattle.std.specs.Prelude.{ℕ, ◌-◌, Bool, true, false, List, [], ◌∷◌, length, Option, Some, None, Result, Ok, Err}
 use Rattle.event_schema.specs.declared.schema.Schema.{Schema}
-use Rattle.text_places.specs.Places.{At, origin, CodeAt, code_at}
-use Rattle.text_places.specs.Tokens.{sorts, places, token_place}
+use Rattle.query_tokens.specs.Places.{At, origin, CodeAt, code_at}
+use Rattle.query_tokens.specs.Tokens.{sorts, places, token_place}
 use Rattle.lucene_lang.specs.Tokens.{Sort, tokens}
 use Rattle.lucene_lang.specs.Grammar as grammar
 use Rattle.lucene_lang.specs.Query.{Group, group_of}

@@ -3,15 +3,19 @@
 //!
 //! `specs/` says which text is which query, where a text stops being one, which refusal comes first, how a text is read
 //! token by token, and which events a query selects. The functions are the laws of the definitions.
+//!
+//! Lucene as a query language: what its queries are and mean.
 #![tactic(auto)]
 
 mod laws;
+mod lucene;
 mod meaning;
 mod query;
 mod verdict;
 mod written;
 
 pub use laws::{machine_reads, no_stop_in_query, one_reading, one_spelling, one_stop};
+pub use lucene::Lucene;
 pub use meaning::{atoms_hold, groups_select, runs_and_characters};
 pub use query::{Atom, Clause, Glyph, Glyphs, Group, Sought, Word};
 pub use verdict::{no_refused_query, one_refusal, query_or_refusal};

@@ -3,7 +3,7 @@
 ghost use Rattle.std.specs.Prelude.{◌≡◌, ◌⊎◌, ℕ, List};
 ghost use Rattle.event_schema.specs.declared.schema.Schema.{Schema};
 ghost use Rattle.lucene_lang.specs.Query.{Group};
-ghost use Rattle.text_places.specs.Places.{CodeAt};
+ghost use Rattle.query_tokens.specs.Places.{CodeAt};
 ghost use Rattle.lucene_lang.specs.Verdict.{verdict, IsVerdict};
 ghost use Rattle.lucene_lang.specs.Reading.{ReadsWithin, Refuses, BytesRead, BytesRefused};
 

@@ -6,8 +6,8 @@ use Rattle.std.specs.Str.{all_scalars, bytes_eq}
 use Rattle.std.proofs.Math.Utf8.{scalar}
 use Rattle.std.proofs.lemmas.Bool.Decides.{nat_tests}
 use Rattle.std.proofs.lemmas.Slice.Eq.{bytes_eq-Decides}
-use Rattle.text_places.specs.Places.{origin}
-use Rattle.text_places.specs.Tokens.{sorts}
+use Rattle.query_tokens.specs.Places.{origin}
+use Rattle.query_tokens.specs.Tokens.{sorts}
 use Rattle.lucene_lang.specs.declared.query.Glyph.{Glyph}
 use Rattle.lucene_lang.specs.declared.query.Glyph.TheVariants.{Char, One, Run}
 use Rattle.lucene_lang.specs.declared.query.Word.TheVariants.{And, Or}

@@ -3,7 +3,7 @@ use Rattle.std.proofs.Common.{ℕ, ◌≡◌, refl, sym, ◌∙◌, ap, true, fa
 use Rattle.std.specs.Prelude.{Option, Some}
 use Rattle.std.specs.Str.{all_scalars}
 use Rattle.event_schema.specs.declared.schema.Field.{Field}
-use Rattle.text_places.specs.Places.{At}
+use Rattle.query_tokens.specs.Places.{At}
 use Rattle.lucene_lang.specs.declared.query.Glyph.{Glyph}
 use Rattle.lucene_lang.specs.Tokens.{Sort, Colon}
 use Rattle.lucene_lang.specs.Grammar as grammar

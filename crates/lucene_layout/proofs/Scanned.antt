@@ -5,8 +5,8 @@ use Rattle.std.specs.List.{list_all}
 use Rattle.std.specs.Str.{bytes_eq}
 use Rattle.std.proofs.lemmas.Bool.Decides.{nat_tests}
 use Rattle.std.proofs.lemmas.Slice.Eq.{bytes_eq-Decides}
-use Rattle.text_places.specs.Places.{At, origin, after}
-use Rattle.text_places.specs.Tokens.{sorts}
+use Rattle.query_tokens.specs.Places.{At, origin, after}
+use Rattle.query_tokens.specs.Tokens.{sorts}
 use Rattle.lucene_lang.specs.declared.query.Word.{Word}
 use Rattle.lucene_lang.specs.declared.query.Word.TheVariants.{And, Or}
 use Rattle.lucene_lang.specs.declared.written.Written.{Written}

@@ -5,7 +5,7 @@ ghost use Rattle.std.specs.Str.{all_scalars};
 ghost use Rattle.event_schema.specs.declared.schema.Schema.{Schema};
 ghost use Rattle.event_schema.specs.declared.schema.Field.{Field};
 ghost use Rattle.event_schema.specs.declared.value.Value.{Value};
-ghost use Rattle.text_places.specs.Tokens.{sorts};
+ghost use Rattle.query_tokens.specs.Tokens.{sorts};
 ghost use Rattle.lucene_lang.specs.Tokens.{tokens};
 ghost use Rattle.lucene_lang.specs.Grammar.{Group, spell_group};
 ghost use Rattle.lucene_lang.specs.Query.{group_of};

@@ -6,7 +6,7 @@ ghost use Rattle.std.specs.Fmt.{signed_decimal};
 ghost use Rattle.std.specs.Str.{all_scalars};
 ghost use Rattle.event_schema.specs.declared.schema.Field.{Field};
 ghost use Rattle.event_schema.specs.Events.{IsWholeNumber};
-ghost use Rattle.text_places.specs.Tokens.{sorts};
+ghost use Rattle.query_tokens.specs.Tokens.{sorts};
 ghost use Rattle.lucene_lang.specs.declared.query.Glyph.{Glyph};
 ghost use Rattle.lucene_lang.specs.declared.query.Glyph.TheVariants.{Run};
 ghost use Rattle.lucene_lang.specs.Tokens.{tokens};

@@ -1,7 +1,7 @@
 -- The faults of what was read so far: a step adds those of its token, and at the end they are the query's.
 use Rattle.std.proofs.Common.{ℕ, zero, suc, ◌≡◌, ◌+◌, refl, sym, ◌∙◌, ap, Bool, true, false, List, [], ◌∷◌, ◌++◌, length, drop, append_assoc, append-nil, length-append, arith}
 use Rattle.std.specs.Prelude.{Option, Some, None}
-use Rattle.text_places.specs.Places.{At, CodeAt, nth}
+use Rattle.query_tokens.specs.Places.{At, CodeAt, nth}
 use Rattle.lucene_lang.specs.declared.query.Word.{Word}
 use Rattle.lucene_lang.specs.Tokens.{Sort, Joins, Opening}
 use Rattle.lucene_lang.specs.Grammar.{Group, last, joined, Clause, asked, forbidden, Atom, enclosed, spell_clause, spell_atom}

@@ -3,7 +3,7 @@ use Rattle.std.proofs.Common.{ℕ, suc, ◌≡◌, ◌+◌, refl, sym, ◌∙◌
 use Rattle.std.specs.Prelude.{Option, Some, None, if◌then◌else◌, ◌&&◌, ◌||◌, not, ℤ}
 use Rattle.std.specs.Str.{bytes_eq}
 use Rattle.event_schema.specs.declared.schema.Field.{Field}
-use Rattle.text_places.specs.Places.{At, origin, CodeAt, code_at_if, nth}
+use Rattle.query_tokens.specs.Places.{At, origin, CodeAt, code_at_if, nth}
 use Rattle.lucene_lang.specs.declared.query.Word.{Word}
 use Rattle.lucene_lang.specs.declared.query.Word.TheVariants.{And}
 use Rattle.lucene_lang.specs.Grammar as grammar

@@ -8,7 +8,7 @@ use Rattle.sig_base.specs.declared.refusal.Place.{Place}
 use Rattle.sig_base.specs.declared.refusal.Fault.{Fault}
 use Rattle.sig_base.specs.declared.refusal.Fault.TheVariants.{Refused}
 use Rattle.sig_base.specs.Judged.{refusal}
-use Rattle.text_places.specs.Places.{At, CodeAt, code_at}
+use Rattle.query_tokens.specs.Places.{At, CodeAt, code_at}
 use Rattle.lucene_lang.specs.Query.{Group, Atom, OfGroup}
 use Rattle.lucene_read.specs.Steps as steps
 use Rattle.lucene_read.specs.View.{place_view, level_view, levels_view}

@@ -6,3 +6,6 @@ mod Faulty
 mod Kept
 mod Told
 mod Verdicts
+mod Faults
+mod Refusing
+mod LineFeed

@@ -4,7 +4,7 @@ use Rattle.std.specs.Prelude.{Option, Some, None, Err}
 use Rattle.std.proofs.lemmas.List.{drop_more}
 use Rattle.std.proofs.Math.ListN.{drop_of_length-le}
 use Rattle.event_schema.specs.declared.schema.Field.{Field}
-use Rattle.text_places.specs.Places.{At, code_at}
+use Rattle.query_tokens.specs.Places.{At, code_at}
 use Rattle.lucene_scan.specs.declared.token.Token.{Token}
 use Rattle.lucene_read.specs.declared.partial.State as code
 use Rattle.lucene_read.specs.Steps.{State, begun, run, step, on_step, finish}

@@ -3,8 +3,8 @@ use Rattle.std.proofs.Common.{ℕ, ◌≡◌, ◌+◌, ◌-◌, refl, sym, ◌�
 use Rattle.std.specs.Prelude.{Option, Some, None, Ok, Err, if◌then◌else◌}
 use Rattle.event_schema.specs.declared.schema.Field.{Field}
 use Rattle.event_schema.specs.declared.schema.Schema.{Schema}
-use Rattle.text_places.specs.Places.{At, origin, place_after, CodeAt, code_at, code_at_if, nth}
-use Rattle.text_places.specs.Tokens.{sorts, places, token_place}
+use Rattle.query_tokens.specs.Places.{At, origin, place_after, CodeAt, code_at, code_at_if, nth}
+use Rattle.query_tokens.specs.Tokens.{sorts, places, token_place}
 use Rattle.lucene_lang.specs.declared.query.Word.{Word}
 use Rattle.lucene_lang.specs.Tokens.{Token, Sort, Joins, Not, Star, Wild, To, Decimal, Plain, Phrase, Opening, Closing, Opens, Closes, Colon, tokens}
 use Rattle.lucene_lang.specs.Grammar as grammar

@@ -9,8 +9,8 @@ use Rattle.sig_base.specs.declared.refusal.Fault.TheVariants.{Memory, Refused}
 use Rattle.sig_base.specs.Judged.{refusal}
 use Rattle.event_schema.specs.declared.schema.Field.{Field}
 use Rattle.event_schema.specs.declared.schema.Schema.{Schema}
-use Rattle.text_places.specs.Places.{At, origin, place_after, CodeAt, IsText}
-use Rattle.text_places.specs.Tokens.{sorts}
+use Rattle.query_tokens.specs.Places.{At, origin, place_after, CodeAt, IsText}
+use Rattle.query_tokens.specs.Tokens.{sorts}
 use Rattle.lucene_lang.specs.declared.query.Group.{Group}
 use Rattle.lucene_lang.specs.Query as query
 use Rattle.lucene_lang.specs.Tokens.{tokens}

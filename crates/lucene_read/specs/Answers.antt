@@ -3,7 +3,7 @@ use Rattle.std.specs.Prelude.{◌≡◌, Result, Ok, Err}
 use Rattle.sig_base.specs.declared.refusal.Detail.TheVariants as details
 use Rattle.sig_base.specs.declared.refusal.Fault.{Fault}
 use Rattle.sig_base.specs.declared.refusal.Fault.TheVariants.{Memory, Refused}
-use Rattle.text_places.specs.Places.{CodeAt, code_at}
+use Rattle.query_tokens.specs.Places.{CodeAt, code_at}
 use Rattle.lucene_lang.specs.declared.query.Group.{Group}
 use Rattle.lucene_lang.specs.Query as query
 use Rattle.lucene_lang.specs.View.{group_view}

@@ -2,7 +2,7 @@
 use Rattle.std.specs.Prelude.{ℕ, suc, ◌^◌, Bool, true, false, if◌then◌else◌, nat_lt, List, [], ◌∷◌, Option, Some, None, ℤ, pos}
 use Rattle.std.specs.Str.{bytes_eq}
 use Rattle.event_schema.specs.declared.schema.Field.{Field}
-use Rattle.text_places.specs.Places.{At, CodeAt, code_at}
+use Rattle.query_tokens.specs.Places.{At, CodeAt, code_at}
 use Rattle.lucene_lang.specs.Faults.{in_bounds, is_whole}
 use Rattle.lucene_lang.specs.Query.{Sought, Atom, Everything, OfField, number_of, is_twin}
 use Rattle.lucene_read.specs.declared.partial.Known.{Known}

@@ -2,3 +2,4 @@ pub mod Known
 pub mod Steps
 pub mod View
 pub mod Answers
+pub mod Answered

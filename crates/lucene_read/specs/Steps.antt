@@ -1,8 +1,8 @@
 -- The reader's own steps: what was read of a query as the code keeps it, and what the next token makes of it.
 use Rattle.std.specs.Prelude.{ℕ, Bool, true, false, not, ◌||◌, if◌then◌else◌, List, [], ◌∷◌, ◌++◌, map, codes, Option, Some, None, Result, Ok, Err}
 use Rattle.event_schema.specs.declared.schema.Field.{Field}
-use Rattle.text_places.specs.Places.{At, origin, CodeAt, code_at}
-use Rattle.text_places.specs.Tokens.{sorts}
+use Rattle.query_tokens.specs.Places.{At, origin, CodeAt, code_at}
+use Rattle.query_tokens.specs.Tokens.{sorts}
 use Rattle.lucene_lang.specs.declared.query.Glyph.TheVariants.{Char, Run}
 use Rattle.lucene_lang.specs.declared.query.Word.{Word}
 use Rattle.lucene_lang.specs.declared.query.Word.TheVariants.{And}

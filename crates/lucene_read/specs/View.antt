@@ -1,7 +1,7 @@
 -- What was read of a query as the reader's own steps have it.
 use Rattle.std.specs.Prelude.{List, [], ◌∷◌, ◌++◌, Option, Some, None}
 use Rattle.sig_base.specs.declared.refusal.Place.{Place}
-use Rattle.text_places.specs.Places.{CodeAt, code_at}
+use Rattle.query_tokens.specs.Places.{CodeAt, code_at}
 use Rattle.lucene_lang.specs.View.{atom_view, parts_view}
 use Rattle.lucene_read.specs.declared.partial.Name.{Name}
 use Rattle.lucene_read.specs.declared.partial.Partial.{Partial}

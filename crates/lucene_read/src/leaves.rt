@@ -11,7 +11,7 @@ ghost use Rattle.lucene_read.specs.Steps as steps;
 ghost use Rattle.lucene_read.specs.View as view;
 ghost use Rattle.lucene_read.specs.View.{sort_view, place_view, name_view, partial_view, partial_if, leaf_view, next_if};
 
-use crate::naming::known_in;
+use crate::names::known_in;
 use crate::numbers::{is_number, number_in};
 use crate::partial::{Bound, Ill, Known, Leaf, Name, Next, Partial};
 use event_schema::Field;

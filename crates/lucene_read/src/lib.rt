@@ -1,11 +1,20 @@
 //! The reader of Lucene queries: the query that bytes are under a schema, or their first refusal.
+//!
+//! Lucene as a language whose queries are read and asked of events.
 #![tactic(auto)]
 
+mod asking;
+mod files;
+mod language;
+mod laws;
 mod leaves;
-mod naming;
+mod names;
 mod numbers;
 mod partial;
 mod query;
-mod stepping;
+mod transitions;
 
+pub use files::line_feed_behind;
+pub use language::LuceneReader;
+pub use laws::same_queries;
 pub use query::read_query;

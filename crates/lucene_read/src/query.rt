@@ -6,13 +6,13 @@ ghost use Rattle.lucene_lang.specs.Reading as reading;
 ghost use Rattle.lucene_lang.specs.Reading.{BytesRead, BytesRefused};
 ghost use Rattle.lucene_lang.specs.Verdict.{verdict};
 ghost use Rattle.lucene_lang.specs.View.{group_view};
-ghost use Rattle.text_places.specs.Tokens.{sorts};
+ghost use Rattle.query_tokens.specs.Tokens.{sorts};
 ghost use Rattle.lucene_read.specs.Answers.{Answers, IfRefused};
 ghost use Rattle.lucene_read.specs.Steps as steps;
 ghost use Rattle.lucene_read.specs.View.{place_view, mixed_if, ill_if, state_view, tokens_view};
 
 use crate::partial::{Ill, Now, Partial, State, Wrong};
-use crate::stepping::{ended, no_clauses, step};
+use crate::transitions::{ended, no_clauses, step};
 use event_schema::{Field, Schema};
 use lucene_lang::Group;
 use lucene_scan::{Token, first_outside, opens_too_far, place_behind, scan};

@@ -4,7 +4,7 @@ use Rattle.std.specs.Prelude.{◌||◌, if◌then◌else◌, nat_lt}
 use Rattle.std.proofs.lemmas.Bool.{lt-ltb, le-ltb}
 use Rattle.std.proofs.lemmas.List.{drop_more}
 use Rattle.std.proofs.Math.ListN.{drop_of_length-le}
-use Rattle.text_places.specs.Tokens.{sorts}
+use Rattle.query_tokens.specs.Tokens.{sorts}
 use Rattle.lucene_lang.specs.Tokens.{Sort, Joins, Not, Star, Wild, To, Decimal, Plain, Phrase, Opening, Closing, Opens, Closes, Colon, Unclosed}
 use Rattle.lucene_lang.specs.Reading.{opens_too_far}
 use Rattle.lucene_scan.specs.declared.token.Token.{Token}

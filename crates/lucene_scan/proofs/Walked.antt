@@ -1,7 +1,7 @@
 -- Scanning character by character.
 use Rattle.std.proofs.Common.{ℕ, suc, ◌+◌, ◌≤◌, ◌≡◌, refl, sym, ◌∙◌, ap, Bool, true, false, List, [], ◌∷◌, ◌++◌, length, append_assoc, append-nil, arith}
 use Rattle.std.specs.Prelude.{◌==◌, if◌then◌else◌}
-use Rattle.text_places.specs.Places.{At, after, place_after, origin}
+use Rattle.query_tokens.specs.Places.{At, after, place_after, origin}
 use Rattle.lucene_lang.specs.Tokens.{Token, Mode, Outside, turn, scan, last, tokens}
 use Rattle.lucene_scan.specs.declared.token.Token as declared
 use Rattle.lucene_scan.specs.View.{token_view, tokens_view}

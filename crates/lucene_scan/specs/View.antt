@@ -1,7 +1,7 @@
 -- Tokens and modes of the scanner as the definitions have them.
 use Rattle.std.specs.Prelude.{Bool, true, false, List, map, Option, Some, None}
 use Rattle.sig_base.specs.declared.refusal.Place.{Place}
-use Rattle.text_places.specs.Places.{At}
+use Rattle.query_tokens.specs.Places.{At}
 use Rattle.lucene_lang.specs.Tokens as tokens
 use Rattle.lucene_scan.specs.declared.token.Sort.{Sort}
 use Rattle.lucene_scan.specs.declared.token.Sort.TheVariants as sorts

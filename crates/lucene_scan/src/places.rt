@@ -2,7 +2,7 @@
 
 ghost use Rattle.std.specs.Prelude.{◌≡◌, ◌<◌, ◌^◌, ◌-◌, length};
 ghost use Rattle.std.specs.Str.{chars};
-ghost use Rattle.text_places.specs.Places.{after, origin, place_after};
+ghost use Rattle.query_tokens.specs.Places.{after, origin, place_after};
 ghost use Rattle.lucene_scan.specs.View.{place_view};
 
 use sig_base::Place;

@@ -14,7 +14,7 @@ use Rattle.backend_core.specs.Trees.{Plain}
 use Rattle.backend_core.specs.Writing.{IsTooDeep, by_depth, by_clauses}
 use Rattle.lucene_lang.specs.Meaning.{LuceneSelects}
 use Rattle.lucene_lang.specs.Reading.{Reads}
-use Rattle.lucene_queries.specs.Queries.{IsWithin}
+use Rattle.lucene_lang.specs.Queries.{IsWithin}
 use Rattle.lucene_writer.specs.Queries.{query_bytes, query_depth, query_clauses, IsQueryOf}
 use Rattle.lucene_writer.specs.Refused.{counted_at_most, deep_refusal}
 

@@ -1,10 +1,10 @@
 //! Lucene as a backend.
 
-use crate::law::{schemas_are_indexed, tree_is_query};
+use crate::laws::{schemas_are_indexed, tree_is_query};
 use crate::writer::LuceneText;
 use backend_core::{Backend, Tree};
 use event_schema::Schema;
-use lucene_queries::Lucene;
+use lucene_lang::Lucene;
 use sig_base::{Bytes, Fault, Limits, Place};
 use std::alloc::Global;
 

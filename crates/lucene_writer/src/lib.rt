@@ -4,12 +4,12 @@
 mod backend;
 mod counting;
 mod lacking;
-mod law;
+mod laws;
 mod place;
 mod putting;
 mod tests_of;
 mod walk;
 mod writer;
 
-pub use law::{patterns_are_terms, schemas_are_indexed, tree_is_query};
+pub use laws::{patterns_are_terms, schemas_are_indexed, tree_is_query};
 pub use writer::LuceneText;

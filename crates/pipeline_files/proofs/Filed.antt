@@ -2,15 +2,15 @@
 use Rattle.std.proofs.Common.{◌≡◌, ℕ, ◌≤◌, false, List, [], ◌∷◌, length, refl, ap, sym, ◌∙◌, subst, arith, append-nil, Result, Ok, Err}
 use Rattle.std.specs.List.{AllZip}
 use Rattle.event_schema.specs.Lists.{EachOf}
-use Rattle.rule_building.specs.Unbuilt.{Unbuilt, none_unbuilt}
-use Rattle.rule_runs.specs.Files.{yaml_refusal}
-use Rattle.rule_runs.specs.Runs.{AreDocuments}
+use Rattle.rule_regex.specs.Unbuilt.{Unbuilt, none_unbuilt}
+use Rattle.rule_run.specs.Files.{yaml_refusal}
+use Rattle.rule_run.specs.Runs.{AreDocuments}
 use Rattle.sig_base.specs.declared.limits.Limits.{Limits}
 use Rattle.sig_base.specs.declared.refusal.Detail.TheVariants as details
 use Rattle.sig_base.specs.declared.refusal.Refusal.{Refusal}
 use Rattle.yaml_documents.specs.Given.{answers_view}
 use Rattle.yaml_documents.specs.Verdicts as yaml
-use Rattle.yaml_files.specs.Call.{IsCallRefusal}
+use Rattle.yaml_documents.specs.Call.{IsCallRefusal}
 use Rattle.yaml_tree.specs.Tree.{At, Answer}
 use Rattle.yaml_tree.specs.View.{place_view}
 use Rattle.yaml_tree.specs.declared.tree.Document.{Document}
@@ -22,8 +22,8 @@ use Rattle.pipeline_files.specs.Outcomes.{Outcome, IsOutcome, AreOutcomes, ArePi
 use Rattle.pipeline_files.specs.Paired.{paired}
 use Rattle.pipeline_files.specs.Places.{AreOfDocument, ForPipelines}
 use Rattle.pipeline_files.specs.Read.{Answers, is_answered}
-use Rattle.pipeline_files.specs.declared.reading.FileFault.{FileFault}
-use Rattle.pipeline_files.specs.declared.reading.FileFault.TheVariants.{Memory, Refused}
+use Rattle.pipeline_files.specs.declared.files.FileFault.{FileFault}
+use Rattle.pipeline_files.specs.declared.files.FileFault.TheVariants.{Memory, Refused}
 
 no_detail : (r : Refusal) → r.detail ≡ details.None → r ≡ yaml_refusal (r.code, place_view r.place)
 no_detail r plain = ap (λ d. record { code = r.code; place = r.place; detail = d }) plain

@@ -3,10 +3,10 @@ use Rattle.std.proofs.Common.{◌≡◌, ℕ, ◌+◌, ◌<◌, Bool, true, fals
 use Rattle.std.specs.Prelude.{⊤}
 use Rattle.std.proofs.lemmas.List.{map-append}
 use Rattle.event_schema.specs.Lists.{EachOf}
-use Rattle.rule_building.proofs.Lists.{taken, around, each_joined, zip_joined}
-use Rattle.rule_building.specs.Building.{FoundUnbuilt}
-use Rattle.rule_building.specs.ForUnbuilt.{is_answered as is_ended}
-use Rattle.rule_building.specs.Unbuilt.{Unbuilt, none_unbuilt, of_values, refused_texts}
+use Rattle.rule_regex.proofs.Lists.{taken, around, each_joined, zip_joined}
+use Rattle.rule_regex.specs.Building.{FoundUnbuilt}
+use Rattle.rule_regex.specs.ForUnbuilt.{is_answered as is_ended}
+use Rattle.rule_regex.specs.Unbuilt.{Unbuilt, none_unbuilt, of_values, refused_texts}
 use Rattle.sig_base.specs.Judged.{Judged, refusal as refused}
 use Rattle.sig_base.specs.declared.limits.Limits.{Limits}
 use Rattle.sig_base.specs.declared.refusal.Fault.{Fault}
@@ -24,7 +24,7 @@ use Rattle.pipeline_files.proofs.Placed.{of_both, follows_both, beside, beside_o
 use Rattle.pipeline_files.specs.Gathered.{Gives, ForDocument, read_of, refused_of, AreGathered, ForDocuments, AreAnswered}
 use Rattle.pipeline_files.specs.Outcomes.{Outcome, IsOutcome, pipelines_in, refusals_in}
 use Rattle.pipeline_files.specs.Places.{AreOfDocument, pipeline_expressions, file_texts}
-use Rattle.pipeline_files.specs.declared.reading.FileFault.TheVariants.{Memory}
+use Rattle.pipeline_files.specs.declared.files.FileFault.TheVariants.{Memory}
 
 untrue : false ≡ true → ⊥
 untrue e = cc

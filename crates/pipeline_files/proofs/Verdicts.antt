@@ -3,17 +3,17 @@ use Rattle.std.proofs.Common.{◌≡◌, ℕ, List, [], ◌∷◌, refl, ap, sym
 use Rattle.std.specs.Prelude.{◌⊎◌}
 use Rattle.std.specs.List.{AllZip, AllByRecursion}
 use Rattle.event_schema.specs.Lists.{EachOf, HasElement}
-use Rattle.rule_building.specs.Unbuilt.{Unbuilt, none_unbuilt}
-use Rattle.rule_runs.specs.Files.{yaml_refusal}
+use Rattle.rule_regex.specs.Unbuilt.{Unbuilt, none_unbuilt}
+use Rattle.rule_run.specs.Files.{yaml_refusal}
 use Rattle.sig_base.specs.declared.limits.Limits.{Limits}
 use Rattle.sig_base.specs.declared.refusal.Place.{Place}
 use Rattle.sig_base.specs.declared.refusal.Refusal.{Refusal}
-use Rattle.yaml_files.specs.Bounds.{TextsAreScalars}
+use Rattle.yaml_documents.specs.Bounds.{TextsAreScalars}
 use Rattle.yaml_documents.specs.Verdicts as yaml
-use Rattle.yaml_files.specs.Call.{IsCallRefusal, IsTaken}
+use Rattle.yaml_documents.specs.Call.{IsCallRefusal, IsTaken}
 use Rattle.yaml_tree.specs.Texts.{HasScalarTexts, AnswerHas}
 use Rattle.yaml_tree.specs.Tree.{At, Tree, Answer, tree, refusal}
-use Rattle.pipeline_chain.specs.Kept.{IsWholePipeline}
+use Rattle.pipeline_run.specs.Kept.{IsWholePipeline}
 use Rattle.pipeline_model.specs.Checks.{pipeline_refusal}
 use Rattle.pipeline_model.specs.Pipelines.{IsPipeline}
 use Rattle.pipeline_model.specs.declared.pipeline.Pipeline.{Pipeline}

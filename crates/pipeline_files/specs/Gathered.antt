@@ -2,7 +2,7 @@
 use Rattle.std.specs.Prelude.{◌≡◌, ⊤, ℕ, Bool, List, [], ◌∷◌, ◌++◌, map as list_map, Result, Ok, Err}
 use Rattle.std.specs.List.{AllZip}
 use Rattle.event_schema.specs.Lists.{EachOf, HasElement}
-use Rattle.rule_building.specs.Unbuilt.{Unbuilt, refused_texts}
+use Rattle.rule_regex.specs.Unbuilt.{Unbuilt, refused_texts}
 use Rattle.sig_base.specs.declared.limits.Limits.{Limits}
 use Rattle.sig_base.specs.declared.refusal.Fault.{Fault}
 use Rattle.sig_base.specs.declared.refusal.Fault.TheVariants as faults
@@ -13,8 +13,8 @@ use Rattle.pipeline_model.specs.declared.pipeline.Pipeline.{Pipeline}
 use Rattle.pipeline_files.specs.Outcomes.{Outcome, IsOutcome, pipelines_in, refusals_in}
 use Rattle.pipeline_files.specs.Places.{AreOfDocument, file_texts}
 use Rattle.pipeline_files.specs.Read.{Answers}
-use Rattle.pipeline_files.specs.declared.reading.FileFault.{FileFault}
-use Rattle.pipeline_files.specs.declared.reading.FileFault.TheVariants.{Refused}
+use Rattle.pipeline_files.specs.declared.files.FileFault.{FileFault}
+use Rattle.pipeline_files.specs.declared.files.FileFault.TheVariants.{Refused}
 
 -- ---- one document
 

@@ -1,10 +1,10 @@
 -- Laws of what files of pipelines are.
 use Rattle.std.specs.Prelude.{◌≡◌, ◌⊎◌, ℕ, List}
 use Rattle.event_schema.specs.Lists.{EachOf}
-use Rattle.rule_building.specs.Unbuilt.{Unbuilt}
+use Rattle.rule_regex.specs.Unbuilt.{Unbuilt}
 use Rattle.sig_base.specs.declared.limits.Limits.{Limits}
 use Rattle.sig_base.specs.declared.refusal.Refusal.{Refusal}
-use Rattle.pipeline_chain.specs.Kept.{IsWholePipeline}
+use Rattle.pipeline_run.specs.Kept.{IsWholePipeline}
 use Rattle.pipeline_model.specs.declared.pipeline.Pipeline.{Pipeline}
 use Rattle.pipeline_files.specs.Outcomes.{ArePipelines, AreCauses}
 

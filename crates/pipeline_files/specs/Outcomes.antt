@@ -2,13 +2,13 @@
 use Rattle.std.specs.Prelude.{◌≡◌, ℕ, List, [], ◌∷◌, None, Some, Result, Ok, Err}
 use Rattle.std.specs.List.{AllZip}
 use Rattle.event_schema.specs.Lists.{HasElement}
-use Rattle.rule_building.specs.Unbuilt.{Unbuilt, none_unbuilt}
-use Rattle.rule_runs.specs.Files.{yaml_refusal}
-use Rattle.rule_runs.specs.Runs.{AreDocuments}
+use Rattle.rule_regex.specs.Unbuilt.{Unbuilt, none_unbuilt}
+use Rattle.rule_run.specs.Files.{yaml_refusal}
+use Rattle.rule_run.specs.Runs.{AreDocuments}
 use Rattle.sig_base.specs.declared.limits.Limits.{Limits}
 use Rattle.sig_base.specs.declared.refusal.Place.{Place}
 use Rattle.sig_base.specs.declared.refusal.Refusal.{Refusal}
-use Rattle.yaml_files.specs.Call.{IsCallRefusal}
+use Rattle.yaml_documents.specs.Call.{IsCallRefusal}
 use Rattle.yaml_tree.specs.Tree.{At, Tree, Answer, tree, refusal}
 use Rattle.pipeline_model.specs.Checks.{pipeline_refusal}
 use Rattle.pipeline_model.specs.Pipelines.{IsPipeline}

@@ -2,12 +2,12 @@
 use Rattle.std.specs.Prelude.{◌≡◌, ◌≤◌, ℕ, Bool, true, List, [], ◌++◌, length}
 use Rattle.std.specs.List.{flat_map}
 use Rattle.event_schema.specs.Lists.{EachOf}
-use Rattle.rule_building.specs.Unbuilt.{Unbuilt, none_unbuilt, of_values, refused_texts, ArePlacesOf, IsOneOf, AreIllRefused}
-use Rattle.rule_items.specs.Expressions.{item_expressions}
-use Rattle.rule_items.specs.declared.expression.Expression.{Expression}
-use Rattle.rule_runs.specs.Runs.{AreDocuments}
+use Rattle.rule_regex.specs.Unbuilt.{Unbuilt, none_unbuilt, of_values, refused_texts, ArePlacesOf, IsOneOf, AreIllRefused}
+use Rattle.rule_detections.specs.Expressions.{item_expressions}
+use Rattle.rule_detections.specs.declared.expression.Expression.{Expression}
+use Rattle.rule_run.specs.Runs.{AreDocuments}
 use Rattle.sig_base.specs.declared.limits.Limits.{Limits}
-use Rattle.yaml_files.specs.Call.{IsCallRefusal}
+use Rattle.yaml_documents.specs.Call.{IsCallRefusal}
 use Rattle.yaml_tree.specs.Tree.{At, Tree, Answer, tree, refusal}
 use Rattle.pipeline_model.specs.Checks.{added_in, steps_in}
 use Rattle.pipeline_files.specs.Paired.{paired}

@@ -1,10 +1,10 @@
 //! From a file to the pipelines that it is, or the causes for which it's refused.
 #![tactic(auto)]
 
-pub use law::one_outcome;
-pub use reading::{FileFault, read_pipelines};
+pub use files::{FileFault, read_pipelines};
+pub use laws::one_outcome;
 
-mod finding;
-mod law;
-mod reading;
+mod files;
+mod laws;
 mod single;
+mod unbuilt;

@@ -1,14 +1,14 @@
 //! One document of a file of pipelines.
 
 ghost use Rattle.pipeline_files.specs.Gathered.{ForDocument, Gives};
-ghost use Rattle.rule_building.specs.ForUnbuilt.{is_answered};
+ghost use Rattle.rule_regex.specs.ForUnbuilt.{is_answered};
 ghost use Rattle.yaml_documents.specs.Given.{IsPlain};
 ghost use Rattle.yaml_tree.specs.Tree.{tree};
 ghost use Rattle.yaml_tree.specs.View.{node_view, document_view};
 
-use crate::finding::find_unbuilt;
-use languages::Builder;
+use crate::unbuilt::find_unbuilt;
 use pipeline_model::Pipeline;
+use query_lang::Builder;
 use sig_base::{Fault, Limits, refused};
 use std::alloc::Global;
 use yaml_tree::{Document, Node};

@@ -1,4 +1,3 @@
-mod Entered
 mod Unrefused
 mod Examples
 mod Numbered

@@ -15,7 +15,7 @@ use Rattle.yaml_tree.specs.Tree.{Tree}
 use Rattle.yaml_tree.specs.View.{node_view, nodes_view}
 use Rattle.yaml_tree.specs.Nodes.{place_of, is_text, text_in, entries_in, value_in, refused_by}
 use Rattle.yaml_tree.specs.declared.tree.Node.{Node}
-use Rattle.pipeline_model.specs.Causes.{sooner, sooner_of}
+use Rattle.pipeline_check.specs.Causes.{sooner, sooner_of}
 use Rattle.pipeline_model.specs.Checks.{is_text_of, is_text_if, has_id, is_fresh, fresh_refusal, id_refusal, id_checks}
 use Rattle.pipeline_model.specs.Ids.{id_key_in, id_key_if, id_key, is_at, is_first, numbered_refusal, id_by}
 

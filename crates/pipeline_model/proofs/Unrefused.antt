@@ -9,9 +9,9 @@ use Rattle.sig_base.specs.Judged.{first, Judged}
 use Rattle.sig_base.proofs.Checks.{skips, first_holds, judged_last}
 use Rattle.yaml_tree.specs.Tree.{Tree}
 use Rattle.yaml_tree.specs.Nodes.{entries_in, parts_in, value_in, refused_by}
-use Rattle.rule_items.specs.Items.{item_refusal}
-use Rattle.pipeline_model.specs.Causes.{is_before, sooner, sooner_of, least}
-use Rattle.pipeline_model.specs.Shapes.{map_refusal, list_refusal}
+use Rattle.rule_detections.specs.Items.{item_refusal}
+use Rattle.pipeline_check.specs.Causes.{is_before, sooner, sooner_of, least}
+use Rattle.pipeline_check.specs.Shapes.{map_refusal, list_refusal}
 use Rattle.pipeline_model.specs.Checks as spec
 use Rattle.pipeline_model.specs.declared.pipeline.Pipeline.{Pipeline}
 use Rattle.pipeline_model.specs.Pipelines.{IsPipeline}

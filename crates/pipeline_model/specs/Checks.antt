@@ -9,13 +9,13 @@ use Rattle.sig_base.specs.declared.refusal.Refusal.{Refusal}
 use Rattle.sig_base.specs.Judged.{refusal, must}
 use Rattle.yaml_tree.specs.Tree.{Tree, Member}
 use Rattle.yaml_tree.specs.Nodes.{place_of, key_place, is_empty, is_text, text_in, entries_in, parts_in, value_in, has_key, refused_by}
-use Rattle.rule_items.specs.Items.{item_refusal}
-use Rattle.pipeline_model.specs.declared.words.Listing.{Listing}
-use Rattle.pipeline_model.specs.declared.words.StepKind.{StepKind}
-use Rattle.pipeline_model.specs.declared.words.StepKind.TheVariants as kinds
-use Rattle.pipeline_model.specs.Words.{kind_of, chooser_of, is_same, is_source_key, is_left_out}
-use Rattle.pipeline_model.specs.Causes.{sooner, least, worded}
-use Rattle.pipeline_model.specs.Shapes.{type_in, list_refusal, map_refusal, text_refusal, truth_refusal, whole_refusal, op_refusal, names_refusal, mapping_refusal, vars_refusal, sources_refusal, fields_refusal}
+use Rattle.rule_detections.specs.Items.{item_refusal}
+use Rattle.pipeline_check.specs.declared.words.Listing.{Listing}
+use Rattle.pipeline_check.specs.declared.words.StepKind.{StepKind}
+use Rattle.pipeline_check.specs.declared.words.StepKind.TheVariants as kinds
+use Rattle.pipeline_check.specs.Words.{kind_of, chooser_of, is_same, is_source_key, is_left_out}
+use Rattle.pipeline_check.specs.Causes.{sooner, least, worded}
+use Rattle.pipeline_check.specs.Shapes.{type_in, list_refusal, map_refusal, text_refusal, truth_refusal, whole_refusal, op_refusal, names_refusal, mapping_refusal, vars_refusal, sources_refusal, fields_refusal}
 
 -- ---- the type of a step
 

@@ -1,7 +1,4 @@
 pub mod Concerned
-pub mod Words
-pub mod Causes
-pub mod Shapes
 pub mod Checks
 pub mod Pipelines
 pub mod Reading

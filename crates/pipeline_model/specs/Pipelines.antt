@@ -3,13 +3,13 @@ use Rattle.std.specs.Prelude.{ℕ, ℤ, pos, ◌≡◌, Bool, false, ◌&&◌, L
 use Rattle.std.specs.Fmt.{signed_decimal}
 use Rattle.std.specs.List.{AllZip}
 use Rattle.std.specs.Str.{bytes_eq}
-use Rattle.rule_items.specs.TestsOf.{truth_text}
+use Rattle.rule_detections.specs.TestsOf.{truth_text}
 use Rattle.yaml_tree.specs.Tree.{Scalar, null, truth, whole, text, Tree, scalar, list, map, Member}
 use Rattle.yaml_tree.specs.Nodes.{place_of, is_text, text_in, entries_in, parts_in, value_in, text_at}
 use Rattle.rule_head.specs.Sources.{source_of}
 use Rattle.rule_head.specs.declared.source.LogSource.{LogSource}
-use Rattle.rule_items.specs.Items.{IsItem}
-use Rattle.rule_items.specs.declared.item.Item.{Item}
+use Rattle.rule_detections.specs.Items.{IsItem}
+use Rattle.rule_detections.specs.declared.item.Item.{Item}
 use Rattle.pipeline_model.specs.declared.pipeline.Pipeline.{Pipeline}
 use Rattle.pipeline_model.specs.declared.pipeline.Var.{Var}
 use Rattle.pipeline_model.specs.declared.step.Action.{Action}
@@ -20,11 +20,11 @@ use Rattle.pipeline_model.specs.declared.step.FieldCond.{FieldCond}
 use Rattle.pipeline_model.specs.declared.step.FieldCond.TheVariants as conds
 use Rattle.pipeline_model.specs.declared.step.Pair.{Pair}
 use Rattle.pipeline_model.specs.declared.step.Step.{Step}
-use Rattle.pipeline_model.specs.declared.words.Listing.{Listing}
-use Rattle.pipeline_model.specs.declared.words.Listing.TheVariants.{Include, Exclude}
-use Rattle.pipeline_model.specs.declared.words.StepKind.{StepKind}
-use Rattle.pipeline_model.specs.declared.words.StepKind.TheVariants as kinds
-use Rattle.pipeline_model.specs.Shapes.{listing_at}
+use Rattle.pipeline_check.specs.declared.words.Listing.{Listing}
+use Rattle.pipeline_check.specs.declared.words.Listing.TheVariants.{Include, Exclude}
+use Rattle.pipeline_check.specs.declared.words.StepKind.{StepKind}
+use Rattle.pipeline_check.specs.declared.words.StepKind.TheVariants as kinds
+use Rattle.pipeline_check.specs.Shapes.{listing_at}
 use Rattle.pipeline_model.specs.Checks.{kind_at, chosen_in, entries_at, parts_at, steps_in}
 
 -- ---- single values; what is absent is the empty text, no list, 0 or false

@@ -5,7 +5,7 @@ use Rattle.sig_base.specs.declared.refusal.Place.{Place}
 use Rattle.sig_base.specs.declared.refusal.Refusal.{Refusal}
 use Rattle.sig_base.specs.Judged.{first}
 use Rattle.yaml_tree.specs.Tree.{Tree}
-use Rattle.rule_items.specs.Items.{item_refusal}
+use Rattle.rule_detections.specs.Items.{item_refusal}
 use Rattle.pipeline_model.specs.Checks.{typed_refusal, added_in, steps_in}
 
 abbrev pub items_cause : List Place → Limits → Tree → Option Refusal

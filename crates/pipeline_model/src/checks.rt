@@ -5,18 +5,16 @@ ghost use Rattle.sig_base.specs.Judged.{Judged};
 ghost use Rattle.sig_base.specs.Texts.{is_ascii};
 ghost use Rattle.yaml_tree.specs.View.{node_view, nodes_view, entry_view, entries_view};
 ghost use Rattle.yaml_tree.specs.Nodes.{is_empty};
-ghost use Rattle.pipeline_model.specs.Causes.{least};
-ghost use Rattle.pipeline_model.specs.Shapes as shapes;
+ghost use Rattle.pipeline_check.specs.Causes.{least};
+ghost use Rattle.pipeline_check.specs.Shapes as shapes;
 ghost use Rattle.pipeline_model.specs.Checks as spec;
 
-use crate::causes::{must, refuse, sooner, worded};
-use crate::conditions::{check_fields, check_sources};
 use crate::ids::check_ids;
-use crate::shapes::{
-    check_list, check_map, check_mapping, check_names, check_op, check_text, check_truth,
-    check_vars, check_whole,
+use pipeline_check::{
+    Listing, StepKind, check_fields, check_list, check_map, check_mapping, check_names, check_op,
+    check_sources, check_text, check_truth, check_vars, check_whole, chooser_of, is_left_out,
+    is_same, is_source_key, kind_of, must, refuse, sooner, worded,
 };
-use crate::words::{Listing, StepKind, chooser_of, is_left_out, is_same, is_source_key, kind_of};
 use sig_base::{Code, Fault, Place, Refusal, Text, refused};
 use std::alloc::Global;
 use yaml_tree::{Entry, Node, all_entries, has_key, parts_of, place_of, text_of, value_at};

@@ -5,7 +5,7 @@ ghost use Rattle.yaml_tree.specs.View.{node_view, nodes_view};
 ghost use Rattle.pipeline_model.specs.Checks.{ids_refusal};
 ghost use Rattle.pipeline_model.specs.Ids as spec;
 
-use crate::causes::{must, sooner};
+use pipeline_check::{must, sooner};
 use sig_base::{Code, Fault, Refusal, Text, Texts};
 use std::alloc::Global;
 use text_index::TextIndex;

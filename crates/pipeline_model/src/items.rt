@@ -5,14 +5,13 @@ ghost use Rattle.std.specs.List.{AllZip};
 ghost use Rattle.sig_base.specs.Judged.{Judged, first};
 ghost use Rattle.sig_base.specs.Texts.{is_ascii};
 ghost use Rattle.yaml_tree.specs.View.{node_view, nodes_view, entry_view, entries_view};
-ghost use Rattle.rule_items.specs.Items.{IsItem, item_refusal};
-ghost use Rattle.pipeline_model.specs.Causes.{least};
+ghost use Rattle.rule_detections.specs.Items.{IsItem, item_refusal};
+ghost use Rattle.pipeline_check.specs.Causes.{least};
 ghost use Rattle.pipeline_model.specs.Checks as spec;
 
-use crate::causes::sooner;
 use crate::checks::kind_at;
-use crate::words::StepKind;
-use rule_items::{Alternative, Item};
+use pipeline_check::{StepKind, sooner};
+use rule_detections::{Alternative, Item};
 use sig_base::{Fault, Limits, Place, Refusal};
 use std::alloc::Global;
 use yaml_tree::{Entry, Node, all_entries, parts_of, value_at};

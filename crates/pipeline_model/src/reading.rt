@@ -4,21 +4,20 @@ ghost use Rattle.std.specs.Prelude.{◌≡◌, map as list_map, codes, Some, IfO
 ghost use Rattle.std.specs.List.{AllZip};
 ghost use Rattle.sig_base.specs.Judged.{Judged, first};
 ghost use Rattle.yaml_tree.specs.View.{node_view, nodes_view};
-ghost use Rattle.rule_items.specs.Items.{item_refusal};
+ghost use Rattle.rule_detections.specs.Items.{item_refusal};
 ghost use Rattle.pipeline_model.specs.Checks.{pipeline_refusal, added_by, entries_at as spec_entries_at};
 ghost use Rattle.pipeline_model.specs.Pipelines as spec;
 ghost use Rattle.pipeline_model.specs.Reading as causes;
 
-use crate::causes::sooner;
 use crate::checks::{check_shape, chosen_in, typed_kind};
-use crate::copying::{
-    copy_conds, copy_mapping, copy_source, copy_sources, copy_text_at, copy_text_or_none,
-    copy_texts_at, copy_vars, is_negated, is_or_at, priority_of,
-};
 use crate::items::{check_items, entries_at, parts_at, read_items};
 use crate::pipeline::Pipeline;
 use crate::step::{Action, Choice, Step};
-use crate::words::{Listing, StepKind};
+use crate::values::{
+    copy_conds, copy_mapping, copy_source, copy_sources, copy_text_at, copy_text_or_none,
+    copy_texts_at, copy_vars, is_negated, is_or_at, priority_of,
+};
+use pipeline_check::{Listing, StepKind, sooner};
 use sig_base::{Fault, Limits, Place, Sequence};
 use std::alloc::Global;
 use yaml_tree::{Node, all_entries, place_of};

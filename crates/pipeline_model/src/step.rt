@@ -1,7 +1,7 @@
 //! Steps of pipelines.
 
+use rule_detections::Alternative;
 use rule_head::LogSource;
-use rule_items::Alternative;
 use sig_base::{Place, Sequence, Text, Texts};
 
 /// A text, and what takes its place.

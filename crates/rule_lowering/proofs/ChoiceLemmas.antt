@@ -10,15 +10,15 @@ use Rattle.backend_core.specs.Trees.{Plain}
 use Rattle.backend_core.specs.View.{tree_view}
 use Rattle.backend_core.specs.declared.tree.LeafTest.{LeafTest}
 use Rattle.backend_core.specs.declared.tree.Tree.{Tree}
-use Rattle.dash_choices.specs.Choices.{choices, before_each, dash_count, is_dash_place}
+use Rattle.modifier_windash.specs.Choices.{choices, before_each, dash_count, is_dash_place}
 use Rattle.event_schema.specs.declared.schema.Field.{Field}
 use Rattle.event_schema.specs.declared.schema.FieldKind.{FieldKind}
 use Rattle.sig_base.specs.declared.refusal.Place.{Place}
-use Rattle.modifier_chains.specs.declared.modifier.Joined.TheVariants.{Any}
-use Rattle.modifier_chains.specs.declared.form.Flags.{Flags}
-use Rattle.modifier_chains.specs.declared.modifier.Op.{Op}
-use Rattle.rule_items.specs.declared.test.Test.{Test}
-use Rattle.rule_items.specs.declared.test.Test.TheVariants as tests
+use Rattle.modifier_words.specs.declared.modifier.Joined.TheVariants.{Any}
+use Rattle.modifier_words.specs.declared.form.Flags.{Flags}
+use Rattle.modifier_words.specs.declared.modifier.Op.{Op}
+use Rattle.rule_detections.specs.declared.test.Test.{Test}
+use Rattle.rule_detections.specs.declared.test.Test.TheVariants as tests
 use Rattle.sig_strings.specs.declared.part.Part.{Part}
 use Rattle.sig_strings.specs.declared.part.Part.TheVariants.{Char, One, Run, Dash, Hole}
 use Rattle.rule_lowering.specs.Joining.{parts_of, closed, join}

@@ -11,13 +11,13 @@ use Rattle.event_schema.specs.declared.schema.Field.{Field}
 use Rattle.event_schema.specs.declared.schema.FieldKind.{FieldKind}
 use Rattle.event_schema.specs.declared.schema.FieldKind.TheVariants as kinds
 use Rattle.event_schema.specs.declared.schema.Schema.{Schema}
-use Rattle.field_numbers.specs.Numbers.{number_of}
-use Rattle.field_numbers.proofs.Found.{field_within}
-use Rattle.modifier_chains.specs.declared.modifier.Joined.TheVariants.{All}
-use Rattle.rule_items.specs.Whole.{IsWholeValue, IsWholeDetection}
-use Rattle.rule_items.specs.declared.detection.Detection.{Detection}
-use Rattle.rule_items.specs.declared.item.Fields.TheVariants.{Names}
-use Rattle.rule_items.specs.declared.item.Item.{Item}
+use Rattle.schema_index.specs.Numbers.{number_of}
+use Rattle.schema_index.proofs.Found.{field_within}
+use Rattle.modifier_words.specs.declared.modifier.Joined.TheVariants.{All}
+use Rattle.rule_detections.specs.Whole.{IsWholeValue, IsWholeDetection}
+use Rattle.rule_detections.specs.declared.detection.Detection.{Detection}
+use Rattle.rule_detections.specs.declared.item.Fields.TheVariants.{Names}
+use Rattle.rule_detections.specs.declared.item.Item.{Item}
 use Rattle.rule_lowering.proofs.Found.{each_name, each_passes}
 use Rattle.rule_model.proofs.Iffs.{iff_same, over_flat, each_append, each_then}
 use Rattle.rule_model.specs.Plain.{PlainRule}
@@ -26,10 +26,10 @@ use Rattle.rule_schema.specs.Inferred.{is_field, fields_refusal, item_line, fit_
 use Rattle.rule_schema.specs.Kinds.{asks_whole, asks_address, some_asks, is_whole, is_address, is_field_of, are_alike, are_of_kinds}
 use Rattle.sig_base.specs.declared.refusal.Place.{Place}
 use Rattle.sig_base.specs.Judged.{must, first}
-use Rattle.rule_items.specs.PlainTests.{IsPlainNetwork, IsPlainTest, ArePlainTests, IsPatternTest}
-use Rattle.rule_items.specs.References.{reference_of, references_in, listed}
-use Rattle.rule_items.specs.declared.test.Test.{Test}
-use Rattle.rule_items.specs.declared.test.Test.TheVariants as tests
+use Rattle.rule_detections.specs.PlainTests.{IsPlainNetwork, IsPlainTest, ArePlainTests, IsPatternTest}
+use Rattle.rule_detections.specs.References.{reference_of, references_in, listed}
+use Rattle.rule_detections.specs.declared.test.Test.{Test}
+use Rattle.rule_detections.specs.declared.test.Test.TheVariants as tests
 
 pub each_both : {A : Type 0} (P Q : A → Type 0) (xs : List A) → EachOf P xs → EachOf Q xs → EachOf (λ x. P x × Q x) xs
 each_both P Q [] p q = tt

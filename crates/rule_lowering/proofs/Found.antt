@@ -8,7 +8,7 @@ use Rattle.event_schema.specs.Lists.{EachOf, HasElement}
 use Rattle.sig_base.specs.declared.refusal.Place.{Place}
 use Rattle.sig_base.specs.declared.refusal.Refusal.{Refusal}
 use Rattle.sig_base.specs.Judged.{must, first}
-use Rattle.field_numbers.specs.Numbers.{number_of, searched}
+use Rattle.schema_index.specs.Numbers.{number_of, searched}
 
 some_step : {A B : Type 0} (p : A → Bool) (g : A → B) (x : A) (xs : List A) → (list_any p xs ≡ true → HasElement (map g (filter p xs))) → (b : Bool) → p x ≡ b
     → (b || list_any p xs) ≡ true → HasElement (map g (filter p (x ∷ xs)))

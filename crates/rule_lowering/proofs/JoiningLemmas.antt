@@ -6,8 +6,8 @@ use Rattle.backend_core.specs.Trees.{Plain, all, any, negated, leaf, never, Plai
 use Rattle.event_schema.specs.Lists.{EachOf}
 use Rattle.event_schema.specs.declared.value.Value.{Value}
 use Rattle.rule_model.proofs.Iffs.{Over, Both, iff_same, iff_then, iff_back, iff_pair, over_cons, over_empty, over_map, over_flat}
-use Rattle.modifier_chains.specs.declared.modifier.Joined.{Joined}
-use Rattle.modifier_chains.specs.declared.modifier.Joined.TheVariants.{All, Any}
+use Rattle.modifier_words.specs.declared.modifier.Joined.{Joined}
+use Rattle.modifier_words.specs.declared.modifier.Joined.TheVariants.{All, Any}
 use Rattle.rule_lowering.specs.Joining.{plains, listed, parts_of, tree_with, closed, join}
 
 module _ (row : List (List Value)) where

@@ -4,8 +4,8 @@ use Rattle.std.specs.List.{flat_map}
 use Rattle.std.proofs.lemmas.List.{drop_all, drop_more}
 use Rattle.backend_core.specs.Trees.{Plain, any, no_parts}
 use Rattle.event_schema.specs.declared.schema.Field.{Field}
-use Rattle.rule_items.specs.declared.detection.Detection.{Detection}
-use Rattle.modifier_chains.specs.declared.modifier.Joined.{Joined}
+use Rattle.rule_detections.specs.declared.detection.Detection.{Detection}
+use Rattle.modifier_words.specs.declared.modifier.Joined.{Joined}
 use Rattle.rule_lowering.specs.Joining.{parts_of, closed, join}
 use Rattle.rule_lowering.specs.TreeOf.{detection_tree, numbered_tree}
 

@@ -15,31 +15,31 @@ use Rattle.event_schema.specs.declared.value.Value.{Value}
 use Rattle.event_schema.specs.declared.value.Value.TheVariants as values
 use Rattle.event_schema.specs.Lists.{EachOf, SomeOf}
 use Rattle.rule_model.specs.Matching.{named, JoinedHolds, FieldSatisfies, KeywordSatisfied, FieldsHold, ItemHolds, DetectionHolds, NumberHolds, FormHolds, AllFormsHold, SomeFormHolds, Matches}
-use Rattle.rule_items.specs.Whole.{IsWholeValue, AreWholeFields, IsWholeItem, IsWholeAlternative, IsWholeDetection}
+use Rattle.rule_detections.specs.Whole.{IsWholeValue, AreWholeFields, IsWholeItem, IsWholeAlternative, IsWholeDetection}
 use Rattle.rule_model.specs.Plain.{PlainRule}
 use Rattle.rule_model.specs.Whole.{IsWhole}
 use Rattle.rule_schema.specs.Inferred.{fields_refusal, fit_refusal}
-use Rattle.rule_items.specs.declared.detection.Detection.{Detection}
-use Rattle.rule_items.specs.declared.item.Fields.{Fields}
-use Rattle.rule_items.specs.declared.item.Fields.TheVariants.{Keyword, Names}
-use Rattle.rule_items.specs.declared.item.Item.{Item}
+use Rattle.rule_detections.specs.declared.detection.Detection.{Detection}
+use Rattle.rule_detections.specs.declared.item.Fields.{Fields}
+use Rattle.rule_detections.specs.declared.item.Fields.TheVariants.{Keyword, Names}
+use Rattle.rule_detections.specs.declared.item.Item.{Item}
 use Rattle.sig_base.specs.Folding.{folded}
 use Rattle.sig_base.specs.declared.refusal.Place.{Place}
 use Rattle.sig_conditions.specs.Formulas.{PlainFormula, FDetection, FNot, FAnd, FOr, PlainFormulas, no_forms, form}
-use Rattle.rule_items.specs.Holds.{Holds}
-use Rattle.rule_items.specs.PlainTests.{IsPlainNetwork, IsPatternTest}
-use Rattle.modifier_chains.specs.declared.modifier.Joined.{Joined}
-use Rattle.modifier_chains.specs.declared.modifier.Joined.TheVariants.{All, Any}
-use Rattle.rule_items.specs.declared.test.Test.{Test}
-use Rattle.rule_items.specs.declared.test.Test.TheVariants as tests
-use Rattle.dash_choices.specs.Choices.{choices}
+use Rattle.rule_detections.specs.Holds.{Holds}
+use Rattle.rule_detections.specs.PlainTests.{IsPlainNetwork, IsPatternTest}
+use Rattle.modifier_words.specs.declared.modifier.Joined.{Joined}
+use Rattle.modifier_words.specs.declared.modifier.Joined.TheVariants.{All, Any}
+use Rattle.rule_detections.specs.declared.test.Test.{Test}
+use Rattle.rule_detections.specs.declared.test.Test.TheVariants as tests
+use Rattle.modifier_windash.specs.Choices.{choices}
 use Rattle.sig_encode.specs.Networks.{Net, InNetwork, SomeFits, patterns_of}
 use Rattle.sig_strings.specs.Edits.{has_wildcard, plain_text}
 use Rattle.sig_strings.specs.Fits.{Fits}
 use Rattle.sig_strings.specs.declared.part.Part.{Part}
 use Rattle.rule_lowering.specs.Joining.{join}
 use Rattle.rule_lowering.specs.TreeOf.{leaf_test, written_tree, written_tests, test_tree, value_tree, keyword_tree, number_tree, fields_tree, item_tree, alternative_tree, detection_tree, numbered_tree, form_tree, form_trees, tree_of}
-use Rattle.field_numbers.specs.Numbers.{number_of, searched}
+use Rattle.schema_index.specs.Numbers.{number_of, searched}
 use Rattle.rule_model.proofs.Iffs.{iff_same, iff_then, iff_back, iff_not, iff_both, iff_either, over_map, some_same, some_filtered}
 use Rattle.rule_lowering.proofs.JoiningLemmas.{join_holds, join_map, join_good}
 use Rattle.rule_lowering.proofs.Fitted.{IsMet, AreMet, ItemPasses, DetectionPasses, Fine, each_both, names_fit, patterns_met, names_met, rule_fine}

@@ -8,7 +8,7 @@ use Rattle.backend_core.specs.declared.tree.Tree.{Tree}
 use Rattle.event_schema.specs.declared.schema.Field.{Field}
 use Rattle.event_schema.specs.declared.schema.Schema.{Schema}
 use Rattle.rule_model.specs.Plain.{PlainRule, rule_view}
-use Rattle.rule_items.specs.declared.detection.Detection.{Detection}
+use Rattle.rule_detections.specs.declared.detection.Detection.{Detection}
 use Rattle.rule_model.specs.declared.rule.Rule.{Rule}
 use Rattle.sig_base.specs.declared.refusal.Fault.{Fault}
 use Rattle.sig_base.specs.declared.refusal.Fault.TheVariants.{Memory, Refused}
@@ -18,15 +18,15 @@ use Rattle.sig_conditions.specs.Formulas.{forms_of, forms_view}
 use Rattle.sig_conditions.specs.declared.formula.Formula.{Formula}
 use Rattle.sig_base.specs.Judged.{Judged}
 use Rattle.sig_strings.specs.declared.part.Part.{Part}
-use Rattle.dash_choices.specs.Choices.{choices, dash_count}
+use Rattle.modifier_windash.specs.Choices.{choices, dash_count}
 use Rattle.sig_encode.specs.Networks.{Net, pattern_count, patterns_of}
-use Rattle.modifier_chains.specs.declared.modifier.Joined.TheVariants.{Any}
+use Rattle.modifier_words.specs.declared.modifier.Joined.TheVariants.{Any}
 use Rattle.rule_lowering.specs.Counts.{rule_count}
 use Rattle.rule_lowering.specs.Joining.{join}
 use Rattle.rule_lowering.specs.Leaves.{leaves}
 use Rattle.rule_lowering.specs.Refused.{told, count_refusal}
 use Rattle.rule_lowering.specs.TreeOf.{form_trees, tree_of}
-use Rattle.field_numbers.specs.Numbers.{searched}
+use Rattle.schema_index.specs.Numbers.{searched}
 use Rattle.rule_lowering.proofs.LeafCounts.{form_trees_are, rule_leaves}
 
 -- ---- refusals

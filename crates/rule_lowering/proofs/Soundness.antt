@@ -14,39 +14,39 @@ use Rattle.event_schema.specs.declared.schema.FieldKind.{FieldKind}
 use Rattle.event_schema.specs.declared.schema.FieldKind.TheVariants as kinds
 use Rattle.event_schema.specs.declared.schema.Schema.{Schema}
 use Rattle.rule_schema.specs.Inferred.{is_field, fields_refusal, open_refusal, fit_refusal}
-use Rattle.rule_items.specs.References.{references_in}
+use Rattle.rule_detections.specs.References.{references_in}
 use Rattle.event_schema.specs.Lists.{EachOf, HasElement}
 use Rattle.rule_model.specs.Plain.{PlainRule}
-use Rattle.rule_items.specs.PlainTests.{IsPlainTest, IsPatternTest, is_filled_test}
-use Rattle.value_patterns.specs.PlainPatterns.{IsDashedPattern, IsPlainPattern}
-use Rattle.rule_items.specs.Whole.{IsWholeValue, AreWholeFields, IsWholeItem, IsWholeAlternative, IsWholeDetection}
+use Rattle.rule_detections.specs.PlainTests.{IsPlainTest, IsPatternTest, is_filled_test}
+use Rattle.modifier_values.specs.PlainPatterns.{IsDashedPattern, IsPlainPattern}
+use Rattle.rule_detections.specs.Whole.{IsWholeValue, AreWholeFields, IsWholeItem, IsWholeAlternative, IsWholeDetection}
 use Rattle.rule_model.specs.Whole.{IsWholeForm, AreSomeForms, AreWholeForms, IsWhole}
-use Rattle.rule_items.specs.declared.detection.Detection.{Detection}
-use Rattle.rule_items.specs.declared.item.Fields.{Fields}
-use Rattle.rule_items.specs.declared.item.Fields.TheVariants.{Keyword, Names}
-use Rattle.rule_items.specs.declared.item.Item.{Item}
+use Rattle.rule_detections.specs.declared.detection.Detection.{Detection}
+use Rattle.rule_detections.specs.declared.item.Fields.{Fields}
+use Rattle.rule_detections.specs.declared.item.Fields.TheVariants.{Keyword, Names}
+use Rattle.rule_detections.specs.declared.item.Item.{Item}
 use Rattle.sig_base.specs.declared.refusal.Place.{Place}
 use Rattle.sig_conditions.specs.Formulas.{PlainFormula, FDetection, FNot, FAnd, FOr, PlainFormulas, no_forms, form}
-use Rattle.modifier_chains.specs.declared.form.Flags.{Flags}
-use Rattle.modifier_chains.specs.declared.modifier.Joined.{Joined}
-use Rattle.modifier_chains.specs.declared.modifier.Joined.TheVariants.{All, Any}
-use Rattle.rule_items.specs.declared.test.Test.{Test}
-use Rattle.rule_items.specs.declared.test.Test.TheVariants as tests
+use Rattle.modifier_words.specs.declared.form.Flags.{Flags}
+use Rattle.modifier_words.specs.declared.modifier.Joined.{Joined}
+use Rattle.modifier_words.specs.declared.modifier.Joined.TheVariants.{All, Any}
+use Rattle.rule_detections.specs.declared.test.Test.{Test}
+use Rattle.rule_detections.specs.declared.test.Test.TheVariants as tests
 use Rattle.sig_strings.specs.Edits.{has_wildcard, plain_text}
-use Rattle.dash_choices.specs.Choices.{choices, before_each}
+use Rattle.modifier_windash.specs.Choices.{choices, before_each}
 use Rattle.sig_encode.specs.Networks.{Net, pattern_count, patterns_of, told_octets}
 use Rattle.std.proofs.Math.Nat.{pow-suc}
 use Rattle.sig_strings.specs.declared.part.Part.{Part}
 use Rattle.sig_strings.specs.declared.part.Part.TheVariants.{Char, One, Run, Dash, Hole}
 use Rattle.rule_lowering.specs.Joining.{plains, listed, parts_of, tree_with, closed, join}
 use Rattle.rule_lowering.specs.TreeOf.{text_test, whole_test, leaf_test, leaf_if_any, written_tree, written_tests, test_tree, value_tree, keyword_tree, number_tree, fields_tree, item_tree, alternative_tree, detection_tree, numbered_tree, form_tree, form_trees, tree_of}
-use Rattle.field_numbers.specs.Numbers.{number_of, searched}
-use Rattle.value_patterns.specs.Expressions.{expression_text, IsPlainExpression}
-use Rattle.value_patterns.specs.Numbers.{is_whole}
-use Rattle.value_patterns.proofs.Numbers.{whole_holds}
+use Rattle.schema_index.specs.Numbers.{number_of, searched}
+use Rattle.modifier_values.specs.Expressions.{expression_text, IsPlainExpression}
+use Rattle.modifier_values.specs.Numbers.{is_whole}
+use Rattle.modifier_values.proofs.Numbers.{whole_holds}
 use Rattle.rule_lowering.specs.WholeNumbers.{written_number}
 use Rattle.rule_lowering.proofs.Decimals.{characters, own_text, characters_written, low_decimal, low_plain}
-use Rattle.field_numbers.proofs.Found.{field_within, searched_within}
+use Rattle.schema_index.proofs.Found.{field_within, searched_within}
 use Rattle.rule_lowering.proofs.Fitted.{each_both, ItemIsReady, DetectionIsReady, AreReady, names_fit, rule_ready, IsLike, IsMet, AreMet, patterns_met, names_met}
 use Rattle.rule_lowering.proofs.Found.{some_searched, must_holds, each_name}
 use Rattle.rule_model.proofs.Iffs.{each_append}

@@ -15,19 +15,19 @@ use Rattle.event_schema.specs.declared.schema.FieldKind.{FieldKind}
 use Rattle.event_schema.specs.declared.schema.FieldKind.TheVariants as kinds
 use Rattle.event_schema.specs.declared.value.Value.{Value}
 use Rattle.event_schema.specs.declared.value.Value.TheVariants as values
-use Rattle.field_numbers.specs.Numbers.{number_of}
-use Rattle.modifier_chains.specs.declared.modifier.Op.{Op}
-use Rattle.modifier_chains.specs.declared.modifier.Op.TheVariants as ops
+use Rattle.schema_index.specs.Numbers.{number_of}
+use Rattle.modifier_words.specs.declared.modifier.Op.{Op}
+use Rattle.modifier_words.specs.declared.modifier.Op.TheVariants as ops
 use Rattle.sig_base.specs.Folding.{folded}
 use Rattle.sig_base.specs.declared.refusal.Place.{Place}
-use Rattle.rule_items.specs.Holds.{Stands, ValueStands, Holds}
-use Rattle.rule_items.specs.declared.test.Test.{Test}
-use Rattle.rule_items.specs.declared.test.Test.TheVariants as tests
+use Rattle.rule_detections.specs.Holds.{Stands, ValueStands, Holds}
+use Rattle.rule_detections.specs.declared.test.Test.{Test}
+use Rattle.rule_detections.specs.declared.test.Test.TheVariants as tests
 use Rattle.sig_strings.specs.Edits.{has_wildcard, plain_text}
 use Rattle.sig_strings.specs.Fits.{Fits}
 use Rattle.sig_strings.specs.declared.part.Part.{Part}
-use Rattle.value_patterns.specs.Numbers.{is_whole}
-use Rattle.value_patterns.proofs.Numbers.{whole_tests}
+use Rattle.modifier_values.specs.Numbers.{is_whole}
+use Rattle.modifier_values.proofs.Numbers.{whole_tests}
 use Rattle.rule_lowering.specs.TreeOf.{leaf_op, text_test, whole_test, leaf_test, leaf_if_any}
 use Rattle.rule_lowering.specs.WholeNumbers.{written_number}
 use Rattle.rule_lowering.proofs.Decimals.{is_low, characters, no_wildcard, own_text, low_decimal, low_text}

@@ -9,8 +9,8 @@ use Rattle.backend_core.specs.declared.tree.Tree.{Tree}
 use Rattle.backend_core.specs.declared.tree.Tree as trees
 use Rattle.backend_core.specs.declared.tree.Tree.TheViews.{the_lemmas}
 use Rattle.backend_core.proofs.Copies.{row_plains}
-use Rattle.modifier_chains.specs.declared.modifier.Joined.{Joined}
-use Rattle.modifier_chains.specs.declared.modifier.Joined.TheVariants.{All, Any}
+use Rattle.modifier_words.specs.declared.modifier.Joined.{Joined}
+use Rattle.modifier_words.specs.declared.modifier.Joined.TheVariants.{All, Any}
 use Rattle.rule_lowering.specs.Joining.{plains, listed, parts_of, tree_with, closed}
 
 pub view-All : (v : Vec Tree Global) → tree_view (trees.All v) ≡ all (plains_of v.items)

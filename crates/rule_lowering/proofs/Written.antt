@@ -14,8 +14,8 @@ use Rattle.std.proofs.lemmas.Slice.Eq.{bytes_eq-Decides}
 use Rattle.std.proofs.lemmas.Str.{encodes-chars, encodes-IsAscii}
 use Rattle.std.proofs.lemmas.Str.Parse.{digit_from_value}
 use Rattle.event_schema.specs.Events.{IsWholeNumber}
-use Rattle.value_patterns.specs.Numbers.{is_whole}
-use Rattle.value_patterns.proofs.Numbers.{whole_holds, whole_tests}
+use Rattle.modifier_values.specs.Numbers.{is_whole}
+use Rattle.modifier_values.proofs.Numbers.{whole_holds, whole_tests}
 use Rattle.rule_lowering.specs.WholeNumbers.{if_whole, written_number}
 
 -- ---- a decimal's sign and digits write its number

@@ -13,24 +13,24 @@ use Rattle.event_schema.specs.declared.schema.Field.{Field}
 use Rattle.event_schema.specs.declared.schema.FieldKind.{FieldKind}
 use Rattle.event_schema.specs.declared.schema.FieldKind.TheVariants as kinds
 use Rattle.event_schema.specs.declared.schema.Schema.{Schema}
-use Rattle.dash_choices.specs.Choices.{choices}
-use Rattle.field_numbers.specs.Numbers.{number_of, searched}
+use Rattle.modifier_windash.specs.Choices.{choices}
+use Rattle.schema_index.specs.Numbers.{number_of, searched}
 use Rattle.rule_model.specs.Plain.{PlainRule}
-use Rattle.rule_items.specs.declared.detection.Detection.{Detection}
-use Rattle.rule_items.specs.declared.item.Fields.{Fields}
-use Rattle.rule_items.specs.declared.item.Fields.TheVariants.{Keyword, Names}
-use Rattle.rule_items.specs.declared.item.Item.{Item}
+use Rattle.rule_detections.specs.declared.detection.Detection.{Detection}
+use Rattle.rule_detections.specs.declared.item.Fields.{Fields}
+use Rattle.rule_detections.specs.declared.item.Fields.TheVariants.{Keyword, Names}
+use Rattle.rule_detections.specs.declared.item.Item.{Item}
 use Rattle.sig_base.specs.declared.refusal.Place.{Place}
 use Rattle.sig_conditions.specs.Formulas.{PlainFormula, FDetection, FNot, FAnd, FOr, PlainFormulas, no_forms, form}
-use Rattle.modifier_chains.specs.declared.modifier.Joined.{Joined}
-use Rattle.modifier_chains.specs.declared.modifier.Joined.TheVariants.{All, Any}
-use Rattle.modifier_chains.specs.declared.modifier.Op.{Op}
-use Rattle.modifier_chains.specs.declared.modifier.Op.TheVariants as ops
+use Rattle.modifier_words.specs.declared.modifier.Joined.{Joined}
+use Rattle.modifier_words.specs.declared.modifier.Joined.TheVariants.{All, Any}
+use Rattle.modifier_words.specs.declared.modifier.Op.{Op}
+use Rattle.modifier_words.specs.declared.modifier.Op.TheVariants as ops
 use Rattle.sig_encode.specs.Networks.{patterns_of}
-use Rattle.rule_items.specs.declared.test.Test.{Test}
-use Rattle.rule_items.specs.declared.test.Test.TheVariants as tests
+use Rattle.rule_detections.specs.declared.test.Test.{Test}
+use Rattle.rule_detections.specs.declared.test.Test.TheVariants as tests
 use Rattle.sig_strings.specs.Edits.{has_wildcard, plain_text}
-use Rattle.value_patterns.specs.Expressions.{expression_text}
+use Rattle.modifier_values.specs.Expressions.{expression_text}
 use Rattle.sig_strings.specs.declared.part.Part.TheVariants.{Char}
 use Rattle.rule_lowering.specs.Joining.{join}
 use Rattle.rule_lowering.specs.WholeNumbers.{if_whole, written_number}

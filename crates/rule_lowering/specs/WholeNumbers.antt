@@ -3,7 +3,7 @@ use Rattle.std.specs.Prelude.{ℕ, ℤ, if◌then◌else◌, List, Option, Some,
 use Rattle.std.specs.Fmt.{signed_decimal}
 use Rattle.std.specs.Str.{bytes_eq}
 use Rattle.std.specs.Str.Parse.{signed_digits_value}
-use Rattle.value_patterns.specs.Numbers.{is_whole}
+use Rattle.modifier_values.specs.Numbers.{is_whole}
 
 abbrev pub if_whole : ℤ → Option ℤ
 if_whole n = if is_whole n then Some n else None

@@ -3,17 +3,17 @@
 ghost use Rattle.std.specs.Prelude.{◌≡◌, IfOk, IfErr};
 ghost use Rattle.backend_core.specs.View.{tree_view};
 ghost use Rattle.rule_lowering.specs.Joining.{join};
-ghost use Rattle.field_numbers.specs.Numbered.{AreNumbered};
+ghost use Rattle.schema_index.specs.Numbered.{AreNumbered};
 ghost use Rattle.rule_lowering.specs.TreeOf as spec;
 ghost use Rattle.sig_conditions.specs.Formulas.{form_view, forms_view, forms_of, numbered};
 
-use crate::joining::{add_part, close_parts};
-use crate::lowering::lower_numbered;
+use crate::detection_trees::lower_numbered;
+use crate::joins::{add_part, close_parts};
 use backend_core::Tree;
 use event_schema::Field;
-use field_numbers::FieldNumbers;
-use modifier_chains::Joined;
-use rule_items::Detection;
+use modifier_words::Joined;
+use rule_detections::Detection;
+use schema_index::FieldNumbers;
 use sig_base::Fault;
 use sig_conditions::Formula;
 use std::alloc::Global;

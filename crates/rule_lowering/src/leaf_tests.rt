@@ -3,24 +3,24 @@
 ghost use Rattle.std.specs.Prelude.{◌≡◌, if◌then◌else◌, map, Option, Some, option_map, IfOk, IfErr};
 ghost use Rattle.std.specs.Fmt.{signed_decimal};
 ghost use Rattle.backend_core.specs.declared.tree.LeafTest.TheVariants as leaf_tests;
-ghost use Rattle.field_numbers.specs.Numbered.{AreNumbered};
+ghost use Rattle.schema_index.specs.Numbered.{AreNumbered};
 ghost use Rattle.rule_lowering.specs.TreeOf as spec;
 ghost use Rattle.rule_lowering.specs.WholeNumbers.{written_number};
 ghost use Rattle.sig_strings.specs.Edits.{has_wildcard, plain_text};
 ghost use Rattle.sig_strings.specs.declared.part.Part.TheVariants.{Char};
-ghost use Rattle.value_patterns.specs.Expressions as value_expressions;
+ghost use Rattle.modifier_values.specs.Expressions as value_expressions;
 
 use crate::whole::{read_whole, whole_number};
 use backend_core::{LeafTest, Op as LeafOp};
 use event_schema::{Field, FieldKind, decimal_in};
-use field_numbers::FieldNumbers;
 use itoa::Buffer;
-use modifier_chains::{Flags, Op};
-use rule_items::Test;
+use modifier_values::expression_text;
+use modifier_words::{Flags, Op};
+use rule_detections::Test;
+use schema_index::FieldNumbers;
 use sig_base::{Fault, Text, first_char};
 use sig_strings::{Part, Pattern, SharedPattern};
 use std::alloc::Global;
-use value_patterns::expression_text;
 
 /// The pattern of a number's decimal.
 fn decimal_pattern(alloc: Global, number: i64) -> Result<SharedPattern, Fault>

@@ -1,15 +1,15 @@
 //! Lowering: the tree of tests that a rule is.
 #![tactic(auto)]
 
-pub use law::{tree_is_sound, tree_means_rule};
+pub use laws::{tree_is_sound, tree_means_rule};
 pub use rule::lower;
 
-mod counting;
+mod detection_trees;
 mod field_kind;
 mod formula;
-mod joining;
-mod law;
+mod joins;
+mod laws;
 mod leaf_tests;
-mod lowering;
 mod rule;
+mod test_count;
 mod whole;

@@ -14,18 +14,18 @@ ghost use Rattle.rule_model.specs.Plain.{rule_view};
 ghost use Rattle.rule_model.specs.Whole.{IsWhole};
 ghost use Rattle.sig_base.specs.Judged.{Judged};
 
-use crate::counting::count_rule;
 use crate::formula::lower_formulas;
-use crate::law::{tree_is_sound, tree_means_rule};
+use crate::laws::{tree_is_sound, tree_means_rule};
+use crate::test_count::count_rule;
 use backend_core::Tree;
-use dash_choices::choices_are_counted;
 use event_schema::Schema;
-use field_numbers::FieldNumbers;
-use modifier_chains::Joined;
+use modifier_values::network_patterns_are_plain;
+use modifier_windash::choices_are_counted;
+use modifier_words::Joined;
 use rule_model::Rule;
+use schema_index::FieldNumbers;
 use sig_base::{Code, Detail, Fault, Limits, Place, Refusal};
 use std::alloc::Global;
-use value_patterns::network_patterns_are_plain;
 
 fn too_many(place: Place, count: u128, limit: usize) -> Fault
     requires { count ≤ 2 ^ 127 - 1 }

@@ -3,13 +3,13 @@ use Rattle.std.proofs.Common.{ℕ, ◌≡◌, ◌∙◌, Bool, true, false, not,
 use Rattle.std.specs.Prelude.{Option, Some, None, codes, nat_le, length}
 use Rattle.std.specs.List.{list_any}
 use Rattle.event_schema.specs.Lists.{SomeOf}
-use Rattle.modifier_chains.specs.Chains.{chain_refusal}
-use Rattle.modifier_chains.specs.Written.{Written}
+use Rattle.modifier_words.specs.Chains.{chain_refusal}
+use Rattle.modifier_words.specs.Written.{Written}
 use Rattle.rule_head.specs.Heads.{head_checks}
 use Rattle.rule_head.specs.Sources.{source_refusal}
-use Rattle.rule_items.specs.Detections.{alternative_refusal, content_refusal, is_detection_key, detection_refusal, detection_entries, is_identified, begins_with_timeframe, detections_refusal}
-use Rattle.rule_items.specs.Items.{key_chain, shape_refusal, values_refusal, item_refusal, bare_chain}
-use Rattle.rule_items.specs.Keys.{words_in, is_keyword_key, is_item_key}
+use Rattle.rule_detections.specs.Detections.{alternative_refusal, content_refusal, is_detection_key, detection_refusal, detection_entries, is_identified, begins_with_timeframe, detections_refusal}
+use Rattle.rule_detections.specs.Items.{key_chain, shape_refusal, values_refusal, item_refusal, bare_chain}
+use Rattle.rule_detections.specs.Keys.{words_in, is_keyword_key, is_item_key}
 use Rattle.rule_model.specs.AsBuilt.{IsRefusedAsBuilt}
 use Rattle.rule_model.specs.Conditions.{conditions_refusal}
 use Rattle.rule_model.specs.Rules.{rule_refusal, correlation_refusal, lone_refusal}
@@ -18,9 +18,9 @@ use Rattle.sig_base.specs.Judged.{must, first, refusal}
 use Rattle.sig_base.specs.declared.limits.Limits.{Limits}
 use Rattle.sig_base.specs.declared.refusal.Place.{Place}
 use Rattle.sig_base.specs.declared.refusal.Refusal.{Refusal}
-use Rattle.rule_items.specs.TestsOf.{use_of, value_refusal}
-use Rattle.value_patterns.specs.Expressions.{is_same_place, is_built_at}
-use Rattle.value_patterns.specs.Uses.{Use, expression_in, use_checks, use_refusal}
+use Rattle.rule_detections.specs.TestsOf.{use_of, value_refusal}
+use Rattle.modifier_values.specs.Expressions.{is_same_place, is_built_at}
+use Rattle.modifier_values.specs.Uses.{Use, expression_in, use_checks, use_refusal}
 use Rattle.yaml_tree.specs.Nodes.{entered, entries_in, is_empty, is_map, is_null, key_place, parts_in, place_of, refused_at, refused_by, required, value_in}
 use Rattle.yaml_tree.specs.Tree.{Tree, scalar, list, map as tree_map, Member}
 use Rattle.rule_model.proofs.Lone.{some_none}

@@ -17,7 +17,7 @@ use Rattle.sig_conditions.specs.Words.{words}
 use Rattle.rule_model.proofs.Faultless.{whole_formula}
 use Rattle.sig_base.proofs.Firsts.{behind, judged_as}
 use Rattle.sig_base.proofs.Checks.{first_one, first_holds, must_holds, must_same, not_holds}
-use Rattle.rule_items.proofs.Zips.{zip_some}
+use Rattle.rule_detections.proofs.Zips.{zip_some}
 use Rattle.rule_model.specs.Conditions.{names_of, IsFormula, listed_refusal, conditions_refusal, conditions_in, AreConditions}
 use Rattle.yaml_tree.specs.Nodes.{is_empty}
 use Rattle.yaml_tree.specs.Nodes.{parts_in, value_in, entries_in, refused_by, text_in}

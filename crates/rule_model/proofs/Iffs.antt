@@ -2,8 +2,8 @@
 use Rattle.std.proofs.Common.{◌≡◌, ◌↔◌, ◌⊎◌, Bool, true, false, List, [], ◌∷◌, ◌++◌, map, filter, inl, inr, refl}
 use Rattle.std.specs.List.{flat_map}
 use Rattle.event_schema.specs.Lists.{EachOf, SomeOf}
-use Rattle.modifier_chains.specs.declared.modifier.Joined.{Joined}
-use Rattle.modifier_chains.specs.declared.modifier.Joined.TheVariants.{All, Any}
+use Rattle.modifier_words.specs.declared.modifier.Joined.{Joined}
+use Rattle.modifier_words.specs.declared.modifier.Joined.TheVariants.{All, Any}
 
 pub iff_same : {A : Type 0} → A ↔ A
 iff_same = ((λ h. h), (λ h. h))

@@ -8,23 +8,23 @@ use Rattle.sig_conditions.specs.Formulas.{PlainFormula, formula_of}
 use Rattle.sig_conditions.specs.Grammar.{ConditionReads}
 use Rattle.sig_conditions.specs.Words.{words}
 use Rattle.sig_conditions.specs.declared.word.Word.{Word}
-use Rattle.rule_items.specs.TestsOf.{TestsOf}
-use Rattle.modifier_chains.specs.Written.{Written}
-use Rattle.modifier_chains.specs.declared.modifier.Joined.{Joined}
-use Rattle.rule_items.specs.declared.test.Test.{Test}
+use Rattle.rule_detections.specs.TestsOf.{TestsOf}
+use Rattle.modifier_words.specs.Written.{Written}
+use Rattle.modifier_words.specs.declared.modifier.Joined.{Joined}
+use Rattle.rule_detections.specs.declared.test.Test.{Test}
 use Rattle.yaml_tree.specs.Tree.{Tree, scalar, list, map, Member}
 use Rattle.rule_model.specs.Conditions.{names_of, IsFormula, conditions_in, AreConditions}
-use Rattle.rule_items.specs.Detections.{IsAlternative, IsDetection, detection_entries, AreDetections}
+use Rattle.rule_detections.specs.Detections.{IsAlternative, IsDetection, detection_entries, AreDetections}
 use Rattle.rule_head.specs.Heads.{IsHead}
-use Rattle.rule_items.specs.Items.{key_chain, IsItem, bare_chain, IsKeyword}
+use Rattle.rule_detections.specs.Items.{key_chain, IsItem, bare_chain, IsKeyword}
 use Rattle.yaml_tree.specs.Nodes.{entered, entries_in, parts_in, text_in, value_in}
 use Rattle.rule_head.specs.Plain.{PlainHead}
 use Rattle.rule_model.specs.Plain.{PlainRule}
 use Rattle.rule_model.specs.Rules.{IsRule}
 use Rattle.rule_head.specs.Sources.{source_of}
-use Rattle.rule_items.specs.declared.detection.Detection.{Detection}
-use Rattle.rule_items.specs.declared.item.Fields.{Fields}
-use Rattle.rule_items.specs.declared.item.Item.{Item}
+use Rattle.rule_detections.specs.declared.detection.Detection.{Detection}
+use Rattle.rule_detections.specs.declared.item.Fields.{Fields}
+use Rattle.rule_detections.specs.declared.item.Item.{Item}
 use Rattle.rule_head.specs.declared.source.LogSource.{LogSource}
 
 zip_one : {A B : Type 0} (R : A → B → Type 0) → ((x : A) (y z : B) → R x y → R x z → y ≡ z) → (xs : List A) (ys zs : List B)

@@ -3,14 +3,14 @@ use Rattle.std.proofs.Common.{ℕ, ◌≡◌, ◌∙◌, List, [], ◌∷◌, �
 use Rattle.std.specs.Prelude.{Option, Some, None}
 use Rattle.std.specs.List.{flat_map}
 use Rattle.std.proofs.lemmas.List.{map-append}
-use Rattle.rule_items.specs.Expressions.{expression_at}
-use Rattle.rule_items.specs.declared.expression.Expression.{Expression}
-use Rattle.rule_items.specs.declared.item.Item.{Item}
+use Rattle.rule_detections.specs.Expressions.{expression_at}
+use Rattle.rule_detections.specs.declared.expression.Expression.{Expression}
+use Rattle.rule_detections.specs.declared.item.Item.{Item}
 use Rattle.rule_model.specs.Expressions.{item_expressions}
 use Rattle.sig_base.specs.declared.refusal.Place.{Place}
-use Rattle.rule_items.specs.TestExpressions.{expression_of}
-use Rattle.rule_items.specs.References.{listed}
-use Rattle.rule_items.specs.declared.test.Test.{Test}
+use Rattle.rule_detections.specs.TestExpressions.{expression_of}
+use Rattle.rule_detections.specs.References.{listed}
+use Rattle.rule_detections.specs.declared.test.Test.{Test}
 
 mapped : {A B C : Type 0} (g : B → C) (f : A → List B) (h : A → List C) → ((x : A) → map g (f x) ≡ h x) → (xs : List A) → map g (flat_map f xs) ≡ flat_map h xs
 mapped g f h same [] = refl

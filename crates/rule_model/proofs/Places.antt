@@ -4,7 +4,7 @@ use Rattle.std.specs.List.{list_any}
 use Rattle.std.proofs.lemmas.Bool.{and_parts, eqb-true}
 use Rattle.event_schema.specs.Lists.{SomeOf}
 use Rattle.sig_base.specs.declared.refusal.Place.{Place}
-use Rattle.value_patterns.specs.Expressions.{is_same_place}
+use Rattle.modifier_values.specs.Expressions.{is_same_place}
 
 pub same_place : (p q : Place) → is_same_place p q ≡ true → q ≡ p
 same_place p q same =

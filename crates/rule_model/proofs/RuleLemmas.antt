@@ -4,8 +4,8 @@ use Rattle.std.proofs.lemmas.List.{length-map}
 use Rattle.std.proofs.lemmas.Slice.Zip.{AllZip-long}
 use Rattle.yaml_tree.specs.Tree.{Tree}
 use Rattle.rule_model.specs.Conditions.{names_of}
-use Rattle.rule_items.specs.Detections.{detection_entries, IsDetection, AreDetections}
-use Rattle.rule_items.specs.declared.detection.Detection.{Detection}
+use Rattle.rule_detections.specs.Detections.{detection_entries, IsDetection, AreDetections}
+use Rattle.rule_detections.specs.declared.detection.Detection.{Detection}
 
 -- there are as many names as detections
 pub as_many : (t : Tree) (ds : List Detection) → AreDetections t ds → length (names_of t) ≡ length ds

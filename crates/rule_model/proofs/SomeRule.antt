@@ -10,27 +10,27 @@ use Rattle.sig_conditions.specs.Formulas.{PlainFormula, FDetection, FNot, FAnd, 
 use Rattle.sig_conditions.specs.Taken.{number_of, taken}
 use Rattle.sig_conditions.specs.Words.{has_bar, nesting, words}
 use Rattle.sig_conditions.proofs.Sound.{is_condition}
-use Rattle.modifier_chains.specs.Chains.{chain_refusal, joined_of}
+use Rattle.modifier_words.specs.Chains.{chain_refusal, joined_of}
 use Rattle.sig_base.specs.Judged.{must, first}
-use Rattle.rule_items.specs.TestsOf.{TestsOf, value_refusal}
+use Rattle.rule_detections.specs.TestsOf.{TestsOf, value_refusal}
 use Rattle.yaml_tree.specs.Nodes.{place_of}
-use Rattle.modifier_chains.specs.Written.{Written}
-use Rattle.rule_items.specs.declared.test.Test.{Test}
+use Rattle.modifier_words.specs.Written.{Written}
+use Rattle.rule_detections.specs.declared.test.Test.{Test}
 use Rattle.yaml_tree.specs.Tree.{Tree, scalar, list, map as tree_map, Member}
 use Rattle.rule_model.specs.Conditions.{condition_of, first_fault, unresolved, condition_refusal, IsFormula, names_of, listed_refusal, conditions_refusal, conditions_in, AreConditions}
-use Rattle.rule_items.specs.Detections.{alternative_refusal, IsAlternative, content_refusal, is_detection_key, detection_refusal, IsDetection, detection_entries, is_identified, begins_with_timeframe, detections_refusal, AreDetections}
+use Rattle.rule_detections.specs.Detections.{alternative_refusal, IsAlternative, content_refusal, is_detection_key, detection_refusal, IsDetection, detection_entries, is_identified, begins_with_timeframe, detections_refusal, AreDetections}
 use Rattle.rule_head.specs.Heads.{head_checks, rest_of, IsHead}
-use Rattle.rule_items.specs.Items.{key_chain, fields_of, shape_refusal, values_refusal, item_refusal, IsItem, bare_chain, keyword_refusal, IsKeyword}
-use Rattle.rule_items.specs.Keys.{words_in, is_keyword_key, is_item_key}
+use Rattle.rule_detections.specs.Items.{key_chain, fields_of, shape_refusal, values_refusal, item_refusal, IsItem, bare_chain, keyword_refusal, IsKeyword}
+use Rattle.rule_detections.specs.Keys.{words_in, is_keyword_key, is_item_key}
 use Rattle.yaml_tree.specs.Nodes.{is_empty}
 use Rattle.yaml_tree.specs.Nodes.{is_map, is_null, is_text, text_in, entered, entries_in, parts_in, key_place, value_in, refused_by, text_of, text_at}
 use Rattle.rule_head.specs.Plain.{PlainHead}
 use Rattle.rule_model.specs.Plain.{PlainRule}
 use Rattle.rule_model.specs.Rules.{rule_refusal, IsRule}
 use Rattle.rule_head.specs.Sources.{source_refusal, source_of}
-use Rattle.rule_items.specs.declared.detection.Detection.{Detection}
-use Rattle.rule_items.specs.declared.item.Fields.TheVariants.{Keyword}
-use Rattle.rule_items.specs.declared.item.Item.{Item}
+use Rattle.rule_detections.specs.declared.detection.Detection.{Detection}
+use Rattle.rule_detections.specs.declared.item.Fields.TheVariants.{Keyword}
+use Rattle.rule_detections.specs.declared.item.Item.{Item}
 use Rattle.sig_base.proofs.Checks.{first_holds, must_holds}
 
 -- where no element is refused, each has what it is read as

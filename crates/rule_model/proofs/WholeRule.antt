@@ -9,36 +9,36 @@ use Rattle.std.proofs.Math.Utf8.{scalar}
 use Rattle.sig_base.specs.declared.limits.Limits.{Limits}
 use Rattle.sig_base.specs.declared.refusal.Place.{Place}
 use Rattle.sig_base.specs.declared.refusal.Refusal.{Refusal}
-use Rattle.modifier_chains.specs.Chains.{chain_refusal}
+use Rattle.modifier_words.specs.Chains.{chain_refusal}
 use Rattle.sig_base.specs.Judged.{must, first}
-use Rattle.rule_items.specs.PlainTests.{ArePlainTests, IsPatternTest}
-use Rattle.rule_items.specs.TestsOf.{TestsOf, value_refusal}
+use Rattle.rule_detections.specs.PlainTests.{ArePlainTests, IsPatternTest}
+use Rattle.rule_detections.specs.TestsOf.{TestsOf, value_refusal}
 use Rattle.yaml_tree.specs.Nodes.{place_of}
-use Rattle.modifier_chains.specs.Written.{Written}
-use Rattle.rule_items.specs.declared.test.Test.{Test}
+use Rattle.modifier_words.specs.Written.{Written}
+use Rattle.rule_detections.specs.declared.test.Test.{Test}
 use Rattle.yaml_tree.specs.Texts.{IsScalarText, HasScalarTexts, HaveScalarTexts, MembersHave}
 use Rattle.yaml_tree.specs.Tree.{Scalar, null, truth, whole, text, Tree, scalar as scalar_node, list, map as tree_map, Elements, no_elements, element, Members, no_members, member, Member}
 use Rattle.rule_model.specs.Conditions.{conditions_refusal}
-use Rattle.rule_items.specs.Detections.{alternative_refusal, IsAlternative, content_refusal, is_detection_key, is_no_condition, detection_refusal, IsDetection, detection_entries, is_identified, begins_with_timeframe, detections_refusal, AreDetections}
+use Rattle.rule_detections.specs.Detections.{alternative_refusal, IsAlternative, content_refusal, is_detection_key, is_no_condition, detection_refusal, IsDetection, detection_entries, is_identified, begins_with_timeframe, detections_refusal, AreDetections}
 use Rattle.rule_head.specs.Heads.{head_checks}
-use Rattle.rule_items.specs.Items.{key_chain, shape_refusal, values_refusal, item_refusal, IsItem, bare_chain, keyword_refusal, IsKeyword}
-use Rattle.rule_items.specs.Keys.{pieces, name_in, words_in, is_keyword_key, is_item_key}
+use Rattle.rule_detections.specs.Items.{key_chain, shape_refusal, values_refusal, item_refusal, IsItem, bare_chain, keyword_refusal, IsKeyword}
+use Rattle.rule_detections.specs.Keys.{pieces, name_in, words_in, is_keyword_key, is_item_key}
 use Rattle.yaml_tree.specs.Nodes.{is_empty}
 use Rattle.event_schema.specs.Lists.{EachOf, HasElement}
 use Rattle.yaml_tree.specs.Nodes.{is_map, is_null, listed, entered, entries_in, parts_in, key_place, value_in, refused_by}
 use Rattle.rule_model.specs.Plain.{PlainRule}
 use Rattle.rule_model.specs.Rules.{rule_refusal, IsRule}
 use Rattle.rule_head.specs.Sources.{source_refusal}
-use Rattle.rule_items.specs.Whole.{IsWholeItem, IsWholeAlternative, IsWholeDetection}
+use Rattle.rule_detections.specs.Whole.{IsWholeItem, IsWholeAlternative, IsWholeDetection}
 use Rattle.rule_model.specs.Whole.{IsWholeForm, IsWhole}
-use Rattle.rule_items.specs.declared.detection.Detection.{Detection}
-use Rattle.rule_items.specs.declared.item.Item.{Item}
+use Rattle.rule_detections.specs.declared.detection.Detection.{Detection}
+use Rattle.rule_detections.specs.declared.item.Item.{Item}
 use Rattle.rule_model.proofs.ConditionLists.{some_conditions, whole_conditions}
 use Rattle.sig_base.proofs.Checks.{first_one, first_holds, must_holds, not_holds}
 use Rattle.rule_model.proofs.RuleLemmas.{as_many}
 use Rattle.rule_model.proofs.SomeRule.{two_hold, three_hold, four_hold, six_hold}
-use Rattle.rule_items.proofs.WholeItems.{whole_item, whole_keyword}
-use Rattle.rule_items.proofs.Zips.{zip_some}
+use Rattle.rule_detections.proofs.WholeItems.{whole_item, whole_keyword}
+use Rattle.rule_detections.proofs.Zips.{zip_some}
 
 -- what holds of the elements, none of which is refused, holds of what they are read as
 each_read : {A B : Type 0} (R : A → B → Type 0) (P : A → Type 0) (Q : B → Type 0) (refusal : A → Option Refusal)

@@ -14,7 +14,7 @@ use Rattle.sig_conditions.specs.Words.{has_bar, nesting, words}
 use Rattle.sig_base.specs.Judged.{must, first}
 use Rattle.yaml_tree.specs.Nodes.{place_of}
 use Rattle.yaml_tree.specs.Tree.{Tree}
-use Rattle.rule_items.specs.Detections.{detection_entries}
+use Rattle.rule_detections.specs.Detections.{detection_entries}
 use Rattle.yaml_tree.specs.Nodes.{is_empty}
 use Rattle.yaml_tree.specs.Nodes.{is_text, text_in, parts_in, required, refused_at, value_in, entries_in}
 

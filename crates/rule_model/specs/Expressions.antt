@@ -1,12 +1,12 @@
 -- The regular expressions of a rule: in its document, each at its value's place, and of its items, each at its item's place.
 use Rattle.std.specs.Prelude.{List, [], map, codes, Option, Some, None}
 use Rattle.std.specs.List.{flat_map}
-use Rattle.rule_items.specs.Expressions.{detections_expressions}
-use Rattle.rule_items.specs.declared.detection.Detection.{Detection}
-use Rattle.rule_items.specs.declared.expression.Expression.{Expression}
-use Rattle.rule_items.specs.declared.item.Item.{Item}
+use Rattle.rule_detections.specs.Expressions.{detections_expressions}
+use Rattle.rule_detections.specs.declared.detection.Detection.{Detection}
+use Rattle.rule_detections.specs.declared.expression.Expression.{Expression}
+use Rattle.rule_detections.specs.declared.item.Item.{Item}
 use Rattle.sig_base.specs.declared.limits.Limits.{Limits}
-use Rattle.rule_items.specs.TestExpressions.{expressions_in}
+use Rattle.rule_detections.specs.TestExpressions.{expressions_in}
 use Rattle.yaml_tree.specs.Nodes.{value_in, entries_in}
 use Rattle.yaml_tree.specs.Tree.{Tree}
 use Rattle.rule_model.specs.Plain.{PlainRule}

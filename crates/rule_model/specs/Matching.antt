@@ -4,16 +4,16 @@ use Rattle.event_schema.specs.declared.schema.Field.{Field}
 use Rattle.event_schema.specs.declared.value.Value.{Value}
 use Rattle.event_schema.specs.Rows.{field_number, values_if_any}
 use Rattle.sig_conditions.specs.Formulas.{PlainFormula, FDetection, FNot, FAnd, FOr, PlainFormulas, no_forms, form}
-use Rattle.rule_items.specs.Holds.{Holds}
-use Rattle.modifier_chains.specs.declared.modifier.Joined.{Joined}
-use Rattle.modifier_chains.specs.declared.modifier.Joined.TheVariants.{All, Any}
-use Rattle.rule_items.specs.declared.test.Test.{Test}
+use Rattle.rule_detections.specs.Holds.{Holds}
+use Rattle.modifier_words.specs.declared.modifier.Joined.{Joined}
+use Rattle.modifier_words.specs.declared.modifier.Joined.TheVariants.{All, Any}
+use Rattle.rule_detections.specs.declared.test.Test.{Test}
 use Rattle.event_schema.specs.Lists.{EachOf, SomeOf}
 use Rattle.rule_model.specs.Plain.{PlainRule}
-use Rattle.rule_items.specs.declared.detection.Detection.{Detection}
-use Rattle.rule_items.specs.declared.item.Fields.{Fields}
-use Rattle.rule_items.specs.declared.item.Fields.TheVariants.{Keyword, Names}
-use Rattle.rule_items.specs.declared.item.Item.{Item}
+use Rattle.rule_detections.specs.declared.detection.Detection.{Detection}
+use Rattle.rule_detections.specs.declared.item.Fields.{Fields}
+use Rattle.rule_detections.specs.declared.item.Fields.TheVariants.{Keyword, Names}
+use Rattle.rule_detections.specs.declared.item.Item.{Item}
 
 -- all of the values are satisfied, or some one of them
 abbrev pub JoinedHolds : Joined → (List Test → Type 0) → List (List Test) → Type 0

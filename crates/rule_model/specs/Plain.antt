@@ -4,7 +4,7 @@ use Rattle.sig_conditions.specs.Formulas.{PlainFormula, forms_view}
 use Rattle.yaml_tree.specs.Tree.{Member}
 use Rattle.rule_head.specs.Plain.{PlainHead, head_view, head_with}
 use Rattle.rule_head.specs.declared.source.LogSource.{LogSource}
-use Rattle.rule_items.specs.declared.detection.Detection.{Detection}
+use Rattle.rule_detections.specs.declared.detection.Detection.{Detection}
 use Rattle.rule_model.specs.declared.rule.Rule.{Rule}
 
 pub record PlainRule : Type 0 where

@@ -7,7 +7,7 @@ use Rattle.sig_base.specs.declared.refusal.Refusal.{Refusal}
 use Rattle.sig_base.specs.Judged.{must, first}
 use Rattle.yaml_tree.specs.Tree.{Tree}
 use Rattle.rule_model.specs.Conditions.{conditions_refusal, AreConditions}
-use Rattle.rule_items.specs.Detections.{detections_refusal, AreDetections}
+use Rattle.rule_detections.specs.Detections.{detections_refusal, AreDetections}
 use Rattle.rule_head.specs.Heads.{head_checks, IsHead}
 use Rattle.yaml_tree.specs.Nodes.{entries_in, value_in, has_key, place_of, required, refused_at}
 use Rattle.rule_model.specs.Plain.{PlainRule}

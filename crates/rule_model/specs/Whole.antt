@@ -3,7 +3,7 @@
 use Rattle.std.specs.Prelude.{ℕ, ◌<◌, length, ⊤}
 use Rattle.sig_conditions.specs.Formulas.{PlainFormula, FDetection, FNot, FAnd, FOr, PlainFormulas, no_forms, form}
 use Rattle.event_schema.specs.Lists.{EachOf, HasElement}
-use Rattle.rule_items.specs.Whole.{IsWholeDetection}
+use Rattle.rule_detections.specs.Whole.{IsWholeDetection}
 use Rattle.rule_model.specs.Plain.{PlainRule}
 
 -- the numbers are below this one, and no `and` or `or` is empty

@@ -6,7 +6,7 @@ ghost use Rattle.sig_conditions.specs.Formulas.{form_view, forms_view};
 ghost use Rattle.sig_base.specs.Judged.{Judged};
 ghost use Rattle.yaml_tree.specs.View.{node_view, entries_view};
 ghost use Rattle.rule_model.specs.Conditions as spec;
-ghost use Rattle.rule_items.specs.Detections.{is_key};
+ghost use Rattle.rule_detections.specs.Detections.{is_key};
 ghost use Rattle.event_schema.specs.Lists.{EachOf, HasElement};
 ghost use Rattle.yaml_tree.specs.Nodes.{parts_in};
 ghost use Rattle.rule_model.specs.Whole.{IsWholeForm};

@@ -2,14 +2,14 @@
 
 ghost use Rattle.std.specs.Prelude.{◌≡◌, ◌++◌, IfOk, IfErr, OnOk};
 ghost use Rattle.std.specs.List.{flat_map};
-ghost use Rattle.rule_items.specs.Expressions.{expression_at};
+ghost use Rattle.rule_detections.specs.Expressions.{expression_at};
 ghost use Rattle.rule_model.specs.Expressions as spec;
 ghost use Rattle.rule_model.specs.Plain.{rule_view};
-ghost use Rattle.rule_items.specs.TestExpressions.{expression_of};
+ghost use Rattle.rule_detections.specs.TestExpressions.{expression_of};
 ghost use Rattle.yaml_tree.specs.View.{node_view};
 
 use crate::rule::Rule;
-use rule_items::{Alternative, Detection, Expression, Expressions, Item, Test, Tests};
+use rule_detections::{Alternative, Detection, Expression, Expressions, Item, Test, Tests};
 use sig_base::{Fault, Limits, Place};
 use std::alloc::Global;
 use yaml_tree::{Node, value_at};
@@ -22,7 +22,7 @@ pub fn find_expressions(alloc: Global, limits: &Limits, node: &Node) -> Result<E
     let Some(detection) = value_at(node, "detection") else {
         return Ok(Expressions::new(alloc));
     };
-    rule_items::find_expressions(alloc, limits, detection)
+    rule_detections::find_expressions(alloc, limits, detection)
 }
 
 /// Adds the regular expression of a test at its item's place, if the test searches for one.

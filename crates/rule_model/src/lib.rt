@@ -2,7 +2,7 @@
 #![tactic(auto)]
 
 pub use expressions::find_expressions;
-pub use law::{
+pub use laws::{
     condition_of_text, lone_rules, one_rule, refused_as_built, rule_or_refusal, rules_are_whole,
 };
 pub use rule::Rule;
@@ -10,5 +10,5 @@ pub use rule::Rule;
 mod conditions;
 mod copies;
 mod expressions;
-mod law;
+mod laws;
 mod rule;

@@ -10,8 +10,8 @@ ghost use Rattle.rule_model.specs.Rules.{IsRule, rule_refusal, correlation_refus
 ghost use Rattle.rule_model.specs.Whole.{IsWhole};
 
 use crate::conditions::read_conditions;
+use rule_detections::{Detections, read_detections};
 use rule_head::{Head, LogSource, copy_rest};
-use rule_items::{Detections, read_detections};
 use sig_base::{Code, Fault, Limits, Place, refused};
 use sig_conditions::Formula;
 use std::alloc::Global;

@@ -1,8 +1,8 @@
 -- The names that tests compare with, one after the other.
 use Rattle.std.proofs.Common.{ℕ, ◌≡◌, List, [], ◌∷◌, ◌++◌, refl, ap, ◌∙◌}
-use Rattle.rule_items.specs.References.{references_in}
-use Rattle.rule_items.specs.declared.test.Test.{Test}
-use Rattle.rule_items.specs.declared.test.Test.TheVariants as tests
+use Rattle.rule_detections.specs.References.{references_in}
+use Rattle.rule_detections.specs.declared.test.Test.{Test}
+use Rattle.rule_detections.specs.declared.test.Test.TheVariants as tests
 use Rattle.rule_schema.specs.Compared.{value_names, values_names}
 
 value_first : (value : List Test) (values : List (List Test)) → references_in (value ∷ values) ≡ value_names value ++ references_in values

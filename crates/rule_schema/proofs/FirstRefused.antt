@@ -4,7 +4,7 @@ use Rattle.std.specs.List.{flat_map}
 use Rattle.std.proofs.lemmas.List.{drop_more, map-append}
 use Rattle.sig_base.specs.declared.refusal.Refusal.{Refusal}
 use Rattle.sig_base.specs.Judged.{first}
-use Rattle.rule_items.specs.declared.item.Item.{Item}
+use Rattle.rule_detections.specs.declared.item.Item.{Item}
 use Rattle.sig_base.proofs.Firsts.{first_none, first_some}
 
 line_at : (line : Item → Option Refusal) (i : ℕ) (xs : List Item) (x : Item) → i < length xs → x ≡ get_or xs i x → map line (drop i xs) ≡ line x ∷ map line (drop (i + 1) xs)

@@ -15,8 +15,8 @@ use Rattle.sig_base.specs.Judged.{refusal, Judged}
 use Rattle.sig_base.specs.declared.refusal.Fault.{Fault}
 use Rattle.sig_base.specs.declared.refusal.Fault.TheVariants.{Memory, Refused}
 use Rattle.sig_base.specs.declared.refusal.Refusal.{Refusal}
-use Rattle.rule_items.specs.declared.detection.Detection.{Detection}
-use Rattle.rule_items.specs.declared.item.Item.{Item}
+use Rattle.rule_detections.specs.declared.detection.Detection.{Detection}
+use Rattle.rule_detections.specs.declared.item.Item.{Item}
 use Rattle.rule_schema.specs.Asked.{asks_view, either_asks}
 use Rattle.rule_schema.specs.Gathered.{Gathers, texts_of, folds_to, differs, clash_with, joined as join, with_use, gathered, alternative_uses, detection_uses, field_of, AreMade}
 use Rattle.rule_schema.specs.Inferred.{Use, item_uses, uses_of, items_of, distinct, asks_in, made_field, clashes, clash_behind}

@@ -20,9 +20,9 @@ use Rattle.sig_base.specs.declared.refusal.Refusal.{Refusal}
 use Rattle.sig_base.proofs.Firsts.{from_error}
 use Rattle.text_index.proofs.Indexing.{same_bytes}
 use Rattle.sig_base.specs.declared.refusal.Place.{Place}
-use Rattle.rule_items.specs.References.{references_in}
-use Rattle.rule_items.specs.declared.test.Test.{Test}
-use Rattle.rule_items.specs.declared.item.Item.{Item}
+use Rattle.rule_detections.specs.References.{references_in}
+use Rattle.rule_detections.specs.declared.test.Test.{Test}
+use Rattle.rule_detections.specs.declared.item.Item.{Item}
 use Rattle.rule_schema.specs.Compared.{test_names, value_names}
 use Rattle.rule_schema.specs.Gathered.{AreFound, Gathers, use_of, texts_of, folds_to, next_place, place_of, differs, clash_with, joined, named, with_use, gathered, value_uses}
 use Rattle.rule_schema.specs.Inferred.{Use, item_uses}

@@ -13,8 +13,8 @@ use Rattle.event_schema.specs.Rows.{field_number}
 use Rattle.event_schema.specs.declared.schema.Field.{Field}
 use Rattle.event_schema.specs.declared.schema.FieldKind.{FieldKind}
 use Rattle.event_schema.specs.declared.schema.FieldKind.TheVariants as kinds
-use Rattle.rule_items.specs.References.{reference_of, references_in, listed}
-use Rattle.rule_items.specs.declared.test.Test.{Test}
+use Rattle.rule_detections.specs.References.{reference_of, references_in, listed}
+use Rattle.rule_detections.specs.declared.test.Test.{Test}
 use Rattle.rule_schema.specs.Compared.{test_names, values_names}
 use Rattle.rule_schema.specs.Inferred.{is_field}
 use Rattle.rule_schema.specs.Kinds.{asks_of, is_whole, is_address, is_field_of, are_alike, are_of_kinds}

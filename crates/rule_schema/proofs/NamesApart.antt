@@ -11,15 +11,15 @@ use Rattle.event_schema.specs.Names.{IsName}
 use Rattle.event_schema.specs.Schemas.{IsOther, AreApart, twin, IsField, names_of, IsSchema}
 use Rattle.sig_base.specs.declared.refusal.Place.{Place}
 use Rattle.sig_base.specs.declared.refusal.Refusal.{Refusal}
-use Rattle.rule_items.specs.PlainTests.{IsPlainTest, ArePlainTests}
-use Rattle.rule_items.specs.References.{references_in}
-use Rattle.rule_items.specs.declared.test.Test.{Test}
-use Rattle.rule_items.specs.declared.test.Test.TheVariants as tests
-use Rattle.rule_items.specs.Whole.{IsWholeValue, IsWholeItem, IsWholeAlternative, IsWholeDetection, AreWholeFields}
-use Rattle.rule_items.specs.declared.detection.Detection.{Detection}
-use Rattle.rule_items.specs.declared.item.Fields.{Fields}
-use Rattle.rule_items.specs.declared.item.Fields.TheVariants.{Keyword, Names}
-use Rattle.rule_items.specs.declared.item.Item.{Item}
+use Rattle.rule_detections.specs.PlainTests.{IsPlainTest, ArePlainTests}
+use Rattle.rule_detections.specs.References.{references_in}
+use Rattle.rule_detections.specs.declared.test.Test.{Test}
+use Rattle.rule_detections.specs.declared.test.Test.TheVariants as tests
+use Rattle.rule_detections.specs.Whole.{IsWholeValue, IsWholeItem, IsWholeAlternative, IsWholeDetection, AreWholeFields}
+use Rattle.rule_detections.specs.declared.detection.Detection.{Detection}
+use Rattle.rule_detections.specs.declared.item.Fields.{Fields}
+use Rattle.rule_detections.specs.declared.item.Fields.TheVariants.{Keyword, Names}
+use Rattle.rule_detections.specs.declared.item.Item.{Item}
 use Rattle.rule_model.specs.Plain.{PlainRule}
 use Rattle.rule_model.specs.Whole.{IsWhole}
 use Rattle.rule_schema.specs.Compared.{test_names, value_names, values_names}

@@ -1,8 +1,8 @@
 -- The names that tests compare with, test by test.
 use Rattle.std.specs.Prelude.{ℕ, List}
 use Rattle.std.specs.List.{flat_map}
-use Rattle.rule_items.specs.References.{reference_of, listed}
-use Rattle.rule_items.specs.declared.test.Test.{Test}
+use Rattle.rule_detections.specs.References.{reference_of, listed}
+use Rattle.rule_detections.specs.declared.test.Test.{Test}
 
 abbrev pub test_names : Test → List (List ℕ)
 test_names test = listed (reference_of test)

@@ -10,13 +10,13 @@ use Rattle.sig_base.specs.declared.refusal.Place.{Place}
 use Rattle.sig_base.specs.declared.refusal.Refusal.{Refusal}
 use Rattle.sig_base.specs.Judged.{must, first, refusal}
 use Rattle.rule_model.specs.Plain.{PlainRule}
-use Rattle.rule_items.specs.declared.detection.Detection.{Detection}
-use Rattle.rule_items.specs.declared.item.Fields.{Fields}
-use Rattle.rule_items.specs.declared.item.Fields.TheVariants.{Keyword, Names}
-use Rattle.rule_items.specs.declared.item.Item.{Item}
-use Rattle.rule_items.specs.PlainTests.{is_filled_test}
-use Rattle.rule_items.specs.References.{references_in}
-use Rattle.rule_items.specs.declared.test.Test.{Test}
+use Rattle.rule_detections.specs.declared.detection.Detection.{Detection}
+use Rattle.rule_detections.specs.declared.item.Fields.{Fields}
+use Rattle.rule_detections.specs.declared.item.Fields.TheVariants.{Keyword, Names}
+use Rattle.rule_detections.specs.declared.item.Item.{Item}
+use Rattle.rule_detections.specs.PlainTests.{is_filled_test}
+use Rattle.rule_detections.specs.References.{references_in}
+use Rattle.rule_detections.specs.declared.test.Test.{Test}
 use Rattle.rule_schema.specs.Kinds.{Asks, nothing_asked, asks_of, opposed, kind_for, names_in, are_of_kinds}
 
 -- the items of a rule, in its order

@@ -5,11 +5,11 @@ use Rattle.std.specs.Str.{bytes_eq}
 use Rattle.event_schema.specs.declared.schema.Field.{Field}
 use Rattle.event_schema.specs.declared.schema.FieldKind.{FieldKind}
 use Rattle.event_schema.specs.declared.schema.FieldKind.TheVariants as kinds
-use Rattle.rule_items.specs.declared.item.Fields.{Fields}
-use Rattle.rule_items.specs.declared.item.Fields.TheVariants.{Keyword, Names}
-use Rattle.rule_items.specs.References.{references_in}
-use Rattle.rule_items.specs.declared.test.Test.{Test}
-use Rattle.rule_items.specs.declared.test.Test.TheVariants as tests
+use Rattle.rule_detections.specs.declared.item.Fields.{Fields}
+use Rattle.rule_detections.specs.declared.item.Fields.TheVariants.{Keyword, Names}
+use Rattle.rule_detections.specs.References.{references_in}
+use Rattle.rule_detections.specs.declared.test.Test.{Test}
+use Rattle.rule_detections.specs.declared.test.Test.TheVariants as tests
 
 -- a test that stands on fields of whole numbers alone
 abbrev pub asks_whole : Test → Bool

@@ -4,8 +4,8 @@ use Rattle.std.specs.List.{list_any, list_all}
 use Rattle.std.specs.Str.{bytes_eq}
 use Rattle.event_schema.specs.declared.schema.Field.{Field}
 use Rattle.event_schema.specs.declared.schema.FieldKind.{FieldKind}
-use Rattle.field_numbers.specs.Numbered.{AreNumbered}
-use Rattle.field_numbers.specs.declared.numbers.FieldNumbers.{FieldNumbers}
+use Rattle.schema_index.specs.Numbered.{AreNumbered}
+use Rattle.schema_index.specs.declared.numbers.FieldNumbers.{FieldNumbers}
 use Rattle.rule_schema.specs.Inferred.{is_field}
 use Rattle.rule_schema.specs.Kinds.{Asks, is_whole, is_address, is_field_of}
 use Rattle.rule_schema.specs.declared.seen.Seen.{Seen}

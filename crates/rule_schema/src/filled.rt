@@ -6,10 +6,10 @@ ghost use Rattle.rule_model.specs.Plain.{rule_view};
 ghost use Rattle.rule_schema.specs.Fitting.{AnswersRefusal};
 ghost use Rattle.rule_schema.specs.Inferred as spec;
 ghost use Rattle.sig_base.specs.Judged.{first};
-ghost use Rattle.rule_items.specs.PlainTests.{is_filled_test};
+ghost use Rattle.rule_detections.specs.PlainTests.{is_filled_test};
 
 use crate::fit::unless;
-use rule_items::{Alternative, Detection, Item, Test, Tests};
+use rule_detections::{Alternative, Detection, Item, Test, Tests};
 use rule_model::Rule;
 use sig_base::{Code, Refusal};
 

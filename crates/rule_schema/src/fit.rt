@@ -3,9 +3,9 @@
 ghost use Rattle.std.specs.Prelude.{◌≡◌, map};
 ghost use Rattle.std.specs.List.{list_any, flat_map};
 ghost use Rattle.event_schema.specs.declared.schema.Field.{Field};
-ghost use Rattle.field_numbers.specs.Numbered.{AreNumbered};
+ghost use Rattle.schema_index.specs.Numbered.{AreNumbered};
 ghost use Rattle.sig_base.specs.Judged.{Judged, first, must};
-ghost use Rattle.rule_items.specs.declared.item.Fields.TheVariants.{Names};
+ghost use Rattle.rule_detections.specs.declared.item.Fields.TheVariants.{Names};
 ghost use Rattle.rule_model.specs.Plain.{rule_view};
 ghost use Rattle.rule_schema.specs.Fitting.{AnswersRefusal};
 ghost use Rattle.rule_schema.specs.Inferred as spec;
@@ -14,9 +14,9 @@ ghost use Rattle.rule_schema.specs.Looked.{AreNumberedIfAny};
 use crate::kinds::asked_by;
 use crate::seen::{look_names, look_references};
 use event_schema::{Field, Schema};
-use field_numbers::FieldNumbers;
-use rule_items::{Alternative, Detection, Fields, Item, Tests};
+use rule_detections::{Alternative, Detection, Fields, Item, Tests};
 use rule_model::Rule;
+use schema_index::FieldNumbers;
 use sig_base::{Code, Detail, Fault, Place, Refusal, Text};
 use std::alloc::Global;
 

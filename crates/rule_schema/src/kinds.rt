@@ -6,7 +6,7 @@ ghost use Rattle.rule_schema.specs.Asked.{asks_view, either_asks};
 ghost use Rattle.rule_schema.specs.Kinds as spec;
 
 use event_schema::FieldKind;
-use rule_items::{Test, Tests};
+use rule_detections::{Test, Tests};
 
 /// What is asked of a field: that it's one of whole numbers, that it's one of addresses.
 #[derive(Clone, Copy)]

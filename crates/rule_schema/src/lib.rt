@@ -8,7 +8,7 @@ pub use schema::infer_schema;
 mod filled;
 mod fit;
 mod kinds;
-mod law;
+mod laws;
 mod names;
 mod schema;
 mod seen;

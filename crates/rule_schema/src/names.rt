@@ -13,7 +13,7 @@ ghost use Rattle.rule_schema.specs.Inferred.{item_uses};
 ghost use Rattle.rule_schema.specs.Kinds.{names_in, opposed};
 
 use crate::kinds::{Asked, asked_by};
-use rule_items::{Alternative, Detection, Fields, Item, Test, Tests};
+use rule_detections::{Alternative, Detection, Fields, Item, Test, Tests};
 use sig_base::{Code, Fault, Place, Text, first_char, fold, refused};
 use std::alloc::{AllocError, Global};
 use std::collections::BTreeMap;

@@ -8,7 +8,7 @@ ghost use Rattle.rule_model.specs.Whole.{IsWhole};
 ghost use Rattle.rule_schema.specs.Gathered.{field_of};
 ghost use Rattle.rule_schema.specs.Inferred as spec;
 
-use crate::law::inferred_schemas;
+use crate::laws::inferred_schemas;
 use crate::names::{Named, gather};
 use event_schema::{Field, FieldList, Schema};
 use rule_model::Rule;

@@ -1,15 +1,15 @@
 //! What the fields of some names are.
 
 ghost use Rattle.std.specs.Prelude.{◌≡◌, ◌∷◌, [], ◌&&◌};
-ghost use Rattle.field_numbers.specs.Numbered.{AreNumbered};
+ghost use Rattle.schema_index.specs.Numbered.{AreNumbered};
 ghost use Rattle.rule_schema.specs.Asked.{asks_view};
 ghost use Rattle.rule_schema.specs.Compared.{test_names, value_names, values_names};
 ghost use Rattle.rule_schema.specs.Looked as spec;
 
 use crate::kinds::Asked;
 use event_schema::{Field, FieldKind};
-use field_numbers::FieldNumbers;
-use rule_items::{Test, Tests};
+use rule_detections::{Test, Tests};
+use schema_index::FieldNumbers;
 use sig_base::Text;
 
 /// Whether there is a name, and whether all names have a field, one of whole numbers, none of whole numbers, one of addresses.

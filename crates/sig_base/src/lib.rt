@@ -3,10 +3,10 @@
 
 pub use bytes::Bytes;
 pub use characters::{count_of, first_char};
+pub use check_steps::{must, refused};
 pub use code::Code;
 pub use faults::{Failed, LineFault, LineStep, ShelfFault};
 pub use folding::fold;
-pub use judging::{must, refused};
 pub use limits::Limits;
 pub use put::put_all;
 pub use refusal::{Detail, Fault, Place, Refusal};
@@ -18,10 +18,10 @@ pub use texts::Texts;
 
 mod bytes;
 mod characters;
+mod check_steps;
 mod code;
 mod faults;
 mod folding;
-mod judging;
 mod limits;
 mod put;
 mod refusal;

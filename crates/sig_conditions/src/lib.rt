@@ -3,7 +3,7 @@
 
 pub use condition::Condition;
 pub use formula::Formula;
-pub use law::{identifiers_are_names, one_condition, one_list_of_words, same_meaning};
+pub use laws::{identifiers_are_names, one_condition, one_list_of_words, same_meaning};
 pub use names::Names;
 pub use numbers::DetectionNumbers;
 pub use reading::read_condition;
@@ -11,16 +11,16 @@ pub use resolving::resolve_condition;
 pub use scan::is_identifier;
 pub use selector::Selector;
 
+mod budget;
 mod condition;
 mod copying;
 mod counting;
 mod formula;
 mod join;
-mod law;
+mod laws;
 mod look;
 mod names;
 mod numbers;
-mod paying;
 mod reader;
 mod reading;
 mod resolver;
@@ -28,6 +28,6 @@ mod resolving;
 mod scan;
 mod selector;
 mod stop;
-mod taking;
+mod taken_names;
 mod unresolved;
 mod word;

@@ -2,14 +2,14 @@
 #![tactic(auto)]
 
 mod encoding;
-mod law;
+mod laws;
 mod network;
 mod patterns;
 mod reading;
 mod utf16;
 
 pub use encoding::{base64_text, offset_pieces};
-pub use law::{
+pub use laws::{
     networks_are_read, one_base64_text, patterns_fit, pieces_stand, same_pieces, some_texts,
 };
 pub use network::Network;

@@ -4,7 +4,7 @@
 mod edits;
 mod fitting;
 mod hole;
-mod law;
+mod laws;
 mod name;
 mod part;
 mod pattern;
@@ -13,7 +13,7 @@ mod shared;
 mod sign;
 mod writing;
 
-pub use law::{joined_fits, one_pattern, plain_fits, runs_fit, stays_written};
+pub use laws::{joined_fits, one_pattern, plain_fits, runs_fit, stays_written};
 pub use name::HoleName;
 pub use part::Part;
 pub use pattern::Pattern;

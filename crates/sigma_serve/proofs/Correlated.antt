@@ -1,29 +1,29 @@
 -- What correlating the rules of files leaves, and that there is exactly one answer.
 use Rattle.std.proofs.Common.{◌≡◌, ℕ, ◌≤◌, Bool, true, false, List, [], ◌∷◌, ◌++◌, length, map, refl, ap, sym, ◌∙◌, subst, arith, Option, Some, None, Result, Ok, Err}
 use Rattle.std.specs.Prelude.{⊤, ◌||◌, Contains}
-use Rattle.answer_parts.proofs.Behind.{ends_behind}
-use Rattle.answer_parts.proofs.Ending.{Kind, Then, ends_as, ends_both, ends_later, ends_nothing, ends_written}
-use Rattle.answer_parts.proofs.Rows.{all_one, parts_one}
-use Rattle.answer_parts.specs.Each.{EachPart}
-use Rattle.answer_parts.specs.Input.{Input, World, Needs}
-use Rattle.answer_parts.specs.Parts.{Share, Part}
-use Rattle.answer_parts.specs.Stands.{Writes, Ends}
-use Rattle.answer_parts.specs.State.{State}
-use Rattle.answer_parts.specs.declared.stop.Stop.{Stop}
+use Rattle.answer_writer.proofs.Behind.{ends_behind}
+use Rattle.answer_writer.proofs.Ending.{Kind, Then, ends_as, ends_both, ends_later, ends_nothing, ends_written}
+use Rattle.answer_writer.proofs.Rows.{all_one, parts_one}
+use Rattle.answer_writer.specs.Each.{EachPart}
+use Rattle.answer_writer.specs.Input.{Input, World, Needs}
+use Rattle.answer_writer.specs.Parts.{Share, Part}
+use Rattle.answer_writer.specs.Stands.{Writes, Ends}
+use Rattle.answer_writer.specs.State.{State}
+use Rattle.answer_writer.specs.declared.stop.Stop.{Stop}
 use Rattle.correlation_files.specs.Found.{StandsFor}
 use Rattle.correlation_files.specs.Laws as files
 use Rattle.correlation_files.specs.Outcomes.{Outcome, AreOutcomes, refusals_in}
 use Rattle.correlation_files.specs.Places.{AreOfFile}
 use Rattle.correlation_files.specs.declared.found.Found.{Found}
-use Rattle.correlation_runs.specs.Laws as runs
+use Rattle.correlation_run.specs.Laws as runs
 use Rattle.event_schema.specs.Lists.{EachOf}
 use Rattle.event_schema.specs.declared.schema.Schema.{Schema}
 use Rattle.event_schema.specs.declared.schema.Time.{Time}
 use Rattle.pipeline_files.specs.Laws as pipelined
 use Rattle.pipeline_files.specs.Paired.{paired}
 use Rattle.pipeline_model.specs.declared.pipeline.Pipeline.{Pipeline}
-use Rattle.rule_building.specs.Unbuilt.{Unbuilt}
-use Rattle.rule_runs.specs.Files.{file_start}
+use Rattle.rule_regex.specs.Unbuilt.{Unbuilt}
+use Rattle.rule_run.specs.Files.{file_start}
 use Rattle.sig_base.specs.Judged.{refusal}
 use Rattle.sig_base.specs.declared.limits.Limits.{Limits}
 use Rattle.sig_base.specs.declared.refusal.Refusal.{Refusal}

@@ -2,25 +2,25 @@
 use Rattle.std.proofs.Common.{◌≡◌, ℕ, Bool, true, List, [], ◌∷◌, ◌++◌, map, refl, ap, sym, ◌∙◌, subst, Some, None, Result, Ok, Err}
 use Rattle.std.specs.Prelude.{◌||◌}
 use Rattle.std.specs.List.{AllZip}
-use Rattle.answer_parts.proofs.Ending.{Kind, Then, EachHas, ends_as, ends_both, ends_later, ends_less, ends_memory, ends_written, files_of}
-use Rattle.answer_parts.proofs.Rows.{all_one, each_all, shares_of}
-use Rattle.answer_parts.specs.FollowedLines.{FollowedLines}
-use Rattle.answer_parts.specs.Input.{World, Needs}
-use Rattle.answer_parts.specs.Parts.{Share, Part}
-use Rattle.answer_parts.specs.Stands.{Writes, Ends}
-use Rattle.answer_parts.specs.State.{State}
-use Rattle.answer_parts.specs.declared.stop.Stop.{Stop}
-use Rattle.answer_parts.specs.declared.stop.Stop.TheVariants.{Memory}
+use Rattle.answer_writer.proofs.Ending.{Kind, Then, EachHas, ends_as, ends_both, ends_later, ends_less, ends_memory, ends_written, files_of}
+use Rattle.answer_writer.proofs.Rows.{all_one, each_all, shares_of}
+use Rattle.answer_writer.specs.FollowedLines.{FollowedLines}
+use Rattle.answer_writer.specs.Input.{World, Needs}
+use Rattle.answer_writer.specs.Parts.{Share, Part}
+use Rattle.answer_writer.specs.Stands.{Writes, Ends}
+use Rattle.answer_writer.specs.State.{State}
+use Rattle.answer_writer.specs.declared.stop.Stop.{Stop}
+use Rattle.answer_writer.specs.declared.stop.Stop.TheVariants.{Memory}
 use Rattle.correlation_files.specs.Bindings.{shown_name, Verdict, IsVerdict, AreJudged, bounds_in, names_in, unbound_in}
 use Rattle.correlation_files.specs.Found.{IsBareOf, IsKept, StandsFor, Named, names_of_rules}
 use Rattle.correlation_files.specs.Laws as files
 use Rattle.correlation_files.specs.declared.bindings.Unbound.{Unbound}
 use Rattle.correlation_files.specs.declared.found.Found.{Found}
 use Rattle.correlation_files.specs.declared.found.Sourced.{Sourced}
-use Rattle.correlation_rules.specs.Binding.{Names, bind_refusal, IsBound}
-use Rattle.correlation_rules.specs.Correlations.{PlainCorrelation, correlation_view, correlation_with}
-use Rattle.correlation_runs.specs.Followed.{Correlating, Follows}
-use Rattle.correlation_runs.specs.Laws as runs
+use Rattle.correlation_read.specs.Binding.{Names, bind_refusal, IsBound}
+use Rattle.correlation_read.specs.Correlations.{PlainCorrelation, correlation_view, correlation_with}
+use Rattle.correlation_run.specs.Followed.{Correlating, Follows}
+use Rattle.correlation_run.specs.Laws as runs
 use Rattle.correlation_windows.specs.History.{Taken}
 use Rattle.correlation_windows.specs.declared.bound.Bound.{Bound}
 use Rattle.event_schema.specs.Lists.{EachOf}

@@ -4,20 +4,20 @@ use Rattle.pipeline_files.specs.Paired.{paired}
 use Rattle.pipeline_model.specs.declared.pipeline.Pipeline.{Pipeline}
 use Rattle.std.specs.Prelude.{◌||◌, ◌⊎◌}
 use Rattle.std.proofs.lemmas.List.{map-append}
-use Rattle.answer_parts.proofs.Rows.{around, before_and, each_all, all_one, one_share}
-use Rattle.answer_parts.proofs.Shares.{joined_append}
-use Rattle.answer_parts.proofs.Wrote.{Both, writes_as, writes_both, writes_stop, writes_less, writes_nothing, writes_memory}
-use Rattle.answer_parts.specs.Each.{EachShare, AllShares}
-use Rattle.answer_parts.specs.Parts.{Share, no_share, join, joined}
-use Rattle.answer_parts.specs.Stands.{Writes}
-use Rattle.answer_parts.specs.State.{State}
-use Rattle.answer_parts.specs.declared.stop.Stop.{Stop}
-use Rattle.answer_parts.specs.declared.stop.Stop.TheVariants.{Memory}
+use Rattle.answer_writer.proofs.Rows.{around, before_and, each_all, all_one, one_share}
+use Rattle.answer_writer.proofs.Shares.{joined_append}
+use Rattle.answer_writer.proofs.Wrote.{Both, writes_as, writes_both, writes_stop, writes_less, writes_nothing, writes_memory}
+use Rattle.answer_writer.specs.Each.{EachShare, AllShares}
+use Rattle.answer_writer.specs.Parts.{Share, no_share, join, joined}
+use Rattle.answer_writer.specs.Stands.{Writes}
+use Rattle.answer_writer.specs.State.{State}
+use Rattle.answer_writer.specs.declared.stop.Stop.{Stop}
+use Rattle.answer_writer.specs.declared.stop.Stop.TheVariants.{Memory}
 use Rattle.correlation_files.specs.Places.{AreOfDocument}
 use Rattle.event_schema.specs.Lists.{EachOf}
-use Rattle.rule_building.proofs.Lists.{each_joined}
-use Rattle.rule_building.specs.Unbuilt.{Unbuilt, none_unbuilt, refused_texts}
-use Rattle.rule_runs.specs.Files.{yaml_refusal}
+use Rattle.rule_regex.proofs.Lists.{each_joined}
+use Rattle.rule_regex.specs.Unbuilt.{Unbuilt, none_unbuilt, refused_texts}
+use Rattle.rule_run.specs.Files.{yaml_refusal}
 use Rattle.sig_base.specs.declared.limits.Limits.{Limits}
 use Rattle.sig_base.specs.declared.refusal.Detail.TheVariants as details
 use Rattle.sig_base.specs.declared.refusal.Refusal.{Refusal}
@@ -28,7 +28,7 @@ use Rattle.sigma_serve.specs.Reports.{refusal_share}
 use Rattle.sigma_serve.specs.RuleFiles.{ByTree, ByUnbuilt, BySome, DocumentGives, FileGivesAt, as_one_at, by_document_at, DocumentsBySome, FileBySome}
 use Rattle.yaml_documents.specs.Given.{answers_view}
 use Rattle.yaml_documents.specs.Verdicts as yaml
-use Rattle.yaml_files.specs.Call.{IsCallRefusal, IsTaken}
+use Rattle.yaml_documents.specs.Call.{IsCallRefusal, IsTaken}
 use Rattle.yaml_tree.specs.Tree.{At, Tree, Answer, tree, refusal}
 use Rattle.yaml_tree.specs.View.{document_view}
 use Rattle.yaml_tree.specs.declared.tree.Document.{Document}

@@ -1,14 +1,14 @@
 -- An answer that was cut off, of which more would have been told.
 use Rattle.std.proofs.Common.{◌≡◌, false, true, List, ◌++◌, ap, sym, subst, append_assoc, refl, ◌∙◌, Option, None, Some, Err}
-use Rattle.answer_parts.proofs.Ending.{Kind, files_of}
-use Rattle.answer_parts.proofs.Shares.{cut_longer, share_append}
-use Rattle.answer_parts.specs.Cut.{Cut}
-use Rattle.answer_parts.specs.Input.{Input, File, Events, World, Needs, IsNeeded, IsTold}
-use Rattle.answer_parts.specs.Parts.{Share, Part, share_of}
-use Rattle.answer_parts.specs.Stands.{Cause, StopsAt, Stands, Ends}
-use Rattle.answer_parts.specs.State.{State, Inputs}
-use Rattle.answer_parts.specs.declared.stop.Stop.{Stop}
-use Rattle.answer_parts.specs.declared.stop.Stop.TheVariants.{Unread, Unwritten, Memory}
+use Rattle.answer_writer.proofs.Ending.{Kind, files_of}
+use Rattle.answer_writer.proofs.Shares.{cut_longer, share_append}
+use Rattle.answer_writer.specs.Cut.{Cut}
+use Rattle.answer_writer.specs.Input.{Input, File, Events, World, Needs, IsNeeded, IsTold}
+use Rattle.answer_writer.specs.Parts.{Share, Part, share_of}
+use Rattle.answer_writer.specs.Stands.{Cause, StopsAt, Stands, Ends}
+use Rattle.answer_writer.specs.State.{State, Inputs}
+use Rattle.answer_writer.specs.declared.stop.Stop.{Stop}
+use Rattle.answer_writer.specs.declared.stop.Stop.TheVariants.{Unread, Unwritten, Memory}
 
 not_true : false ≡ true → ⊥
 not_true same = cc

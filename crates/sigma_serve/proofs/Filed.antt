@@ -6,26 +6,26 @@ use Rattle.pipeline_model.specs.declared.pipeline.Pipeline.{Pipeline}
 use Rattle.std.specs.Prelude.{◌||◌, MatchOption, unwrap_or, Contains}
 use Rattle.std.proofs.lemmas.Bool.{cases_lt}
 use Rattle.std.proofs.lemmas.List.{take_all, length-take-le}
-use Rattle.answer_parts.proofs.Ending.{Then, EventsAside, EachHas, ends_as, ends_both, ends_later, ends_less, ends_nothing, ends_written, files_of}
-use Rattle.answer_parts.proofs.Rows.{around, before_and, each_parts, parts_append, parts_aside}
-use Rattle.answer_parts.proofs.Unread.{ends_unread}
-use Rattle.answer_parts.specs.Each.{EachPart}
-use Rattle.answer_parts.specs.Input.{Input, World, Needs, File}
-use Rattle.answer_parts.specs.Parts.{Share, Part}
-use Rattle.answer_parts.specs.Stands.{Writes, Ends, StopsBefore}
-use Rattle.answer_parts.specs.State.{State}
-use Rattle.answer_parts.specs.declared.stop.Stop.{Stop}
+use Rattle.answer_writer.proofs.Ending.{Then, EventsAside, EachHas, ends_as, ends_both, ends_later, ends_less, ends_nothing, ends_written, files_of}
+use Rattle.answer_writer.proofs.Rows.{around, before_and, each_parts, parts_append, parts_aside}
+use Rattle.answer_writer.proofs.Unread.{ends_unread}
+use Rattle.answer_writer.specs.Each.{EachPart}
+use Rattle.answer_writer.specs.Input.{Input, World, Needs, File}
+use Rattle.answer_writer.specs.Parts.{Share, Part}
+use Rattle.answer_writer.specs.Stands.{Writes, Ends, StopsBefore}
+use Rattle.answer_writer.specs.State.{State}
+use Rattle.answer_writer.specs.declared.stop.Stop.{Stop}
 use Rattle.correlation_files.specs.Places.{AreOfFile}
 use Rattle.event_schema.specs.Lists.{EachOf}
-use Rattle.rule_building.proofs.Lists.{each_joined}
-use Rattle.rule_building.specs.Unbuilt.{Unbuilt}
+use Rattle.rule_regex.proofs.Lists.{each_joined}
+use Rattle.rule_regex.specs.Unbuilt.{Unbuilt}
 use Rattle.sig_base.specs.Files.{file_at, IsFront}
 use Rattle.sig_base.specs.declared.limits.Limits.{Limits}
 use Rattle.sigma_serve.proofs.Placed.{firsts, of_both, follows_both, paired_of, no_more, beside, beside_of, beside_follows, none_of_files, each_later}
 use Rattle.sigma_serve.proofs.Trees.{cut}
 use Rattle.sigma_serve.specs.Laws.{EachFile, OneFile}
 use Rattle.sigma_serve.specs.RuleFiles.{ByUnbuilt, FileGivesAt, as_one_at, by_document_at, RuleFileAt, AreOfFiles, FileBySome, FilesBySome, all_texts, contents}
-use Rattle.yaml_files.specs.Call.{IsCallRefusal}
+use Rattle.yaml_documents.specs.Call.{IsCallRefusal}
 use Rattle.yaml_tree.specs.Tree.{At}
 
 pub parts_as : {X : Type 0} (P Q : X → World → Part → Type 0) → ((x : X) (world : World) (part : Part) → P x world part → Q x world part)

@@ -1,14 +1,14 @@
 -- What a call that follows events leaves, from how following them ended.
 use Rattle.std.proofs.Common.{◌≡◌, ℕ, Bool, true, false, List, [], refl, ap, ◌∙◌, subst, arith, Option, None, Some, Ok, Err}
 use Rattle.std.specs.Prelude.{Contains}
-use Rattle.answer_parts.specs.FollowedLines.{FollowedLines}
-use Rattle.answer_parts.specs.Input.{Input, File, Events, World, Needs, IsTold}
-use Rattle.answer_parts.specs.Parts.{Part, share_of, Gains}
-use Rattle.answer_parts.specs.Stands.{Cause, Stands, Ends}
-use Rattle.answer_parts.specs.State.{State as OutsideState, SomeWriteFailed}
-use Rattle.answer_parts.specs.declared.stop.Stop.TheVariants as stop
-use Rattle.correlation_runs.specs.Followed.{Correlating, Follows}
-use Rattle.correlation_runs.specs.Laws as runs
+use Rattle.answer_writer.specs.FollowedLines.{FollowedLines}
+use Rattle.answer_writer.specs.Input.{Input, File, Events, World, Needs, IsTold}
+use Rattle.answer_writer.specs.Parts.{Part, share_of, Gains}
+use Rattle.answer_writer.specs.Stands.{Cause, Stands, Ends}
+use Rattle.answer_writer.specs.State.{State as OutsideState, SomeWriteFailed}
+use Rattle.answer_writer.specs.declared.stop.Stop.TheVariants as stop
+use Rattle.correlation_run.specs.Followed.{Correlating, Follows}
+use Rattle.correlation_run.specs.Laws as runs
 use Rattle.correlation_windows.specs.History.{Taken}
 use Rattle.correlation_windows.specs.Kept.{State, StandsFor}
 use Rattle.sig_base.specs.Causes.{Rose}

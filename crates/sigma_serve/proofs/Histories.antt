@@ -1,9 +1,9 @@
 -- Lines that are followed behind a history: there is an answer, and one only, and what is so by other definitions of a line's answer.
 use Rattle.std.proofs.Common.{◌≡◌, ℕ, Bool, true, false, List, [], ◌∷◌, refl, ap, sym, ◌∙◌, subst, Option, Some}
-use Rattle.answer_parts.specs.EventLines.{events_part, is_blank, line_refused}
-use Rattle.answer_parts.specs.FollowedLines.{ByHistory, EachFollows, FollowsWithin, UnlessBlankFollows, StepFollows, FollowParts, FollowedLines}
-use Rattle.answer_parts.specs.Input.{Input, World, Events}
-use Rattle.answer_parts.specs.Parts.{Share, Part, no_share}
+use Rattle.answer_writer.specs.EventLines.{events_part, is_blank, line_refused}
+use Rattle.answer_writer.specs.FollowedLines.{ByHistory, EachFollows, FollowsWithin, UnlessBlankFollows, StepFollows, FollowParts, FollowedLines}
+use Rattle.answer_writer.specs.Input.{Input, World, Events}
+use Rattle.answer_writer.specs.Parts.{Share, Part, no_share}
 use Rattle.event_lines.specs.Lines.{lines_of}
 use Rattle.sig_base.specs.declared.faults.LineStep.{LineStep}
 use Rattle.sig_base.specs.declared.faults.LineStep.TheVariants.{Line, TooLong, TooMuch, End}

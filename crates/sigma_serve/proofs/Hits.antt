@@ -2,15 +2,15 @@
 use Rattle.std.proofs.Common.{ℕ, ℤ, Bool, List, [], ◌∷◌, map, sym, subst, Option, None, Some, Result, Ok, Err}
 use Rattle.std.specs.Prelude.{◌↔◌, IsTrue}
 use Rattle.std.specs.List.{AllZip}
-use Rattle.answer_parts.specs.FollowedLines.{FollowsWithin}
-use Rattle.answer_parts.specs.Parts.{Share}
+use Rattle.answer_writer.specs.FollowedLines.{FollowsWithin}
+use Rattle.answer_writer.specs.Parts.{Share}
 use Rattle.correlation_files.specs.Found.{IsBareOf}
-use Rattle.correlation_runs.specs.Followed.{Correlating, AreHits, MomentFollows, early, taken, OccurrenceFollows, EventFollows, Follows}
+use Rattle.correlation_run.specs.Followed.{Correlating, AreHits, MomentFollows, early, taken, OccurrenceFollows, EventFollows, Follows}
 use Rattle.correlation_windows.specs.History.{Taken}
 use Rattle.correlation_windows.specs.declared.bound.Bound.{Bound}
 use Rattle.detection_eval.specs.Ready as ready
 use Rattle.detection_eval.specs.declared.ready.Ready.{Ready}
-use Rattle.event_reading.specs.EventOf.{event_of}
+use Rattle.event_read.specs.EventOf.{event_of}
 use Rattle.event_schema.specs.Occurrence.{Occurrence}
 use Rattle.event_schema.specs.declared.schema.Field.{Field}
 use Rattle.event_schema.specs.declared.schema.Schema.{Schema}

@@ -1,16 +1,16 @@
 -- That each tree has exactly one answer under each command.
 use Rattle.std.proofs.Common.{◌≡◌, ℕ, List, refl, ap, sym, ◌∙◌, Option, Some, None, Result, Ok, Err}
-use Rattle.answer_parts.specs.Parts.{Share}
+use Rattle.answer_writer.specs.Parts.{Share}
 use Rattle.correlation_files.specs.Checked.{check_refusal}
 use Rattle.event_schema.specs.declared.schema.Schema.{Schema}
-use Rattle.pipeline_chain.specs.Chained.{run_pipelines, Makes}
+use Rattle.pipeline_run.specs.Chained.{run_pipelines, Makes}
 use Rattle.pipeline_model.specs.declared.pipeline.Pipeline.{Pipeline}
-use Rattle.rule_building.specs.Unbuilt.{Unbuilt}
+use Rattle.rule_regex.specs.Unbuilt.{Unbuilt}
 use Rattle.rule_model.specs.Plain.{PlainRule}
 use Rattle.rule_model.specs.Rules.{lone_refusal, IsLoneRule}
-use Rattle.rule_queries.specs.NamedQueries.{query_of, query_refusal, IsConverted, IsRefused}
-use Rattle.rule_queries.specs.Verdicts as rules
-use Rattle.rule_queries.specs.declared.backend_name.BackendName.{BackendName}
+use Rattle.rule_convert.specs.NamedQueries.{query_of, query_refusal, IsConverted, IsRefused}
+use Rattle.rule_convert.specs.Verdicts as rules
+use Rattle.rule_convert.specs.declared.backend_name.BackendName.{BackendName}
 use Rattle.sig_base.specs.Judged.{Judged}
 use Rattle.sig_base.specs.declared.limits.Limits.{Limits}
 use Rattle.sig_base.specs.declared.refusal.Fault.{Fault}

@@ -9,7 +9,7 @@ pub mod Fronts
 pub mod Histories
 pub mod Hits
 pub mod Judged
-pub mod Laws
+pub mod RequestLaws
 pub mod Lifted
 pub mod Made
 pub mod Named

@@ -1,21 +1,21 @@
 -- The places of a request: what is answered under a schema for some places is the answer to the request for these.
 use Rattle.std.proofs.Common.{◌≡◌, ℕ, Bool, true, false, List, [], refl, sym, ◌∙◌, subst, ◌∷◌, Option, Some, None, Result, Ok, Err, inl, inr}
-use Rattle.answer_parts.proofs.Ending.{ends_as}
-use Rattle.answer_parts.specs.Input.{World, Needs}
-use Rattle.answer_parts.specs.Parts.{Part, no_share}
-use Rattle.answer_parts.specs.Stands.{Ends}
-use Rattle.answer_parts.specs.State.{State}
-use Rattle.answer_parts.specs.declared.stop.Stop.{Stop}
-use Rattle.event_reading.specs.SchemaOf.{schema_of}
+use Rattle.answer_writer.proofs.Ending.{ends_as}
+use Rattle.answer_writer.specs.Input.{World, Needs}
+use Rattle.answer_writer.specs.Parts.{Part, no_share}
+use Rattle.answer_writer.specs.Stands.{Ends}
+use Rattle.answer_writer.specs.State.{State}
+use Rattle.answer_writer.specs.declared.stop.Stop.{Stop}
+use Rattle.event_read.specs.SchemaOf.{schema_of}
 use Rattle.event_schema.specs.declared.schema.Schema.{Schema}
 use Rattle.event_schema.specs.declared.schema.Time.{Time}
-use Rattle.pipeline_chain.specs.Priorities.{by_priority}
+use Rattle.pipeline_run.specs.Priorities.{by_priority}
 use Rattle.pipeline_files.specs.Laws as files
 use Rattle.pipeline_files.specs.Outcomes.{ArePipelines, AreCauses}
 use Rattle.pipeline_model.specs.declared.pipeline.Pipeline.{Pipeline}
-use Rattle.rule_building.specs.Unbuilt.{Unbuilt, none_unbuilt}
-use Rattle.rule_queries.specs.declared.backend_name.BackendName.{BackendName}
-use Rattle.rule_runs.proofs.Runs.{single_later}
+use Rattle.rule_regex.specs.Unbuilt.{Unbuilt, none_unbuilt}
+use Rattle.rule_convert.specs.declared.backend_name.BackendName.{BackendName}
+use Rattle.rule_run.proofs.Runs.{single_later}
 use Rattle.sig_base.specs.declared.limits.Limits.{Limits}
 use Rattle.sig_base.specs.declared.refusal.Refusal.{Refusal}
 use Rattle.sigma_serve.proofs.Filed.{files_placed}
@@ -35,7 +35,7 @@ use Rattle.sigma_serve.specs.UnderPipelines.{UnderPipelines, unpiped, piped_by, 
 use Rattle.sigma_serve.specs.UnderSchema.{UnderSchema, without, under, refused, file_part, IsUnschemed, UnderBuilder}
 use Rattle.sigma_serve.specs.declared.request.Request.{Request}
 use Rattle.sigma_serve.specs.declared.request.Request.TheVariants.{Check, Convert, Run, Query, Correlate, Generate}
-use Rattle.text_places.specs.Places.{CodeAt}
+use Rattle.query_tokens.specs.Places.{CodeAt}
 
 -- ---- places of one kind
 

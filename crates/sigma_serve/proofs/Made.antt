@@ -1,15 +1,15 @@
 -- What writing the line of what is generated leaves.
 use Rattle.std.proofs.Common.{◌≡◌, ℕ, Bool, false, List, [], ◌∷◌, ap, None, Result, Err}
-use Rattle.answer_parts.proofs.Ending.{ends_written, ends_memory}
-use Rattle.answer_parts.specs.Input.{Needs}
-use Rattle.answer_parts.specs.Lines.{ended}
-use Rattle.answer_parts.specs.Parts.{Share, text_share}
-use Rattle.answer_parts.specs.Stands.{Ends, Writes}
-use Rattle.answer_parts.specs.State.{State}
-use Rattle.answer_parts.specs.declared.stop.Stop.{Stop}
-use Rattle.answer_parts.specs.declared.stop.Stop.TheVariants.{Memory}
-use Rattle.generation.specs.Lines.{IsGenerated}
-use Rattle.sigma_serve.proofs.Laws.{each_made}
+use Rattle.answer_writer.proofs.Ending.{ends_written, ends_memory}
+use Rattle.answer_writer.specs.Input.{Needs}
+use Rattle.answer_writer.specs.Lines.{ended}
+use Rattle.answer_writer.specs.Parts.{Share, text_share}
+use Rattle.answer_writer.specs.Stands.{Ends, Writes}
+use Rattle.answer_writer.specs.State.{State}
+use Rattle.answer_writer.specs.declared.stop.Stop.{Stop}
+use Rattle.answer_writer.specs.declared.stop.Stop.TheVariants.{Memory}
+use Rattle.generate_run.specs.Lines.{IsGenerated}
+use Rattle.sigma_serve.proofs.RequestLaws.{each_made}
 use Rattle.sigma_serve.proofs.Lifted.{IsMadeLine}
 use Rattle.sigma_serve.specs.Laws.{EachGenerated}
 

@@ -1,9 +1,9 @@
 -- The laws of queries that are asked, by the names of the backends that write them.
-use Rattle.query_runs.specs.Laws as asking
-use Rattle.rule_queries.specs.NamedQueries.{Query, is_query, is_within, picks}
-use Rattle.rule_queries.specs.declared.backend_name.BackendName.{BackendName}
-use Rattle.rule_queries.specs.declared.backend_name.BackendName.TheVariants.{Sqlite, Lucene}
-use Rattle.selected_lines.specs.Selected.{IsDecided}
+use Rattle.query_read.specs.Laws as asking
+use Rattle.rule_convert.specs.NamedQueries.{Query, is_query, is_within, picks}
+use Rattle.rule_convert.specs.declared.backend_name.BackendName.{BackendName}
+use Rattle.rule_convert.specs.declared.backend_name.BackendName.TheVariants.{Sqlite, Lucene}
+use Rattle.answer_writer.specs.Selected.{IsDecided}
 use Rattle.sigma_serve.proofs.Queried.{each_queried, one_queried}
 use Rattle.sigma_serve.specs.Languages.{patterns, refuses}
 use Rattle.sigma_serve.specs.Laws.{EachQueried, OneQueried}

@@ -1,16 +1,16 @@
 -- That there is one answer under the schema of a file, and under the pipelines of one.
 use Rattle.std.proofs.Common.{◌≡◌, ℕ, List, [], ◌∷◌, ap, sym, ◌∙◌, subst, Option, None, Some, Result, Ok, Err}
-use Rattle.answer_parts.proofs.Rows.{all_one}
-use Rattle.answer_parts.specs.Input.{World}
-use Rattle.answer_parts.specs.Parts.{Share, Part, no_share}
-use Rattle.event_reading.specs.SchemaOf.{schema_of}
+use Rattle.answer_writer.proofs.Rows.{all_one}
+use Rattle.answer_writer.specs.Input.{World}
+use Rattle.answer_writer.specs.Parts.{Share, Part, no_share}
+use Rattle.event_read.specs.SchemaOf.{schema_of}
 use Rattle.event_schema.specs.declared.schema.Schema.{Schema}
-use Rattle.pipeline_chain.specs.Priorities.{by_priority}
+use Rattle.pipeline_run.specs.Priorities.{by_priority}
 use Rattle.pipeline_files.specs.Laws as pipelined
 use Rattle.pipeline_files.specs.Outcomes.{ArePipelines, AreCauses}
 use Rattle.pipeline_model.specs.declared.pipeline.Pipeline.{Pipeline}
-use Rattle.rule_building.specs.Unbuilt.{Unbuilt}
-use Rattle.rule_runs.specs.Files.{file_start}
+use Rattle.rule_regex.specs.Unbuilt.{Unbuilt}
+use Rattle.rule_run.specs.Files.{file_start}
 use Rattle.sig_base.specs.Judged.{refusal as refused_at}
 use Rattle.sig_base.specs.declared.limits.Limits.{Limits}
 use Rattle.sig_base.specs.declared.refusal.Refusal.{Refusal}

@@ -3,26 +3,26 @@ use Rattle.std.proofs.Common.{◌≡◌, ℕ, suc, ◌+◌, ◌<◌, Bool, true,
 use Rattle.std.specs.Prelude.{◌⊎◌, Contains, int_le}
 use Rattle.std.proofs.lemmas.Bool.{cases_lt}
 use Rattle.std.proofs.lemmas.List.{take_all, length-take-le}
-use Rattle.answer_parts.proofs.Behind.{ends_behind}
-use Rattle.answer_parts.proofs.Ending.{ends_as, ends_written}
-use Rattle.answer_parts.proofs.Rows.{each_all}
-use Rattle.answer_parts.proofs.Shares.{cut_nothing}
-use Rattle.answer_parts.proofs.Unread.{Begins, ends_unread}
-use Rattle.answer_parts.specs.Input.{Needs, World, File}
-use Rattle.answer_parts.specs.Parts.{Share, Part, share_of, no_share}
-use Rattle.answer_parts.specs.Stands.{Ends, StopsBefore, Writes}
-use Rattle.answer_parts.specs.State.{State}
-use Rattle.answer_parts.specs.declared.stop.Stop.{Stop}
-use Rattle.answer_parts.specs.declared.stop.Stop.TheVariants.{Memory}
+use Rattle.answer_writer.proofs.Behind.{ends_behind}
+use Rattle.answer_writer.proofs.Ending.{ends_as, ends_written}
+use Rattle.answer_writer.proofs.Rows.{each_all}
+use Rattle.answer_writer.proofs.Shares.{cut_nothing}
+use Rattle.answer_writer.proofs.Unread.{Begins, ends_unread}
+use Rattle.answer_writer.specs.Input.{Needs, World, File}
+use Rattle.answer_writer.specs.Parts.{Share, Part, share_of, no_share}
+use Rattle.answer_writer.specs.Stands.{Ends, StopsBefore, Writes}
+use Rattle.answer_writer.specs.State.{State}
+use Rattle.answer_writer.specs.declared.stop.Stop.{Stop}
+use Rattle.answer_writer.specs.declared.stop.Stop.TheVariants.{Memory}
 use Rattle.event_schema.specs.Lists.{EachOf}
 use Rattle.event_schema.specs.declared.schema.Schema.{Schema}
-use Rattle.pipeline_chain.specs.Priorities.{placed_among, by_priority}
+use Rattle.pipeline_run.specs.Priorities.{placed_among, by_priority}
 use Rattle.pipeline_files.specs.Laws as files
 use Rattle.pipeline_files.specs.Outcomes.{ArePipelines, AreCauses, as_one, by_document}
 use Rattle.pipeline_files.specs.Paired.{paired}
 use Rattle.pipeline_files.specs.Places.{AreOfDocument, AreOfPipelines, file_texts}
 use Rattle.pipeline_model.specs.declared.pipeline.Pipeline.{Pipeline}
-use Rattle.rule_building.specs.Unbuilt.{Unbuilt, none_unbuilt}
+use Rattle.rule_regex.specs.Unbuilt.{Unbuilt, none_unbuilt}
 use Rattle.sig_base.specs.Files.{IsFront}
 use Rattle.sig_base.specs.declared.limits.Limits.{Limits}
 use Rattle.sig_base.specs.declared.refusal.Refusal.{Refusal}
@@ -34,7 +34,7 @@ use Rattle.sigma_serve.specs.Reports.{refusal_share}
 use Rattle.sigma_serve.specs.RuleFiles.{contents}
 use Rattle.sigma_serve.specs.UnderPipelines.{AreReported, UnderPipelines, unpiped, piped_by, not_piped, ByPipelines, PipedBuilder, ArePipedPlaces}
 use Rattle.sigma_serve.specs.UnderSchema.{file_part, is_ended}
-use Rattle.yaml_files.specs.Call.{IsCallRefusal}
+use Rattle.yaml_documents.specs.Call.{IsCallRefusal}
 use Rattle.yaml_tree.specs.Tree.{At, Answer, tree, refusal}
 
 -- ---- by their priority

@@ -5,11 +5,11 @@ use Rattle.pipeline_model.specs.declared.pipeline.Pipeline.{Pipeline}
 use Rattle.std.specs.List.{flat_map}
 use Rattle.std.proofs.lemmas.Grind.{flat_map-append}
 use Rattle.std.proofs.lemmas.List.{length-map, map-append}
-use Rattle.answer_parts.specs.Input.{World}
+use Rattle.answer_writer.specs.Input.{World}
 use Rattle.correlation_files.specs.Places.{AreOfDocument, AreOfFile}
 use Rattle.event_schema.specs.Lists.{EachOf}
-use Rattle.rule_building.specs.Unbuilt.{Unbuilt, none_unbuilt}
-use Rattle.rule_runs.proofs.Runs.{none_are, unbuilt_later}
+use Rattle.rule_regex.specs.Unbuilt.{Unbuilt, none_unbuilt}
+use Rattle.rule_run.proofs.Runs.{none_are, unbuilt_later}
 use Rattle.sig_base.specs.declared.limits.Limits.{Limits}
 use Rattle.sigma_serve.specs.RuleFiles.{AreOfFiles, contents}
 use Rattle.yaml_tree.specs.Tree.{Answer, tree, refusal}

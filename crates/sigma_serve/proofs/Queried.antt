@@ -3,26 +3,26 @@ use Rattle.std.proofs.Common.{◌≡◌, ℕ, ◌+◌, ◌<◌, Bool, true, fals
 use Rattle.std.specs.Prelude.{◌⊎◌, Contains}
 use Rattle.std.proofs.lemmas.Bool.{cases_lt}
 use Rattle.std.proofs.lemmas.List.{take_all, length-take-le}
-use Rattle.answer_parts.proofs.Behind.{ends_behind}
-use Rattle.answer_parts.proofs.Ending.{ends_nothing, ends_written}
-use Rattle.answer_parts.proofs.Lined.{each_answer, lines_one}
-use Rattle.answer_parts.proofs.Shares.{cut_nothing}
-use Rattle.answer_parts.proofs.Unread.{Begins, ends_unread}
-use Rattle.answer_parts.specs.EventLines.{EventLines}
-use Rattle.answer_parts.specs.Input.{World, Needs, File}
-use Rattle.answer_parts.specs.Parts.{Share, Part, share_of, no_share}
-use Rattle.answer_parts.specs.Stands.{Writes, Ends, StopsBefore}
-use Rattle.answer_parts.specs.State.{State}
-use Rattle.answer_parts.specs.declared.stop.Stop.{Stop}
-use Rattle.answer_parts.specs.declared.stop.Stop.TheVariants.{Memory}
+use Rattle.answer_writer.proofs.Behind.{ends_behind}
+use Rattle.answer_writer.proofs.Ending.{ends_nothing, ends_written}
+use Rattle.answer_writer.proofs.Lined.{each_answer, lines_one}
+use Rattle.answer_writer.proofs.Shares.{cut_nothing}
+use Rattle.answer_writer.proofs.Unread.{Begins, ends_unread}
+use Rattle.answer_writer.specs.EventLines.{EventLines}
+use Rattle.answer_writer.specs.Input.{World, Needs, File}
+use Rattle.answer_writer.specs.Parts.{Share, Part, share_of, no_share}
+use Rattle.answer_writer.specs.Stands.{Writes, Ends, StopsBefore}
+use Rattle.answer_writer.specs.State.{State}
+use Rattle.answer_writer.specs.declared.stop.Stop.{Stop}
+use Rattle.answer_writer.specs.declared.stop.Stop.TheVariants.{Memory}
 use Rattle.event_schema.specs.declared.schema.Schema.{Schema}
 use Rattle.event_schema.specs.declared.value.Value.{Value}
-use Rattle.languages.specs.RefusedPlaces.{PatternAt, is_of_pattern}
-use Rattle.query_runs.specs.Answers.{AtPlaces}
-use Rattle.query_runs.specs.Asked.{IsAsked, IsNotAsked, too_large, unread, most_bytes, file_start}
-use Rattle.query_runs.specs.Laws as asking
-use Rattle.selected_lines.proofs.Selected.{each_selected, one_selected}
-use Rattle.selected_lines.specs.Selected.{Selects, IsDecided}
+use Rattle.query_lang.specs.RefusedPlaces.{PatternAt, is_of_pattern}
+use Rattle.query_read.specs.Answers.{AtPlaces}
+use Rattle.query_read.specs.Asked.{IsAsked, IsNotAsked, too_large, unread, most_bytes, file_start}
+use Rattle.query_read.specs.Laws as asking
+use Rattle.answer_writer.proofs.Selected.{each_selected, one_selected}
+use Rattle.answer_writer.specs.Selected.{Selects, IsDecided}
 use Rattle.sig_base.specs.Files.{IsFront}
 use Rattle.sig_base.specs.Judged.{refusal}
 use Rattle.sig_base.specs.declared.limits.Limits.{Limits}
@@ -33,7 +33,7 @@ use Rattle.sigma_serve.specs.Queried.{IsOfBuilder, AskedUnder, asks, doesnt_ask,
 use Rattle.sigma_serve.specs.Reports.{refusal_share}
 use Rattle.sigma_serve.specs.RuleFiles.{contents}
 use Rattle.sigma_serve.specs.UnderSchema.{file_part, is_ended}
-use Rattle.text_places.specs.Places.{CodeAt}
+use Rattle.query_tokens.specs.Places.{CodeAt}
 
 not_ended : false ≡ true → ⊥
 not_ended h = cc

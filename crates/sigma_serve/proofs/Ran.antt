@@ -1,38 +1,38 @@
 -- What running the rule of a file leaves, and that there is exactly one answer.
 use Rattle.std.proofs.Common.{◌≡◌, ℕ, ◌+◌, Bool, true, false, List, [], ◌∷◌, ◌++◌, refl, ap, sym, ◌∙◌, subst, arith, append_assoc, append-nil, Option, Some, None, Result, Ok, Err, inl, inr}
 use Rattle.std.specs.Prelude.{◌⊎◌, Contains}
-use Rattle.answer_parts.proofs.Behind.{ends_behind}
-use Rattle.answer_parts.proofs.Ending.{ends_written}
-use Rattle.answer_parts.proofs.Lined.{each_answer, lines_one}
-use Rattle.answer_parts.proofs.Shares.{cut_nothing}
-use Rattle.answer_parts.proofs.Unread.{Begins, ends_unread}
-use Rattle.answer_parts.specs.EventLines.{ByLine, EventLines}
-use Rattle.answer_parts.specs.Input.{World, Needs, File, Events}
-use Rattle.answer_parts.specs.Parts.{Share, Part, share_of, no_share, NoneOfEvents}
-use Rattle.answer_parts.specs.Stands.{Writes, Ends, StopsBefore}
-use Rattle.answer_parts.specs.State.{State}
-use Rattle.answer_parts.specs.declared.stop.Stop.{Stop}
-use Rattle.answer_parts.specs.declared.stop.Stop.TheVariants.{Memory}
+use Rattle.answer_writer.proofs.Behind.{ends_behind}
+use Rattle.answer_writer.proofs.Ending.{ends_written}
+use Rattle.answer_writer.proofs.Lined.{each_answer, lines_one}
+use Rattle.answer_writer.proofs.Shares.{cut_nothing}
+use Rattle.answer_writer.proofs.Unread.{Begins, ends_unread}
+use Rattle.answer_writer.specs.EventLines.{ByLine, EventLines}
+use Rattle.answer_writer.specs.Input.{World, Needs, File, Events}
+use Rattle.answer_writer.specs.Parts.{Share, Part, share_of, no_share, NoneOfEvents}
+use Rattle.answer_writer.specs.Stands.{Writes, Ends, StopsBefore}
+use Rattle.answer_writer.specs.State.{State}
+use Rattle.answer_writer.specs.declared.stop.Stop.{Stop}
+use Rattle.answer_writer.specs.declared.stop.Stop.TheVariants.{Memory}
 use Rattle.detection_eval.specs.declared.ready.Ready.{Ready}
-use Rattle.event_reading.specs.SchemaOf.{schema_of}
+use Rattle.event_read.specs.SchemaOf.{schema_of}
 use Rattle.event_schema.specs.declared.schema.Schema.{Schema}
-use Rattle.pipeline_chain.specs.Chained.{Makes}
+use Rattle.pipeline_run.specs.Chained.{Makes}
 use Rattle.pipeline_files.specs.Laws as pipelined
 use Rattle.pipeline_files.specs.Outcomes.{AreCauses}
 use Rattle.pipeline_model.specs.declared.pipeline.Pipeline.{Pipeline}
-use Rattle.rule_building.proofs.BuiltRows.{built_at, none_refused}
-use Rattle.rule_building.proofs.Lists.{zip_map}
-use Rattle.rule_building.specs.Building.{Builds}
-use Rattle.rule_building.specs.Unbuilt.{Unbuilt, none_unbuilt, of_values, refused_texts, AreUnbuilt, ArePlacesOf, IsOneOf, IsOfItem}
+use Rattle.rule_regex.proofs.BuiltRows.{built_at, none_refused}
+use Rattle.rule_regex.proofs.Lists.{zip_map}
+use Rattle.rule_regex.specs.Building.{Builds}
+use Rattle.rule_regex.specs.Unbuilt.{Unbuilt, none_unbuilt, of_values, refused_texts, AreUnbuilt, ArePlacesOf, IsOneOf, IsOfItem}
 use Rattle.rule_model.specs.Expressions.{rule_expressions}
 use Rattle.rule_model.specs.Plain.{PlainRule, rule_view, rule_with}
 use Rattle.rule_model.specs.declared.rule.Rule.{Rule}
-use Rattle.rule_runs.proofs.Fronts.{single_places_front, run_front, not_run_front}
-use Rattle.rule_runs.proofs.Runs.{none_of_single, single_later}
-use Rattle.rule_runs.specs.Answers.{ForValues, IsBare}
-use Rattle.rule_runs.specs.Files.{file_start, single_tree}
-use Rattle.rule_runs.specs.Laws as files
-use Rattle.rule_runs.specs.Runs.{IsFit, IsUnfit, IsRun, IsNotRun, no_fit, not_built, AreOfTree, AreOfSingle}
+use Rattle.rule_run.proofs.Fronts.{single_places_front, run_front, not_run_front}
+use Rattle.rule_run.proofs.Runs.{none_of_single, single_later}
+use Rattle.rule_run.specs.Answers.{ForValues, IsBare}
+use Rattle.rule_run.specs.Files.{file_start, single_tree}
+use Rattle.rule_run.specs.Laws as files
+use Rattle.rule_run.specs.Runs.{IsFit, IsUnfit, IsRun, IsNotRun, no_fit, not_built, AreOfTree, AreOfSingle}
 use Rattle.rule_schema.specs.Inferred.{schema_for}
 use Rattle.sig_base.specs.Files.{IsFront}
 use Rattle.sig_base.specs.Judged.{refusal}

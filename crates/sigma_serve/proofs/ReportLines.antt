@@ -4,7 +4,7 @@ use Rattle.std.specs.Fmt.{decimal}
 use Rattle.sig_base.specs.Codes.{code_name}
 use Rattle.sig_base.specs.declared.refusal.Place.{Place}
 use Rattle.sig_base.specs.declared.refusal.Refusal.{Refusal}
-use Rattle.answer_parts.specs.Lines.{ended}
+use Rattle.answer_writer.specs.Lines.{ended}
 use Rattle.sigma_serve.specs.Reports.{line_of, placed, ok_line, refusal_diagnostic, detail_text}
 
 regroup : (file line column number cause detail : List ℕ) →

@@ -1,15 +1,15 @@
 -- What a run leaves, from how answering its request ended.
 use Rattle.std.proofs.Common.{◌≡◌, ℕ, Bool, true, false, List, [], ◌∷◌, refl, ap, subst, Option, Some, None, Result, Ok, Err, inl, inr}
 use Rattle.std.specs.Prelude.{◌⊎◌}
-use Rattle.answer_parts.proofs.Shares.{cut_nothing}
-use Rattle.answer_parts.specs.Cut.{Cut}
-use Rattle.answer_parts.specs.Input.{Input, World, IsTold, WasUnread, EventsStay}
-use Rattle.answer_parts.specs.Parts.{Share, Part, share_of, NoneOfEvents, Gains}
-use Rattle.answer_parts.specs.Stands.{Outcome, Cause, Stands, Ends, Writes}
-use Rattle.answer_parts.specs.State.{State, Inputs, NoWriteFailed, SomeWriteFailed}
-use Rattle.answer_parts.specs.declared.stop.Stop.{Stop}
-use Rattle.answer_parts.specs.declared.stop.Stop.TheVariants as stop
-use Rattle.rule_queries.specs.declared.backend_name.BackendName.{BackendName}
+use Rattle.answer_writer.proofs.Shares.{cut_nothing}
+use Rattle.answer_writer.specs.Cut.{Cut}
+use Rattle.answer_writer.specs.Input.{Input, World, IsTold, WasUnread, EventsStay}
+use Rattle.answer_writer.specs.Parts.{Share, Part, share_of, NoneOfEvents, Gains}
+use Rattle.answer_writer.specs.Stands.{Outcome, Cause, Stands, Ends, Writes}
+use Rattle.answer_writer.specs.State.{State, Inputs, NoWriteFailed, SomeWriteFailed}
+use Rattle.answer_writer.specs.declared.stop.Stop.{Stop}
+use Rattle.answer_writer.specs.declared.stop.Stop.TheVariants as stop
+use Rattle.rule_convert.specs.declared.backend_name.BackendName.{BackendName}
 use Rattle.sig_base.specs.declared.limits.Limits.{Limits}
 use Rattle.sigma_serve.proofs.Lifted.{nowhere, places_cut}
 use Rattle.sigma_serve.proofs.Wording.{one_request, decided}

@@ -4,49 +4,49 @@ use Rattle.std.specs.Prelude.{◌⊎◌, ◌↔◌, nat_le, if◌then◌else◌,
 use Rattle.std.specs.Io.KnownBytes.{Appends}
 use Rattle.std.proofs.lemmas.Bool.{leb-true}
 use Rattle.std.proofs.lemmas.List.{append_cancel_left}
-use Rattle.answer_parts.proofs.Lined.{step_within, lines_one}
-use Rattle.answer_parts.proofs.Shares.{join_nothing}
-use Rattle.answer_parts.specs.Each.{EachPart, EachShare}
-use Rattle.answer_parts.specs.EventLines.{AnswersWithin, StepPart, EventLines}
-use Rattle.answer_parts.specs.Input.{World}
-use Rattle.answer_parts.specs.Parts.{Share, Part, no_share, joined, share_of, Gains}
+use Rattle.answer_writer.proofs.Lined.{step_within, lines_one}
+use Rattle.answer_writer.proofs.Shares.{join_nothing}
+use Rattle.answer_writer.specs.Each.{EachPart, EachShare}
+use Rattle.answer_writer.specs.EventLines.{AnswersWithin, StepPart, EventLines}
+use Rattle.answer_writer.specs.Input.{World}
+use Rattle.answer_writer.specs.Parts.{Share, Part, no_share, joined, share_of, Gains}
 use Rattle.event_lines.specs.Lines.{lines_of}
-use Rattle.event_reading.specs.EventOf.{event_of}
-use Rattle.event_reading.specs.SchemaOf.{schema_of}
+use Rattle.event_read.specs.EventOf.{event_of}
+use Rattle.event_read.specs.SchemaOf.{schema_of}
 use Rattle.event_schema.specs.Events.{IsEvent}
 use Rattle.event_schema.specs.Lists.{EachOf, SomeOf, HasElement}
 use Rattle.event_schema.specs.Occurrence.{Occurrence}
 use Rattle.event_schema.specs.declared.schema.Schema.{Schema}
 use Rattle.event_schema.specs.declared.value.Value.{Value}
-use Rattle.languages.specs.RefusedPlaces.{PatternAt, IsAmong}
-use Rattle.query_files.specs.Ended.{with_line_feed, SameWithLineFeed, RefusedForPatterns}
-use Rattle.query_files.proofs.Text.{one_more}
-use Rattle.query_runs.specs.Asked.{too_large, unread, most_bytes}
-use Rattle.pipeline_chain.specs.Chained.{run_pipelines, Makes}
-use Rattle.pipeline_chain.specs.Priorities.{by_priority}
+use Rattle.query_lang.specs.RefusedPlaces.{PatternAt, IsAmong}
+use Rattle.query_lang.specs.Ended.{with_line_feed, SameWithLineFeed, RefusedForPatterns}
+use Rattle.query_lang.proofs.Text.{one_more}
+use Rattle.query_read.specs.Asked.{too_large, unread, most_bytes}
+use Rattle.pipeline_run.specs.Chained.{run_pipelines, Makes}
+use Rattle.pipeline_run.specs.Priorities.{by_priority}
 use Rattle.pipeline_files.specs.Laws as files
 use Rattle.pipeline_files.specs.Outcomes.{ArePipelines, AreCauses}
 use Rattle.pipeline_files.specs.Paired.{paired}
 use Rattle.pipeline_files.specs.Places.{AreOfPipelines, file_texts}
 use Rattle.pipeline_model.specs.declared.pipeline.Pipeline.{Pipeline}
-use Rattle.rule_building.proofs.Lists.{some_left, some_right}
-use Rattle.rule_building.specs.Unbuilt.{Unbuilt, none_unbuilt, refused_texts, unbuilt_refusal, AreUnbuilt, IsOneOf, IsOfItem}
-use Rattle.rule_items.specs.declared.expression.Expression.{Expression}
+use Rattle.rule_regex.proofs.Lists.{some_left, some_right}
+use Rattle.rule_regex.specs.Unbuilt.{Unbuilt, none_unbuilt, refused_texts, unbuilt_refusal, AreUnbuilt, IsOneOf, IsOfItem}
+use Rattle.rule_detections.specs.declared.expression.Expression.{Expression}
 use Rattle.rule_model.specs.Matching.{Matches}
 use Rattle.rule_model.specs.AsBuilt.{IsRefusedAsBuilt}
 use Rattle.rule_model.specs.Expressions.{document_expressions, rule_expressions}
 use Rattle.rule_model.specs.Plain.{PlainRule}
 use Rattle.rule_model.specs.Rules.{lone_refusal, IsLoneRule}
-use Rattle.rule_queries.specs.NamedQueries.{Query as QueryOf, is_query, is_within, picks, text, missing, too_deep, query_of, Converts, IsConverted}
-use Rattle.rule_queries.specs.Queries.{query_under, filled_checks}
-use Rattle.rule_queries.specs.declared.backend_name.BackendName.{BackendName}
-use Rattle.rule_queries.specs.declared.backend_name.BackendName.TheVariants as backends
-use Rattle.rule_runs.specs.Files.{single_tree}
-use Rattle.rule_runs.specs.Laws as running
-use Rattle.rule_runs.specs.Runs.{AreDocuments, no_tree, no_rule, IsSingleRule, IsNoSingleRule, as_one, by_document, no_single, unmade, no_made, unfit, IsMadeRule, IsRun, IsNotRun, no_fit, not_built, AreOfTree, AreOfSingle}
+use Rattle.rule_convert.specs.NamedQueries.{Query as QueryOf, is_query, is_within, picks, text, missing, too_deep, query_of, Converts, IsConverted}
+use Rattle.rule_convert.specs.Queries.{query_under, filled_checks}
+use Rattle.rule_convert.specs.declared.backend_name.BackendName.{BackendName}
+use Rattle.rule_convert.specs.declared.backend_name.BackendName.TheVariants as backends
+use Rattle.rule_run.specs.Files.{single_tree}
+use Rattle.rule_run.specs.Laws as running
+use Rattle.rule_run.specs.Runs.{AreDocuments, no_tree, no_rule, IsSingleRule, IsNoSingleRule, as_one, by_document, no_single, unmade, no_made, unfit, IsMadeRule, IsRun, IsNotRun, no_fit, not_built, AreOfTree, AreOfSingle}
 use Rattle.rule_schema.specs.Inferred.{open_refusal, unfit_refusal}
-use Rattle.selected_lines.proofs.Selected.{one_selected}
-use Rattle.selected_lines.specs.Selected.{Picking, EventGives, Selects}
+use Rattle.answer_writer.proofs.Selected.{one_selected}
+use Rattle.answer_writer.specs.Selected.{Picking, EventGives, Selects}
 use Rattle.sig_base.specs.Judged.{first, refusal as refusal_at}
 use Rattle.sig_base.specs.declared.faults.LineStep.{LineStep}
 use Rattle.sig_base.specs.declared.limits.Limits.{Limits}
@@ -73,7 +73,7 @@ use Rattle.sigma_serve.specs.declared.request.Request.{Request}
 use Rattle.sigma_serve.specs.declared.request.Request.TheVariants.{Convert, Run, Query}
 use Rattle.sigma_serve.specs.declared.status.Status.{Status}
 use Rattle.sigma_serve.specs.declared.status.Status.TheVariants.{Done, Found}
-use Rattle.text_places.specs.Places.{CodeAt}
+use Rattle.query_tokens.specs.Places.{CodeAt}
 use Rattle.yaml_documents.specs.Verdicts as yaml
 use Rattle.yaml_tree.specs.Tree.{Tree, Answer as Document, tree, refusal}
 

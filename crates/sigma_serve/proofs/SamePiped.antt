@@ -2,32 +2,32 @@
 use Rattle.std.proofs.Common.{◌≡◌, ℕ, Bool, true, false, not, List, [], ◌∷◌, ◌++◌, map, length, refl, ap, sym, ◌∙◌, subst, Option, Some, None, Ok, Err, inl, inr}
 use Rattle.std.specs.Prelude.{◌||◌, if◌then◌else◌, nat_le}
 use Rattle.std.specs.List.{list_any, AllZip}
-use Rattle.answer_parts.specs.Parts.{Share, joined}
+use Rattle.answer_writer.specs.Parts.{Share, joined}
 use Rattle.event_schema.specs.Lists.{EachOf, SomeOf, HasElement}
-use Rattle.languages.specs.RefusedPlaces.{IsAmong}
-use Rattle.modifier_chains.specs.Chains.{chain_refusal}
-use Rattle.modifier_chains.specs.Written.{Written}
+use Rattle.query_lang.specs.RefusedPlaces.{IsAmong}
+use Rattle.modifier_words.specs.Chains.{chain_refusal}
+use Rattle.modifier_words.specs.Written.{Written}
 use Rattle.pipeline_files.specs.Outcomes.{Outcome, IsOutcome, refusals_in, ArePipelines, AreCauses, as_one, by_document}
 use Rattle.pipeline_files.specs.Paired.{paired}
 use Rattle.pipeline_files.specs.Places.{pipeline_expressions, AreOfDocument, AreOfPipelines, file_texts}
-use Rattle.pipeline_model.specs.Causes.{is_before, sooner, sooner_of, least}
+use Rattle.pipeline_check.specs.Causes.{is_before, sooner, sooner_of, least}
 use Rattle.pipeline_model.specs.Checks.{shape_refusal as document_shape, added_in, steps_in, items_refusal, all_items_refusal, pipeline_refusal}
 use Rattle.pipeline_model.specs.declared.pipeline.Pipeline.{Pipeline}
-use Rattle.rule_building.proofs.Lists.{each_map, some_left, some_right, zip_some}
-use Rattle.rule_building.specs.Unbuilt.{Unbuilt, none_unbuilt, refused_texts, ArePlacesOf, IsOneOf}
-use Rattle.rule_items.specs.Items.{key_chain, shape_refusal, values_refusal, item_refusal}
-use Rattle.rule_items.specs.Keys.{words_in, is_keyword_key, is_item_key}
-use Rattle.rule_items.specs.declared.expression.Expression.{Expression}
+use Rattle.rule_regex.proofs.Lists.{each_map, some_left, some_right, zip_some}
+use Rattle.rule_regex.specs.Unbuilt.{Unbuilt, none_unbuilt, refused_texts, ArePlacesOf, IsOneOf}
+use Rattle.rule_detections.specs.Items.{key_chain, shape_refusal, values_refusal, item_refusal}
+use Rattle.rule_detections.specs.Keys.{words_in, is_keyword_key, is_item_key}
+use Rattle.rule_detections.specs.declared.expression.Expression.{Expression}
 use Rattle.rule_model.proofs.Places.{among}
 use Rattle.sig_base.specs.Judged.{must, first, refusal as refusal_at}
 use Rattle.sig_base.specs.declared.limits.Limits.{Limits}
 use Rattle.sig_base.specs.declared.refusal.Place.{Place}
 use Rattle.sig_base.specs.declared.refusal.Refusal.{Refusal}
-use Rattle.rule_items.specs.TestsOf.{use_of, value_refusal}
+use Rattle.rule_detections.specs.TestsOf.{use_of, value_refusal}
 use Rattle.sigma_serve.specs.SameLines.{IsOfDocument, IsOfRefused}
 use Rattle.sigma_serve.specs.UnderPipelines.{AreReported}
-use Rattle.value_patterns.specs.Expressions.{is_same_place, is_built_at}
-use Rattle.value_patterns.specs.Uses.{Use, expression_in, use_checks, use_refusal}
+use Rattle.modifier_values.specs.Expressions.{is_same_place, is_built_at}
+use Rattle.modifier_values.specs.Uses.{Use, expression_in, use_checks, use_refusal}
 use Rattle.yaml_documents.specs.Verdicts as yaml
 use Rattle.yaml_tree.specs.Nodes.{is_empty, key_place, parts_in, place_of}
 use Rattle.yaml_tree.specs.Tree.{Tree, Member, Answer as Document, tree, refusal}

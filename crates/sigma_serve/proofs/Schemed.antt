@@ -3,20 +3,20 @@ use Rattle.std.proofs.Common.{◌≡◌, ℕ, suc, ◌+◌, ◌<◌, Bool, false
 use Rattle.std.specs.Prelude.{MatchOption, unwrap_or, Contains}
 use Rattle.std.proofs.lemmas.Bool.{cases_lt, lt-ltb}
 use Rattle.std.proofs.lemmas.List.{take_all, length-take-le}
-use Rattle.answer_parts.proofs.Behind.{ends_behind}
-use Rattle.answer_parts.proofs.Ending.{ends_as, ends_written}
-use Rattle.answer_parts.proofs.Shares.{cut_nothing}
-use Rattle.answer_parts.proofs.Unread.{Begins, ends_unread}
-use Rattle.answer_parts.specs.Input.{World, Needs, File}
-use Rattle.answer_parts.specs.Parts.{Share, Part, share_of, no_share}
-use Rattle.answer_parts.specs.Stands.{Writes, Ends, StopsBefore}
-use Rattle.answer_parts.specs.State.{State}
-use Rattle.answer_parts.specs.declared.stop.Stop.{Stop}
-use Rattle.answer_parts.specs.declared.stop.Stop.TheVariants.{Memory}
-use Rattle.event_reading.specs.Answers.{Answers}
-use Rattle.event_reading.specs.SchemaOf.{schema_of}
+use Rattle.answer_writer.proofs.Behind.{ends_behind}
+use Rattle.answer_writer.proofs.Ending.{ends_as, ends_written}
+use Rattle.answer_writer.proofs.Shares.{cut_nothing}
+use Rattle.answer_writer.proofs.Unread.{Begins, ends_unread}
+use Rattle.answer_writer.specs.Input.{World, Needs, File}
+use Rattle.answer_writer.specs.Parts.{Share, Part, share_of, no_share}
+use Rattle.answer_writer.specs.Stands.{Writes, Ends, StopsBefore}
+use Rattle.answer_writer.specs.State.{State}
+use Rattle.answer_writer.specs.declared.stop.Stop.{Stop}
+use Rattle.answer_writer.specs.declared.stop.Stop.TheVariants.{Memory}
+use Rattle.event_read.specs.Answers.{Answers}
+use Rattle.event_read.specs.SchemaOf.{schema_of}
 use Rattle.event_schema.specs.declared.schema.Schema.{Schema}
-use Rattle.rule_runs.specs.Files.{file_start}
+use Rattle.rule_run.specs.Files.{file_start}
 use Rattle.sig_base.specs.Files.{file_at, IsFront}
 use Rattle.sig_base.specs.Judged.{refusal}
 use Rattle.sig_base.specs.declared.limits.Limits.{Limits}

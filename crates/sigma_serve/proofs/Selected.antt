@@ -1,13 +1,13 @@
 -- That each line of events is answered in one way by a rule that is run.
 use Rattle.std.proofs.Common.{◌≡◌, ℕ, List}
 use Rattle.std.specs.Prelude.{◌⊎◌}
-use Rattle.answer_parts.specs.Parts.{Share}
+use Rattle.answer_writer.specs.Parts.{Share}
 use Rattle.event_schema.specs.declared.schema.Field.{Field}
 use Rattle.event_schema.specs.declared.schema.Schema.{Schema}
 use Rattle.event_schema.specs.declared.value.Value.{Value}
 use Rattle.rule_model.specs.Matching.{Matches}
 use Rattle.rule_model.specs.Plain.{PlainRule}
-use Rattle.selected_lines.proofs.Selected.{each_selected, one_selected}
+use Rattle.answer_writer.proofs.Selected.{each_selected, one_selected}
 use Rattle.sigma_serve.specs.Laws.{EachSelected}
 use Rattle.sigma_serve.specs.Ran.{RunGives}
 

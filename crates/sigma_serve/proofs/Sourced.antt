@@ -4,17 +4,17 @@ use Rattle.std.specs.Prelude.{⊤, ◌||◌, Contains, OnOk}
 use Rattle.std.proofs.lemmas.Bool.{cases_lt}
 use Rattle.std.proofs.lemmas.Grind.{flat_map-append}
 use Rattle.std.proofs.lemmas.List.{take_all, length-take-le, map-append}
-use Rattle.answer_parts.proofs.Ending.{Then, EventsAside, EachHas, ends_as, ends_both, ends_later, ends_less, ends_nothing, ends_written, files_of}
-use Rattle.answer_parts.proofs.Rows.{around, before_and, parts_append, parts_aside}
-use Rattle.answer_parts.proofs.Unread.{ends_unread}
-use Rattle.answer_parts.proofs.Wrote.{writes_as, writes_memory}
-use Rattle.answer_parts.specs.Each.{EachPart}
-use Rattle.answer_parts.specs.Input.{World, Needs, File}
-use Rattle.answer_parts.specs.Parts.{Share, Part}
-use Rattle.answer_parts.specs.Stands.{Writes, Ends, StopsBefore}
-use Rattle.answer_parts.specs.State.{State}
-use Rattle.answer_parts.specs.declared.stop.Stop.{Stop}
-use Rattle.answer_parts.specs.declared.stop.Stop.TheVariants.{Memory}
+use Rattle.answer_writer.proofs.Ending.{Then, EventsAside, EachHas, ends_as, ends_both, ends_later, ends_less, ends_nothing, ends_written, files_of}
+use Rattle.answer_writer.proofs.Rows.{around, before_and, parts_append, parts_aside}
+use Rattle.answer_writer.proofs.Unread.{ends_unread}
+use Rattle.answer_writer.proofs.Wrote.{writes_as, writes_memory}
+use Rattle.answer_writer.specs.Each.{EachPart}
+use Rattle.answer_writer.specs.Input.{World, Needs, File}
+use Rattle.answer_writer.specs.Parts.{Share, Part}
+use Rattle.answer_writer.specs.Stands.{Writes, Ends, StopsBefore}
+use Rattle.answer_writer.specs.State.{State}
+use Rattle.answer_writer.specs.declared.stop.Stop.{Stop}
+use Rattle.answer_writer.specs.declared.stop.Stop.TheVariants.{Memory}
 use Rattle.correlation_files.specs.Found.{Grows, StandsFor, Named, named}
 use Rattle.correlation_files.specs.Laws as laws
 use Rattle.correlation_files.specs.Outcomes.{Outcome, AreOutcomes, as_one, by_document, rules_in, correlations_in, refusals_in}
@@ -24,8 +24,8 @@ use Rattle.event_schema.specs.Lists.{EachOf}
 use Rattle.event_schema.specs.declared.schema.Schema.{Schema}
 use Rattle.pipeline_files.specs.Places.{file_texts}
 use Rattle.pipeline_model.specs.declared.pipeline.Pipeline.{Pipeline}
-use Rattle.rule_building.proofs.Lists.{each_joined}
-use Rattle.rule_building.specs.Unbuilt.{Unbuilt}
+use Rattle.rule_regex.proofs.Lists.{each_joined}
+use Rattle.rule_regex.specs.Unbuilt.{Unbuilt}
 use Rattle.rule_model.specs.Plain.{PlainRule}
 use Rattle.sig_base.specs.Files.{IsFront}
 use Rattle.sig_base.specs.declared.limits.Limits.{Limits}
@@ -39,7 +39,7 @@ use Rattle.sigma_serve.specs.RuleFiles.{all_texts, contents}
 use Rattle.sigma_serve.specs.Sourced.{GrowsBy, IsFound, SourceShare, SourcesBySome}
 use Rattle.sigma_serve.specs.UnderPipelines.{AreReported}
 use Rattle.sigma_serve.specs.UnderSchema.{is_ended}
-use Rattle.yaml_files.specs.Call.{IsCallRefusal}
+use Rattle.yaml_documents.specs.Call.{IsCallRefusal}
 use Rattle.yaml_tree.specs.Tree.{At}
 
 -- ---- what is so after Ok

@@ -1,16 +1,16 @@
 -- What answering a tree leaves, for some places at which its regular expressions aren't built.
 use Rattle.std.proofs.Common.{◌≡◌, ℕ, Bool, true, false, List, refl, Result, Err}
-use Rattle.pipeline_chain.specs.Chained.{Makes}
+use Rattle.pipeline_run.specs.Chained.{Makes}
 use Rattle.pipeline_model.specs.declared.pipeline.Pipeline.{Pipeline}
-use Rattle.answer_parts.proofs.Wrote.{writes_as, writes_memory}
-use Rattle.answer_parts.specs.Parts.{Share}
-use Rattle.answer_parts.specs.Stands.{Writes}
-use Rattle.answer_parts.specs.State.{State}
-use Rattle.answer_parts.specs.declared.stop.Stop.{Stop}
-use Rattle.answer_parts.specs.declared.stop.Stop.TheVariants.{Memory}
-use Rattle.rule_building.specs.ForUnbuilt.{ForUnbuilt}
-use Rattle.rule_building.specs.Unbuilt.{Unbuilt}
-use Rattle.rule_runs.proofs.Runs.{unbuilt_later}
+use Rattle.answer_writer.proofs.Wrote.{writes_as, writes_memory}
+use Rattle.answer_writer.specs.Parts.{Share}
+use Rattle.answer_writer.specs.Stands.{Writes}
+use Rattle.answer_writer.specs.State.{State}
+use Rattle.answer_writer.specs.declared.stop.Stop.{Stop}
+use Rattle.answer_writer.specs.declared.stop.Stop.TheVariants.{Memory}
+use Rattle.rule_regex.specs.ForUnbuilt.{ForUnbuilt}
+use Rattle.rule_regex.specs.Unbuilt.{Unbuilt}
+use Rattle.rule_run.proofs.Runs.{unbuilt_later}
 use Rattle.sig_base.specs.declared.limits.Limits.{Limits}
 use Rattle.sigma_serve.specs.Laws.{EachTree}
 use Rattle.sigma_serve.specs.RuleFiles.{ByUnbuilt, BySome}

@@ -5,12 +5,12 @@ use Rattle.std.specs.declared.alloc.AllocError.{AllocError}
 use Rattle.std.specs.Str.{bytes_eq}
 use Rattle.std.proofs.lemmas.Bool.{lt-ltb, ltb-true}
 use Rattle.std.proofs.lemmas.Slice.Eq.{bytes_eq-Decides}
-use Rattle.command_words.proofs.Computing.{computed, plain_names}
-use Rattle.command_words.specs.Computed.{given}
-use Rattle.command_words.specs.Given.{Item}
-use Rattle.command_words.specs.Table.{row_of}
-use Rattle.command_words.specs.declared.command_name.CommandName.{CommandName}
-use Rattle.command_words.specs.declared.command_name.CommandName.TheVariants as commands
+use Rattle.command_line.proofs.Computing.{computed, plain_names}
+use Rattle.command_line.specs.Computed.{given}
+use Rattle.command_line.specs.Given.{Item}
+use Rattle.command_line.specs.Table.{row_of}
+use Rattle.command_line.specs.declared.command_name.CommandName.{CommandName}
+use Rattle.command_line.specs.declared.command_name.CommandName.TheVariants as commands
 use Rattle.sigma_serve.specs.Words.{in_utf8, request_with, IsAccepted, IsUnaccepted, asked, asked_if_any, command_named, request_of, read}
 use Rattle.sigma_serve.specs.declared.request.Request.{Request}
 

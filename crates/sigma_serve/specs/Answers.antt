@@ -1,15 +1,15 @@
 -- What each command answers, part by part, and what it reads.
 use Rattle.std.specs.Prelude.{◌≡◌, ◌⊎◌, ℕ, Bool, true, false, List, [], ◌∷◌, ◌++◌, ⊤, Option, None, Some, Ok}
-use Rattle.answer_parts.specs.Each.{EachPart}
-use Rattle.answer_parts.specs.Input.{World, Needs}
-use Rattle.answer_parts.specs.Parts.{Part}
-use Rattle.event_reading.specs.SchemaOf.{schema_of}
+use Rattle.answer_writer.specs.Each.{EachPart}
+use Rattle.answer_writer.specs.Input.{World, Needs}
+use Rattle.answer_writer.specs.Parts.{Part}
+use Rattle.event_read.specs.SchemaOf.{schema_of}
 use Rattle.event_schema.specs.declared.schema.Schema.{Schema}
 use Rattle.event_schema.specs.declared.schema.Time.{Time}
 use Rattle.pipeline_files.specs.Paired.{paired}
 use Rattle.pipeline_model.specs.declared.pipeline.Pipeline.{Pipeline}
-use Rattle.rule_building.specs.Unbuilt.{Unbuilt, refused_texts}
-use Rattle.rule_runs.specs.Runs.{AreOfSingle}
+use Rattle.rule_regex.specs.Unbuilt.{Unbuilt, refused_texts}
+use Rattle.rule_run.specs.Runs.{AreOfSingle}
 use Rattle.sig_base.specs.declared.limits.Limits.{Limits}
 use Rattle.sigma_serve.specs.Check.{CheckGives}
 use Rattle.sigma_serve.specs.Convert.{ConvertGives}
@@ -23,7 +23,7 @@ use Rattle.sigma_serve.specs.UnderPipelines.{PipedPlaces}
 use Rattle.sigma_serve.specs.UnderSchema.{UnderSchema, IsUnschemed}
 use Rattle.sigma_serve.specs.declared.request.Request.{Request}
 use Rattle.sigma_serve.specs.declared.request.Request.TheVariants.{Check, Convert, Run, Query, Correlate, Generate}
-use Rattle.text_places.specs.Places.{CodeAt}
+use Rattle.query_tokens.specs.Places.{CodeAt}
 
 -- a file, if one is named, and then the other files
 abbrev pub names_with : Option (List ℕ) → List (List ℕ) → List (List ℕ)

@@ -1,8 +1,8 @@
 -- `check`: which documents are rules or correlations.
 use Rattle.std.specs.Prelude.{◌≡◌, ℕ, List, None, Some}
-use Rattle.answer_parts.specs.Parts.{Share}
+use Rattle.answer_writer.specs.Parts.{Share}
 use Rattle.correlation_files.specs.Checked.{check_refusal}
-use Rattle.rule_building.specs.Unbuilt.{Unbuilt}
+use Rattle.rule_regex.specs.Unbuilt.{Unbuilt}
 use Rattle.sig_base.specs.declared.limits.Limits.{Limits}
 use Rattle.sig_base.specs.declared.refusal.Refusal.{Refusal}
 use Rattle.sigma_serve.specs.Reports.{ok_line, line_share, refusal_share}

@@ -1,12 +1,12 @@
 -- `convert`: the queries of rules that pipelines make, in the language of the backend that is named.
 use Rattle.std.specs.Prelude.{◌≡◌, ℕ, List, Option}
-use Rattle.answer_parts.specs.Parts.{Share}
+use Rattle.answer_writer.specs.Parts.{Share}
 use Rattle.event_schema.specs.declared.schema.Schema.{Schema}
 use Rattle.pipeline_model.specs.declared.pipeline.Pipeline.{Pipeline}
-use Rattle.rule_building.specs.Unbuilt.{Unbuilt}
+use Rattle.rule_regex.specs.Unbuilt.{Unbuilt}
 use Rattle.rule_model.specs.Plain.{PlainRule}
-use Rattle.rule_queries.specs.NamedQueries.{query_of, Converts, IsConverted, IsRefused}
-use Rattle.rule_queries.specs.declared.backend_name.BackendName.{BackendName}
+use Rattle.rule_convert.specs.NamedQueries.{query_of, Converts, IsConverted, IsRefused}
+use Rattle.rule_convert.specs.declared.backend_name.BackendName.{BackendName}
 use Rattle.sig_base.specs.declared.limits.Limits.{Limits}
 use Rattle.sig_base.specs.declared.refusal.Refusal.{Refusal}
 use Rattle.sigma_serve.specs.Reports.{line_share, refusal_share}

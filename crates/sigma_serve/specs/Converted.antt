@@ -1,12 +1,12 @@
 -- The answer to `convert`, with a schema or without one, and with pipelines or without any.
 use Rattle.std.specs.Prelude.{ℕ, List, [], Option}
-use Rattle.answer_parts.specs.Each.{EachPart}
-use Rattle.answer_parts.specs.Input.{World}
-use Rattle.answer_parts.specs.Parts.{Part}
+use Rattle.answer_writer.specs.Each.{EachPart}
+use Rattle.answer_writer.specs.Input.{World}
+use Rattle.answer_writer.specs.Parts.{Part}
 use Rattle.event_schema.specs.declared.schema.Schema.{Schema}
 use Rattle.pipeline_files.specs.Paired.{paired}
 use Rattle.pipeline_model.specs.declared.pipeline.Pipeline.{Pipeline}
-use Rattle.rule_building.specs.Unbuilt.{Unbuilt}
+use Rattle.rule_regex.specs.Unbuilt.{Unbuilt}
 use Rattle.sig_base.specs.declared.limits.Limits.{Limits}
 use Rattle.sigma_serve.specs.RuleFiles.{ByUnbuilt, RuleFileAt, FilesBySome}
 use Rattle.sigma_serve.specs.UnderPipelines.{ByPipelines, UnderPipelines}

@@ -1,22 +1,22 @@
 -- The answer to `correlate`: the reports of the correlations of rule files over the events.
 use Rattle.std.specs.Prelude.{◌≡◌, ℕ, Bool, List, [], ◌∷◌, ◌++◌, map, Option, None, Some}
 use Rattle.std.specs.List.{flat_map}
-use Rattle.answer_parts.specs.Each.{AllShares, EachPart}
-use Rattle.answer_parts.specs.FollowedLines.{FollowedLines}
-use Rattle.answer_parts.specs.Input.{World, File}
-use Rattle.answer_parts.specs.Parts.{Share, Part}
+use Rattle.answer_writer.specs.Each.{AllShares, EachPart}
+use Rattle.answer_writer.specs.FollowedLines.{FollowedLines}
+use Rattle.answer_writer.specs.Input.{World, File}
+use Rattle.answer_writer.specs.Parts.{Share, Part}
 use Rattle.correlation_files.specs.Bindings.{Verdict, AreJudged, bounds_in, names_in, unbound_in}
 use Rattle.correlation_files.specs.Found.{Named, named, names_of_rules}
 use Rattle.correlation_files.specs.Outcomes.{Outcome, AreOutcomes, rules_in, correlations_in, refusals_in}
-use Rattle.correlation_runs.specs.Followed.{Follows}
+use Rattle.correlation_run.specs.Followed.{Follows}
 use Rattle.correlation_windows.specs.History.{Taken}
 use Rattle.event_schema.specs.declared.schema.Schema.{Schema}
 use Rattle.event_schema.specs.declared.schema.Time.{Time}
 use Rattle.pipeline_files.specs.Paired.{paired}
 use Rattle.pipeline_model.specs.declared.pipeline.Pipeline.{Pipeline}
-use Rattle.rule_building.specs.Unbuilt.{Unbuilt}
+use Rattle.rule_regex.specs.Unbuilt.{Unbuilt}
 use Rattle.rule_model.specs.Plain.{PlainRule}
-use Rattle.rule_runs.specs.Files.{file_start}
+use Rattle.rule_run.specs.Files.{file_start}
 use Rattle.sig_base.specs.Judged.{refusal}
 use Rattle.sig_base.specs.declared.limits.Limits.{Limits}
 use Rattle.sig_base.specs.declared.refusal.Refusal.{Refusal}

@@ -1,14 +1,14 @@
 -- What following events by an engine leaves: what `correlate` does from the first event on.
 use Rattle.std.specs.Prelude.{◌≡◌, ℕ, Bool, true, false, List, [], Option, Some}
-use Rattle.answer_parts.specs.Cut.{Cut}
-use Rattle.answer_parts.specs.FollowedLines.{FollowedLines}
-use Rattle.answer_parts.specs.Input.{World, Events}
-use Rattle.answer_parts.specs.Parts.{Part, share_of, Gains}
-use Rattle.answer_parts.specs.Stands.{StopsAt}
-use Rattle.answer_parts.specs.State.{Streams, NoWriteFailed, SomeWriteFailed}
-use Rattle.answer_parts.specs.declared.stop.Stop.{Stop}
-use Rattle.answer_parts.specs.declared.stop.Stop.TheVariants.{Unread, Unwritten}
-use Rattle.correlation_runs.specs.Followed.{Correlating, Follows}
+use Rattle.answer_writer.specs.Cut.{Cut}
+use Rattle.answer_writer.specs.FollowedLines.{FollowedLines}
+use Rattle.answer_writer.specs.Input.{World, Events}
+use Rattle.answer_writer.specs.Parts.{Part, share_of, Gains}
+use Rattle.answer_writer.specs.Stands.{StopsAt}
+use Rattle.answer_writer.specs.State.{Streams, NoWriteFailed, SomeWriteFailed}
+use Rattle.answer_writer.specs.declared.stop.Stop.{Stop}
+use Rattle.answer_writer.specs.declared.stop.Stop.TheVariants.{Unread, Unwritten}
+use Rattle.correlation_run.specs.Followed.{Correlating, Follows}
 use Rattle.correlation_windows.specs.History.{Taken}
 use Rattle.correlation_windows.specs.Kept.{State, StandsFor}
 use Rattle.sig_base.specs.Causes.{Rose}

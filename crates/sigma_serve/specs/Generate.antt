@@ -1,7 +1,7 @@
 -- `generate`: the line about a rule, its queries and the events that a number makes.
 use Rattle.std.specs.Prelude.{◌≡◌, ℕ, List, [], ◌∷◌, None}
-use Rattle.answer_parts.specs.Parts.{Part}
-use Rattle.generation.specs.Lines.{IsGenerated}
+use Rattle.answer_writer.specs.Parts.{Part}
+use Rattle.generate_run.specs.Lines.{IsGenerated}
 use Rattle.sigma_serve.specs.Reports.{line_share}
 
 -- The whole answer is the line of this number and of so many events, whatever the limits are. Nothing is read for it.

@@ -1,19 +1,19 @@
 -- The languages whose queries are asked of events, by the names of the backends that write them.
 use Rattle.std.specs.Prelude.{ℕ, Bool, List, []}
-use Rattle.answer_parts.specs.Input.{World}
+use Rattle.answer_writer.specs.Input.{World}
 use Rattle.event_schema.specs.declared.schema.Schema.{Schema}
-use Rattle.languages.specs.RefusedPlaces.{PatternAt}
-use Rattle.lucene_language.specs.Answered as lucene
-use Rattle.rule_queries.specs.NamedQueries.{is_query, is_within, picks}
-use Rattle.rule_queries.specs.declared.backend_name.BackendName.{BackendName}
-use Rattle.rule_queries.specs.declared.backend_name.BackendName.TheVariants.{Sqlite, Lucene}
+use Rattle.query_lang.specs.RefusedPlaces.{PatternAt}
+use Rattle.lucene_read.specs.Answered as lucene
+use Rattle.rule_convert.specs.NamedQueries.{is_query, is_within, picks}
+use Rattle.rule_convert.specs.declared.backend_name.BackendName.{BackendName}
+use Rattle.rule_convert.specs.declared.backend_name.BackendName.TheVariants.{Sqlite, Lucene}
 use Rattle.sig_base.specs.declared.limits.Limits.{Limits}
 use Rattle.sig_base.specs.declared.refusal.Refusal.{Refusal}
 use Rattle.sigma_serve.specs.Queried as queried
 use Rattle.sigma_serve.specs.UnderSchema.{BySchema, ByBuilder}
 use Rattle.sql_lang.specs.Regexps.{byte_regexps}
-use Rattle.sql_reader.specs.Answers as sql
-use Rattle.text_places.specs.Places.{CodeAt}
+use Rattle.sql_read.specs.Answers as sql
+use Rattle.query_tokens.specs.Places.{CodeAt}
 
 -- the regular expressions in the bytes of a query; Lucene has none
 abbrev pub patterns : BackendName → List ℕ → List PatternAt

@@ -1,22 +1,22 @@
 -- Laws of the answers: there is exactly one to each document, file and request, and the query of each rule means the rule.
 use Rattle.std.specs.Prelude.{◌≡◌, ◌↔◌, ◌++◌, ℕ, false, List, Option, None, Some, IfSome, Err}
-use Rattle.answer_parts.specs.EventLines.{EachLine}
-use Rattle.answer_parts.specs.Input.{World}
-use Rattle.answer_parts.specs.Parts.{Share, Part, NoneOfEvents}
+use Rattle.answer_writer.specs.EventLines.{EachLine}
+use Rattle.answer_writer.specs.Input.{World}
+use Rattle.answer_writer.specs.Parts.{Share, Part, NoneOfEvents}
 use Rattle.correlation_files.specs.Found.{Named}
-use Rattle.event_reading.specs.SchemaOf.{schema_of}
+use Rattle.event_read.specs.SchemaOf.{schema_of}
 use Rattle.event_schema.specs.Lists.{EachOf}
 use Rattle.event_schema.specs.Schemas.{IsSchema}
 use Rattle.event_schema.specs.declared.schema.Schema.{Schema}
-use Rattle.generation.specs.Lines.{IsGenerated}
-use Rattle.pipeline_chain.specs.Kept.{IsWholePipeline}
+use Rattle.generate_run.specs.Lines.{IsGenerated}
+use Rattle.pipeline_run.specs.Kept.{IsWholePipeline}
 use Rattle.pipeline_files.specs.Outcomes.{AreCauses}
 use Rattle.pipeline_model.specs.declared.pipeline.Pipeline.{Pipeline}
-use Rattle.rule_building.specs.Unbuilt.{Unbuilt}
+use Rattle.rule_regex.specs.Unbuilt.{Unbuilt}
 use Rattle.rule_model.specs.Plain.{PlainRule}
 use Rattle.rule_model.specs.Rules.{lone_refusal, IsLoneRule}
-use Rattle.rule_queries.specs.declared.backend_name.BackendName.{BackendName}
-use Rattle.rule_runs.specs.Runs.{IsNotRun}
+use Rattle.rule_convert.specs.declared.backend_name.BackendName.{BackendName}
+use Rattle.rule_run.specs.Runs.{IsNotRun}
 use Rattle.sig_base.specs.declared.limits.Limits.{Limits}
 use Rattle.sig_base.specs.declared.refusal.Place.{Place}
 use Rattle.sig_base.specs.declared.refusal.Refusal.{Refusal}
@@ -30,7 +30,7 @@ use Rattle.sigma_serve.specs.Ran.{RunGives, RanUnder, PipedRun, Ran}
 use Rattle.sigma_serve.specs.RuleFiles.{ByTree, ByUnbuilt, DocumentGives, FileGivesAt, contents}
 use Rattle.sigma_serve.specs.UnderSchema.{BySchema}
 use Rattle.sigma_serve.specs.declared.request.Request.{Request}
-use Rattle.text_places.specs.Places.{CodeAt}
+use Rattle.query_tokens.specs.Places.{CodeAt}
 use Rattle.yaml_tree.specs.Tree.{Tree, Answer}
 
 -- each tree is answered, in a file of each name

@@ -1,21 +1,21 @@
 -- The answer to `query`: the events that a query selects.
 use Rattle.std.specs.Prelude.{◌≡◌, ℕ, Bool, true, List, [], ◌∷◌, ◌++◌, None, Some}
-use Rattle.answer_parts.specs.EventLines.{EventLines}
-use Rattle.answer_parts.specs.Input.{World}
-use Rattle.answer_parts.specs.Parts.{Part, no_share}
+use Rattle.answer_writer.specs.EventLines.{EventLines}
+use Rattle.answer_writer.specs.Input.{World}
+use Rattle.answer_writer.specs.Parts.{Part, no_share}
 use Rattle.event_schema.specs.Lists.{SomeOf}
 use Rattle.event_schema.specs.declared.schema.Schema.{Schema}
 use Rattle.event_schema.specs.declared.value.Value.{Value}
-use Rattle.languages.specs.Answers.{place_of}
-use Rattle.languages.specs.RefusedPlaces.{PatternAt, is_of_pattern, IsAmong, IsCause, AreRefused}
-use Rattle.query_runs.specs.Asked.{IsAsked, IsNotAsked}
-use Rattle.selected_lines.specs.Selected.{Selects}
+use Rattle.query_lang.specs.Answers.{place_of}
+use Rattle.query_lang.specs.RefusedPlaces.{PatternAt, is_of_pattern, IsAmong, IsCause, AreRefused}
+use Rattle.query_read.specs.Asked.{IsAsked, IsNotAsked}
+use Rattle.answer_writer.specs.Selected.{Selects}
 use Rattle.sig_base.specs.declared.limits.Limits.{Limits}
 use Rattle.sig_base.specs.declared.refusal.Refusal.{Refusal}
 use Rattle.sigma_serve.specs.Reports.{refusal_share}
 use Rattle.sigma_serve.specs.RuleFiles.{contents}
 use Rattle.sigma_serve.specs.UnderSchema.{BySchema, ByBuilder, file_part}
-use Rattle.text_places.specs.Places.{CodeAt}
+use Rattle.query_tokens.specs.Places.{CodeAt}
 
 -- The cause is of a regular expression that the builder refused: it's the cause of one of these, at its place, and the expression is among
 -- the texts that the builder refused.

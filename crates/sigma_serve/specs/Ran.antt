@@ -1,16 +1,16 @@
 -- The answer to `run`: the events that the rule that pipelines make of a file's matches.
 use Rattle.std.specs.Prelude.{◌≡◌, ℕ, Bool, List, [], ◌∷◌, ◌++◌, Option}
-use Rattle.answer_parts.specs.EventLines.{ByLine, EventLines}
-use Rattle.answer_parts.specs.Input.{World}
-use Rattle.answer_parts.specs.Parts.{Part, no_share}
+use Rattle.answer_writer.specs.EventLines.{ByLine, EventLines}
+use Rattle.answer_writer.specs.Input.{World}
+use Rattle.answer_writer.specs.Parts.{Part, no_share}
 use Rattle.event_schema.specs.declared.schema.Schema.{Schema}
 use Rattle.pipeline_model.specs.declared.pipeline.Pipeline.{Pipeline}
-use Rattle.rule_building.specs.Unbuilt.{Unbuilt, refused_texts}
+use Rattle.rule_regex.specs.Unbuilt.{Unbuilt, refused_texts}
 use Rattle.rule_model.specs.Matching.{Matches}
 use Rattle.rule_model.specs.Plain.{PlainRule}
-use Rattle.rule_runs.specs.Runs.{IsRun, IsNotRun, AreOfSingle}
+use Rattle.rule_run.specs.Runs.{IsRun, IsNotRun, AreOfSingle}
 use Rattle.rule_schema.specs.Inferred.{schema_for}
-use Rattle.selected_lines.specs.Selected.{Selects}
+use Rattle.answer_writer.specs.Selected.{Selects}
 use Rattle.sig_base.specs.declared.limits.Limits.{Limits}
 use Rattle.sig_base.specs.declared.refusal.Refusal.{Refusal}
 use Rattle.sigma_serve.specs.Reports.{refusal_share}

@@ -1,22 +1,22 @@
 -- What a file of rules is answered, document by document.
 use Rattle.std.specs.Prelude.{◌≡◌, ◌≤◌, ℕ, Bool, List, [], ◌++◌, length, map, Some, unwrap_or}
 use Rattle.std.specs.List.{flat_map}
-use Rattle.answer_parts.specs.Each.{AllShares, EachPart}
-use Rattle.answer_parts.specs.Input.{World, File}
-use Rattle.answer_parts.specs.Parts.{Share, Part}
+use Rattle.answer_writer.specs.Each.{AllShares, EachPart}
+use Rattle.answer_writer.specs.Input.{World, File}
+use Rattle.answer_writer.specs.Parts.{Share, Part}
 use Rattle.correlation_files.specs.Places.{AreOfDocument, AreOfFile}
 use Rattle.event_schema.specs.Lists.{EachOf}
-use Rattle.pipeline_chain.specs.Chained.{Makes}
+use Rattle.pipeline_run.specs.Chained.{Makes}
 use Rattle.pipeline_files.specs.Paired.{paired}
 use Rattle.pipeline_files.specs.Places.{file_texts}
 use Rattle.pipeline_model.specs.declared.pipeline.Pipeline.{Pipeline}
-use Rattle.rule_building.specs.ForUnbuilt.{ForUnbuilt}
-use Rattle.rule_building.specs.Unbuilt.{Unbuilt, none_unbuilt}
+use Rattle.rule_regex.specs.ForUnbuilt.{ForUnbuilt}
+use Rattle.rule_regex.specs.Unbuilt.{Unbuilt, none_unbuilt}
 use Rattle.sig_base.specs.Files.{file_at}
 use Rattle.sig_base.specs.declared.limits.Limits.{Limits}
-use Rattle.rule_runs.specs.Files.{yaml_refusal}
+use Rattle.rule_run.specs.Files.{yaml_refusal}
 use Rattle.sigma_serve.specs.Reports.{refusal_share}
-use Rattle.yaml_files.specs.Call.{IsCallRefusal, IsTaken}
+use Rattle.yaml_documents.specs.Call.{IsCallRefusal, IsTaken}
 use Rattle.yaml_tree.specs.Tree.{At, Tree, Answer, tree, refusal}
 
 -- what a command answers a document's tree, in a file of this name

@@ -1,21 +1,21 @@
 -- What a detection engineer sees from outside: `run` of a rule and `query` of what `convert` wrote for it answer the same.
 use Rattle.std.specs.Prelude.{◌≡◌, ◌⊎◌, ℕ, List, [], ◌∷◌, ◌++◌, Option, Some, IfSome, Ok}
-use Rattle.answer_parts.specs.Input.{World}
-use Rattle.answer_parts.specs.Parts.{Share, Gains}
-use Rattle.answer_parts.specs.State.{Inputs, Streams}
+use Rattle.answer_writer.specs.Input.{World}
+use Rattle.answer_writer.specs.Parts.{Share, Gains}
+use Rattle.answer_writer.specs.State.{Inputs, Streams}
 use Rattle.event_schema.specs.Lists.{EachOf, SomeOf, HasElement}
-use Rattle.languages.specs.RefusedPlaces.{IsAmong}
-use Rattle.pipeline_chain.specs.Chained.{Makes}
-use Rattle.pipeline_chain.specs.Priorities.{by_priority}
+use Rattle.query_lang.specs.RefusedPlaces.{IsAmong}
+use Rattle.pipeline_run.specs.Chained.{Makes}
+use Rattle.pipeline_run.specs.Priorities.{by_priority}
 use Rattle.pipeline_files.specs.Places.{pipeline_expressions}
 use Rattle.pipeline_model.specs.declared.pipeline.Pipeline.{Pipeline}
-use Rattle.rule_building.specs.Unbuilt.{Unbuilt, IsOneOf, IsOfItem}
-use Rattle.rule_items.specs.declared.expression.Expression.{Expression}
+use Rattle.rule_regex.specs.Unbuilt.{Unbuilt, IsOneOf, IsOfItem}
+use Rattle.rule_detections.specs.declared.expression.Expression.{Expression}
 use Rattle.rule_model.specs.Expressions.{document_expressions}
-use Rattle.rule_queries.specs.declared.backend_name.BackendName.{BackendName}
-use Rattle.rule_queries.specs.declared.backend_name.BackendName.TheVariants as backends
-use Rattle.rule_runs.specs.Files.{single_tree}
-use Rattle.rule_runs.specs.Runs.{AreDocuments}
+use Rattle.rule_convert.specs.declared.backend_name.BackendName.{BackendName}
+use Rattle.rule_convert.specs.declared.backend_name.BackendName.TheVariants as backends
+use Rattle.rule_run.specs.Files.{single_tree}
+use Rattle.rule_run.specs.Runs.{AreDocuments}
 use Rattle.sig_base.specs.Judged.{refusal as refusal_at}
 use Rattle.sig_base.specs.declared.limits.Limits.{Limits}
 use Rattle.sig_base.specs.declared.refusal.Refusal.{Refusal}

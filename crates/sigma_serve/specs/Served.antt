@@ -1,13 +1,13 @@
 -- What a run of the program answers, and what it leaves behind.
 use Rattle.std.specs.Prelude.{◌≡◌, ℕ, Bool, if◌then◌else◌, ⊤, true, false, List, [], ◌∷◌, Option, None, Some}
-use Rattle.answer_parts.specs.Cut.{Cut}
-use Rattle.answer_parts.specs.Input.{Input, World, IsNeeded, IsTold, WasUnread, EventsStay}
-use Rattle.answer_parts.specs.Parts.{Part, share_of, NoneOfEvents, Gains}
-use Rattle.answer_parts.specs.Stands.{StopsAt}
-use Rattle.answer_parts.specs.State.{Inputs, Streams, NoWriteFailed, SomeWriteFailed, NoReadFailed}
-use Rattle.answer_parts.specs.declared.stop.Stop.{Stop}
-use Rattle.answer_parts.specs.declared.stop.Stop.TheVariants.{Unread, Unwritten}
-use Rattle.rule_queries.specs.declared.backend_name.BackendName.{BackendName}
+use Rattle.answer_writer.specs.Cut.{Cut}
+use Rattle.answer_writer.specs.Input.{Input, World, IsNeeded, IsTold, WasUnread, EventsStay}
+use Rattle.answer_writer.specs.Parts.{Part, share_of, NoneOfEvents, Gains}
+use Rattle.answer_writer.specs.Stands.{StopsAt}
+use Rattle.answer_writer.specs.State.{Inputs, Streams, NoWriteFailed, SomeWriteFailed, NoReadFailed}
+use Rattle.answer_writer.specs.declared.stop.Stop.{Stop}
+use Rattle.answer_writer.specs.declared.stop.Stop.TheVariants.{Unread, Unwritten}
+use Rattle.rule_convert.specs.declared.backend_name.BackendName.{BackendName}
 use Rattle.sig_base.specs.declared.limits.Limits.{Limits}
 use Rattle.sigma_serve.specs.Answers.{Places, AnswersAt, ArePlaces, Answers, needs_of}
 use Rattle.sigma_serve.specs.Convert.{ConvertMeans}

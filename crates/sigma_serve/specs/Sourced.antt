@@ -1,9 +1,9 @@
 -- What reading rule files whose rules are correlated leaves.
 use Rattle.std.specs.Prelude.{◌≡◌, ◌<◌, ◌^◌, ℕ, Bool, List, ◌++◌, map, length}
 use Rattle.std.specs.List.{AllByRecursion}
-use Rattle.answer_parts.specs.Each.{AllShares, EachPart}
-use Rattle.answer_parts.specs.Input.{World}
-use Rattle.answer_parts.specs.Parts.{Share, Part}
+use Rattle.answer_writer.specs.Each.{AllShares, EachPart}
+use Rattle.answer_writer.specs.Input.{World}
+use Rattle.answer_writer.specs.Parts.{Share, Part}
 use Rattle.correlation_engine.specs.Limits.{IsWithinLimits}
 use Rattle.correlation_files.specs.Bindings.{Verdict, AreJudged, bounds_in, names_in, unbound_in}
 use Rattle.correlation_files.specs.Found.{StandsFor, Named, names_of_rules}
@@ -16,7 +16,7 @@ use Rattle.event_schema.specs.Lists.{EachOf}
 use Rattle.event_schema.specs.declared.schema.Schema.{Schema}
 use Rattle.pipeline_files.specs.Places.{file_texts}
 use Rattle.pipeline_model.specs.declared.pipeline.Pipeline.{Pipeline}
-use Rattle.rule_building.specs.Unbuilt.{Unbuilt}
+use Rattle.rule_regex.specs.Unbuilt.{Unbuilt}
 use Rattle.rule_model.specs.Plain.{PlainRule}
 use Rattle.sig_base.specs.declared.limits.Limits.{Limits}
 use Rattle.sigma_serve.specs.Correlated.{SourceFile, SourcePart, rules_of, correlations_of}

@@ -1,14 +1,14 @@
 -- The answer to a command that a file of pipelines may be named for: it's read behind the schema, and before all else.
 use Rattle.std.specs.Prelude.{◌≡◌, ℕ, Bool, List, [], ◌∷◌, ◌++◌, Option, None, Some}
-use Rattle.answer_parts.specs.Each.{AllShares}
-use Rattle.answer_parts.specs.Input.{World}
-use Rattle.answer_parts.specs.Parts.{Share, Part, no_share}
+use Rattle.answer_writer.specs.Each.{AllShares}
+use Rattle.answer_writer.specs.Input.{World}
+use Rattle.answer_writer.specs.Parts.{Share, Part, no_share}
 use Rattle.event_schema.specs.declared.schema.Schema.{Schema}
-use Rattle.pipeline_chain.specs.Priorities.{by_priority}
+use Rattle.pipeline_run.specs.Priorities.{by_priority}
 use Rattle.pipeline_files.specs.Outcomes.{ArePipelines, AreCauses}
 use Rattle.pipeline_files.specs.Places.{AreOfPipelines, file_texts}
 use Rattle.pipeline_model.specs.declared.pipeline.Pipeline.{Pipeline}
-use Rattle.rule_building.specs.Unbuilt.{Unbuilt}
+use Rattle.rule_regex.specs.Unbuilt.{Unbuilt}
 use Rattle.sig_base.specs.declared.limits.Limits.{Limits}
 use Rattle.sig_base.specs.declared.refusal.Refusal.{Refusal}
 use Rattle.sigma_serve.specs.Reports.{refusal_share}

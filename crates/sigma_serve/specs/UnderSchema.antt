@@ -1,11 +1,11 @@
 -- The answer to a command that a schema's file may be named for: it's read before all else.
 use Rattle.std.specs.Prelude.{◌≡◌, ℕ, Bool, true, false, List, [], ◌∷◌, Option, None, Some, Result, Ok, Err}
-use Rattle.answer_parts.specs.Input.{World, File}
-use Rattle.answer_parts.specs.Parts.{Share, Part, no_share}
-use Rattle.answer_parts.specs.declared.stop.Stop.{Stop}
-use Rattle.event_reading.specs.SchemaOf.{schema_of}
+use Rattle.answer_writer.specs.Input.{World, File}
+use Rattle.answer_writer.specs.Parts.{Share, Part, no_share}
+use Rattle.answer_writer.specs.declared.stop.Stop.{Stop}
+use Rattle.event_read.specs.SchemaOf.{schema_of}
 use Rattle.event_schema.specs.declared.schema.Schema.{Schema}
-use Rattle.rule_runs.specs.Files.{file_start}
+use Rattle.rule_run.specs.Files.{file_start}
 use Rattle.sig_base.specs.Judged.{refusal}
 use Rattle.sig_base.specs.declared.limits.Limits.{Limits}
 use Rattle.sigma_serve.specs.Reports.{refusal_share}

@@ -2,13 +2,13 @@
 use Rattle.std.specs.Prelude.{◌≡◌, ℕ, ◌+◌, ◌-◌, ◌*◌, ◌^◌, ◌<◌, Bool, false, ◌&&◌, ◌||◌, nat_le, nat_lt, if◌then◌else◌, List, [], ◌∷◌, length, map, codes, Option, Some, None, option_map, option_and_then, encode_utf8_all}
 use Rattle.std.specs.List.{list_all}
 use Rattle.std.specs.Str.{bytes_eq, chars}
-use Rattle.command_words.specs.Computed.{given}
-use Rattle.command_words.specs.Given.{Item, value_of, names_of}
-use Rattle.command_words.specs.Table.{row_of, backend, schema, pipeline, seed, events, IsGiven}
-use Rattle.command_words.specs.declared.command_name.CommandName.{CommandName}
-use Rattle.command_words.specs.declared.command_name.CommandName.TheVariants as commands
-use Rattle.rule_queries.specs.declared.backend_name.BackendName.{BackendName}
-use Rattle.rule_queries.specs.declared.backend_name.BackendName.TheVariants.{Sqlite, Lucene}
+use Rattle.command_line.specs.Computed.{given}
+use Rattle.command_line.specs.Given.{Item, value_of, names_of}
+use Rattle.command_line.specs.Table.{row_of, backend, schema, pipeline, seed, events, IsGiven}
+use Rattle.command_line.specs.declared.command_name.CommandName.{CommandName}
+use Rattle.command_line.specs.declared.command_name.CommandName.TheVariants as commands
+use Rattle.rule_convert.specs.declared.backend_name.BackendName.{BackendName}
+use Rattle.rule_convert.specs.declared.backend_name.BackendName.TheVariants.{Sqlite, Lucene}
 use Rattle.sigma_serve.specs.declared.request.Request.{Request}
 use Rattle.sigma_serve.specs.declared.request.Request.TheVariants.{Check, Convert, Run, Query, Correlate, Generate}
 

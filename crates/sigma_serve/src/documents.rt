@@ -2,9 +2,9 @@
 
 ghost use Rattle.std.specs.Prelude.{◌≡◌, ◌||◌, ◌∷◌, [], List};
 ghost use Rattle.std.specs.List.{All};
-ghost use Rattle.answer_parts.specs.Stands.{Writes};
+ghost use Rattle.answer_writer.specs.Stands.{Writes};
 ghost use Rattle.pipeline_model.specs.declared.pipeline.Pipeline.{Pipeline};
-ghost use Rattle.rule_building.specs.Unbuilt.{Unbuilt};
+ghost use Rattle.rule_regex.specs.Unbuilt.{Unbuilt};
 ghost use Rattle.sig_base.specs.declared.limits.Limits.{Limits as LimitsData};
 ghost use Rattle.sigma_serve.specs.Reports.{refusal_share};
 ghost use Rattle.sigma_serve.specs.RuleFiles.{ByUnbuilt, BySome, DocumentsBySome, FileBySome};
@@ -14,8 +14,8 @@ ghost use Rattle.yaml_documents.specs.Given.{IsPlain, answers_view};
 ghost use Rattle.yaml_tree.specs.View.{node_view, document_view};
 
 use crate::report::refusal_text;
-use answer_parts::{Outside, Stop, tell_diagnostic};
-use languages::Builder;
+use answer_writer::{Outside, Stop, tell_diagnostic};
+use query_lang::Builder;
 use sig_base::{Fault, Limits, Refusal, Text};
 use std::alloc::Global;
 use yaml_documents::read_documents;

@@ -1,14 +1,14 @@
 //! Going through rule files.
 
 ghost use Rattle.std.specs.Prelude.{◌≡◌, ◌∷◌, [], false, Contains};
-ghost use Rattle.answer_parts.specs.Stands.{Ends};
-ghost use Rattle.answer_parts.specs.Input.{Needs};
+ghost use Rattle.answer_writer.specs.Stands.{Ends};
+ghost use Rattle.answer_writer.specs.Input.{Needs};
 ghost use Rattle.sigma_serve.specs.RuleFiles.{FilesBySome};
 ghost use Rattle.sigma_serve.specs.UnderSchema.{is_ended};
 
 use crate::documents::{TreeCommand, answer_bytes, each_file, either};
-use answer_parts::{Outside, Stop, read_file};
-use languages::Builder;
+use answer_writer::{Outside, Stop, read_file};
+use query_lang::Builder;
 use sig_base::{Limits, Text};
 use std::alloc::Global;
 

@@ -2,8 +2,8 @@
 
 ghost use Rattle.std.specs.Prelude.{◌≡◌, [], ℕ, Bool, List, Some, map};
 ghost use Rattle.std.specs.List.{AllZip};
-ghost use Rattle.answer_parts.specs.State.{NoWriteFailed, SomeWriteFailed};
-ghost use Rattle.answer_parts.specs.declared.stop.Stop.TheVariants.{Unread};
+ghost use Rattle.answer_writer.specs.State.{NoWriteFailed, SomeWriteFailed};
+ghost use Rattle.answer_writer.specs.declared.stop.Stop.TheVariants.{Unread};
 ghost use Rattle.correlation_windows.specs.History.{Taken};
 ghost use Rattle.correlation_windows.specs.Kept.{StandsFor};
 ghost use Rattle.detection_eval.specs.Ready as made;
@@ -13,9 +13,9 @@ ghost use Rattle.sigma_serve.specs.Follow.{Followed, FollowedCut, FollowedUnread
 ghost use Rattle.sigma_serve.specs.Served.{IsAnswered, IsCutOff, streams_of};
 
 use crate::status::Status;
-use answer_parts::{Lent, Outside, Stop};
+use answer_writer::{Lent, Outside, Stop};
 use correlation_engine::Engine;
-use correlation_runs::{follow_events, one_follower};
+use correlation_run::{follow_events, one_follower};
 use detection_eval::Ready;
 use event_schema::Schema;
 use rule_model::Rule;

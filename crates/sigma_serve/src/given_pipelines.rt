@@ -1,9 +1,9 @@
 //! Commands that a file of pipelines may be named for.
 
 ghost use Rattle.std.specs.Prelude.{◌≡◌, ◌+◌, ◌∷◌, [], Some, Bool, false, List, ℕ, option_map};
-ghost use Rattle.answer_parts.specs.Stands.{Ends, Writes};
+ghost use Rattle.answer_writer.specs.Stands.{Ends, Writes};
 ghost use Rattle.event_schema.specs.Lists.{EachOf};
-ghost use Rattle.pipeline_chain.specs.Kept.{IsWholePipeline};
+ghost use Rattle.pipeline_run.specs.Kept.{IsWholePipeline};
 ghost use Rattle.pipeline_model.specs.declared.pipeline.Pipeline.{Pipeline as PipelineData};
 ghost use Rattle.sig_base.specs.Files.{IsFront};
 ghost use Rattle.sigma_serve.specs.Answers.{names_with};
@@ -12,12 +12,12 @@ ghost use Rattle.sigma_serve.specs.UnderPipelines.{AreReported, ByPipelines, Pip
 ghost use Rattle.sigma_serve.specs.UnderSchema.{is_ended};
 
 use crate::documents::{either, put_refusal};
-use answer_parts::{Outside, Stop, read_file};
+use answer_writer::{Outside, Stop, read_file};
 use event_schema::Schema;
-use languages::Builder;
-use pipeline_chain::by_priority;
 use pipeline_files::{FileFault, one_outcome, read_pipelines};
 use pipeline_model::Pipeline;
+use pipeline_run::by_priority;
+use query_lang::Builder;
 use sig_base::{Limits, Refusal, Text};
 use std::alloc::Global;
 

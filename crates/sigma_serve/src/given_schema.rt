@@ -1,17 +1,17 @@
 //! Commands that a schema's file may be named for.
 
 ghost use Rattle.std.specs.Prelude.{◌≡◌, ◌+◌, ◌∷◌, Some, Bool, false, List, ℕ, option_map};
-ghost use Rattle.answer_parts.specs.Stands.{Ends};
+ghost use Rattle.answer_writer.specs.Stands.{Ends};
 ghost use Rattle.sig_base.specs.Files.{IsFront};
 ghost use Rattle.sigma_serve.specs.Answers.{names_with};
 ghost use Rattle.sigma_serve.specs.Laws.{EachUnder};
 ghost use Rattle.sigma_serve.specs.UnderSchema.{ByBuilder, UnderBuilder, is_ended};
 
 use crate::documents::put_refusal;
-use answer_parts::{Outside, Stop, read_file};
-use event_reading::read_schema;
+use answer_writer::{Outside, Stop, read_file};
+use event_read::read_schema;
 use event_schema::Schema;
-use languages::Builder;
+use query_lang::Builder;
 use sig_base::{Fault, Limits, Text};
 use std::alloc::Global;
 

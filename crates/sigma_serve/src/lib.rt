@@ -2,7 +2,7 @@
 #![tactic(auto)]
 
 pub use following::follow;
-pub use law::{asks_for_events, each_answer, one_answer, queries_mean_rules, words_are_read};
+pub use laws::{asks_for_events, each_answer, one_answer, queries_mean_rules, words_are_read};
 pub use request::Request;
 pub use same_lines::run_as_queried;
 pub use serving::serve;
@@ -15,7 +15,7 @@ mod files;
 mod following;
 mod given_pipelines;
 mod given_schema;
-mod law;
+mod laws;
 mod numbers;
 mod report;
 mod request;

@@ -1,7 +1,7 @@
 //! The diagnostics about rule files, and the lines of `check`.
 
 ghost use Rattle.std.specs.Prelude.{◌≡◌, ◌++◌, ◌∷◌, [], IfOk, map, string_bytes, encode_utf8_all};
-ghost use Rattle.answer_parts.specs.Lines.{ended};
+ghost use Rattle.answer_writer.specs.Lines.{ended};
 ghost use Rattle.sigma_serve.specs.Reports.{refusal_diagnostic, ok_line};
 ghost use Rattle.sigma_serve.specs.Reports as reports;
 

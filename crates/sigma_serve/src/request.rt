@@ -1,6 +1,6 @@
 //! What the words ask for.
 
-use rule_queries::BackendName;
+use rule_convert::BackendName;
 use sig_base::{Text, Texts};
 
 /// A command with its files.

@@ -1,10 +1,10 @@
 //! The top call: the whole program over a shelf, a source and two sinks.
 
 ghost use Rattle.std.specs.Prelude.{◌≡◌, ℕ, List, Option};
-ghost use Rattle.answer_parts.specs.Input.{Input, World, WasUnread};
-ghost use Rattle.answer_parts.specs.Stands.{Ends};
-ghost use Rattle.answer_parts.specs.State.{NoWriteFailed, SomeWriteFailed, NoReadFailed};
-ghost use Rattle.answer_parts.specs.declared.stop.Stop.TheVariants.{Unread};
+ghost use Rattle.answer_writer.specs.Input.{Input, World, WasUnread};
+ghost use Rattle.answer_writer.specs.Stands.{Ends};
+ghost use Rattle.answer_writer.specs.State.{NoWriteFailed, SomeWriteFailed, NoReadFailed};
+ghost use Rattle.answer_writer.specs.declared.stop.Stop.TheVariants.{Unread};
 ghost use Rattle.sigma_serve.specs.Answers.{Answers, needs_of};
 ghost use Rattle.sigma_serve.specs.Served.{RefusedTexts, Serves, IsAnswered, IsCutOff, Tells, IsRead, MayBeUnread, ReadsNoEvents, Written, Headline, StandsAfter, StandsUnread, Unasked, inputs_of, streams_of};
 ghost use Rattle.sigma_serve.specs.UnderSchema.{is_ended};
@@ -17,12 +17,12 @@ use crate::commands::generate::answer_generate;
 use crate::commands::query::answer_query;
 use crate::commands::run::answer_run;
 use crate::files::answer_files;
-use crate::law::{each_answer, one_answer, queries_mean_rules};
+use crate::laws::{each_answer, one_answer, queries_mean_rules};
 use crate::request::Request;
 use crate::status::Status;
 use crate::words::read_words;
-use answer_parts::{Lent, Outside, Stop, tell_diagnostic};
-use languages::Builder;
+use answer_writer::{Lent, Outside, Stop, tell_diagnostic};
+use query_lang::Builder;
 use sig_base::{Limits, Shelf, Sink, Source, Text};
 use std::alloc::Global;
 

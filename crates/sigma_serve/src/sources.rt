@@ -1,19 +1,19 @@
 //! Reading rule files whose rules are correlated.
 
 ghost use Rattle.std.specs.Prelude.{◌≡◌, ◌∷◌, [], false, Contains, OnOk};
-ghost use Rattle.answer_parts.specs.Input.{Needs};
-ghost use Rattle.answer_parts.specs.Stands.{Ends, Writes};
+ghost use Rattle.answer_writer.specs.Input.{Needs};
+ghost use Rattle.answer_writer.specs.Stands.{Ends, Writes};
 ghost use Rattle.correlation_files.specs.Found.{Grows};
 ghost use Rattle.sigma_serve.specs.Sourced.{GrowsBy, IsFound, SourceShare, SourcesBySome};
 ghost use Rattle.sigma_serve.specs.UnderSchema.{is_ended};
 
 use crate::documents::either;
 use crate::given_pipelines::put_refusals;
-use answer_parts::{Outside, Stop, read_file};
+use answer_writer::{Outside, Stop, read_file};
 use correlation_files::{Found, one_outcome, read_rules};
 use event_schema::Schema;
-use languages::Builder;
 use pipeline_model::Pipeline;
+use query_lang::Builder;
 use sig_base::{Limits, Text};
 use std::alloc::Global;
 

@@ -2,8 +2,8 @@
 
 ghost use Rattle.std.specs.Prelude.{◌≡◌, List, [], map, Some, unwrap_or, option_map, option_and_then, IfOk, IfSome, IfNone};
 ghost use Rattle.std.specs.Str.{chars};
-ghost use Rattle.command_words.specs.Given.{Item};
-ghost use Rattle.command_words.specs.Matched.{HasItems};
+ghost use Rattle.command_line.specs.Given.{Item};
+ghost use Rattle.command_line.specs.Matched.{HasItems};
 ghost use Rattle.sigma_serve.specs.Words.{IsAccepted, IsUnaccepted, files_of, only, pipelines_in, request_with, schema_in};
 ghost use Rattle.sigma_serve.specs.Words as accepted_words;
 ghost use Rattle.sigma_serve.specs.declared.request.Request.TheVariants as requests;
@@ -11,8 +11,8 @@ ghost use Rattle.sigma_serve.specs.declared.request.Request.TheVariants as reque
 use crate::numbers::number_if_any;
 use crate::request::Request;
 use clap::ArgMatches;
-use command_words::{CommandName, items_are_read, read};
-use rule_queries::BackendName;
+use command_line::{CommandName, items_are_read, read};
+use rule_convert::BackendName;
 use sig_base::{Text, Texts};
 use std::alloc::{AllocError, Global};
 

@@ -2,10 +2,10 @@
 
 ghost use Rattle.std.specs.Prelude.{◌≡◌, ◌++◌, ◌∷◌, [], ℕ, List, true, OnOk, IfErr};
 ghost use Rattle.std.specs.Str.{chars};
-ghost use Rattle.languages.specs.Patterns.{finds};
+ghost use Rattle.query_lang.specs.Patterns.{finds};
 ghost use Rattle.sql_eval.specs.Searches.{left_of, Passes};
 
-use languages::{Finder, Search};
+use query_lang::{Finder, Search};
 use sig_base::Fault;
 use std::alloc::Global;
 use std::marker::Model;

@@ -6,12 +6,12 @@
 pub use query::{selects, value_of, with_selector};
 pub use truth::Truth;
 
-mod asking;
-mod comparing;
+mod asked_queries;
+mod comparisons;
 mod finders;
-mod gathering;
 mod query;
+mod searches;
 mod seen;
-mod testing;
+mod test_values;
 mod truth;
 mod value;

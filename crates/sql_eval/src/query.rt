@@ -2,19 +2,19 @@
 
 ghost use Rattle.std.specs.Prelude.{◌≡◌, IsOk, IfOk, IfErr, false};
 ghost use Rattle.event_schema.specs.Rows.{first_values};
-ghost use Rattle.languages.specs.Answers.{SelectAnswers};
+ghost use Rattle.query_lang.specs.Answers.{SelectAnswers};
 ghost use Rattle.sql_lang.specs.Meaning as meaning;
-ghost use Rattle.sql_queries.specs.Queries.{Picks};
-ghost use Rattle.sql_query.specs.View.{expr_view};
+ghost use Rattle.sql_lang.specs.Queries.{Picks};
+ghost use Rattle.sql_lang.specs.View.{expr_view};
 ghost use Rattle.sql_eval.specs.Searches.{takes_memory};
 ghost use Rattle.sql_eval.specs.View.{truth_view};
 
-use crate::asking::Asking;
+use crate::asked_queries::Asking;
 use crate::truth::Truth;
 use event_schema::Event;
-use languages::Asker;
+use query_lang::Asker;
 use sig_base::Fault;
-use sql_query::Select;
+use sql_lang::Select;
 use std::alloc::Global;
 
 /// What a query says of one event: yes, no or unknown, by the first value of each field. Only want of memory is answered, and only by

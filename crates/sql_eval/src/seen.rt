@@ -4,12 +4,12 @@ ghost use Rattle.std.specs.Prelude.{◌≡◌};
 ghost use Rattle.std.specs.Str.{chars};
 ghost use Rattle.event_schema.specs.Rows.{first_values};
 ghost use Rattle.sql_lang.specs.Meaning as meaning;
-ghost use Rattle.sql_query.specs.View.{operand_view};
+ghost use Rattle.sql_lang.specs.View.{operand_view};
 ghost use Rattle.sql_eval.specs.View.{seen_view, seen_option_view};
 
 use event_schema::{Event, Value, decimal_in};
 use itoa::Buffer;
-use sql_query::Operand;
+use sql_lang::Operand;
 
 /// A value of a column or of a literal, without a copy.
 #[derive(Clone, Copy)]

@@ -3,15 +3,15 @@
 ghost use Rattle.std.specs.Prelude.{◌≡◌};
 ghost use Rattle.event_schema.specs.Rows.{first_values};
 ghost use Rattle.sql_lang.specs.Meaning as meaning;
-ghost use Rattle.sql_query.specs.View.{test_view, expr_view, exprs_view};
+ghost use Rattle.sql_lang.specs.View.{test_view, expr_view, exprs_view};
 ghost use Rattle.sql_eval.specs.Searches.{left_of, test_patterns, patterns_in, all_patterns, Passes, Values};
 ghost use Rattle.sql_eval.specs.View.{truth_view};
 
 use crate::finders::Finders;
-use crate::testing::test_value;
+use crate::test_values::test_value;
 use crate::truth::{Truth, both, either, negation};
 use event_schema::Event;
-use sql_query::{Expr, SqlTest};
+use sql_lang::{Expr, SqlTest};
 
 fn pass_test(test: &SqlTest, finders: &mut Finders<'_>)
     ensures texts { finders.new.texts ≡ finders.old.texts }

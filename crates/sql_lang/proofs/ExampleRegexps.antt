@@ -9,9 +9,9 @@ use Rattle.regex_hir.specs.Looks.{holds, holds_between}
 use Rattle.regex_hir.specs.Re.{attempt, rounds}
 use Rattle.regex_hir.specs.Text.{byte_before, has_bytes_at, is_boundary}
 use Rattle.event_schema.specs.declared.value.Value.TheVariants as values
-use Rattle.text_places.specs.Places.{At, CodeAt, code_at}
-use Rattle.languages.specs.Patterns.{finds}
-use Rattle.languages.specs.RefusedPlaces.{PatternAt}
+use Rattle.query_tokens.specs.Places.{At, CodeAt, code_at}
+use Rattle.query_lang.specs.Patterns.{finds}
+use Rattle.query_lang.specs.RefusedPlaces.{PatternAt}
 use Rattle.sql_lang.specs.Tokens.{scan, tokens, is_number, run_sort, text_sort}
 use Rattle.sql_lang.specs.Expression.{Constant, Like, Regexp, Or, And, Not, Test, depth}
 use Rattle.sql_lang.specs.Faults.{is_bad_escape, is_bad_bracket, refused_at}

@@ -1,10 +1,10 @@
 -- Where places are refused for their regular expressions, a query has the faults that it has anyhow, and these places.
 use Rattle.std.proofs.Common.{ℕ, suc, ◌≡◌, refl, sym, Bool, true, false, List, [], ◌∷◌, ◌++◌, length, drop, ◌+◌, subst, not}
-use Rattle.languages.specs.RefusedPlaces.{is_of_pattern}
+use Rattle.query_lang.specs.RefusedPlaces.{is_of_pattern}
 use Rattle.event_schema.specs.Lists.{EachOf}
 use Rattle.event_schema.specs.declared.schema.Field.{Field}
 use Rattle.event_schema.specs.declared.schema.Schema.{Schema}
-use Rattle.text_places.specs.Places.{At, CodeAt, code_at_if, nth}
+use Rattle.query_tokens.specs.Places.{At, CodeAt, code_at_if, nth}
 use Rattle.sql_lang.specs.Grammar.{Leaf, regexp, spell_not, spell_and, spell_nots, Ors, last_and, and_or, Ands, last_not, not_and, Nots, not_not, a_test, enclosed, Query}
 use Rattle.sql_lang.specs.Faults.{is_refused, refused_at, name_faults, test_faults, or_faults, and_faults, not_faults, query_faults}
 use Rattle.sql_lang.specs.Reading.{IsRefusedPlace}

@@ -6,9 +6,9 @@ use Rattle.std.proofs.lemmas.List.{append_cancel_right}
 use Rattle.std.proofs.lemmas.List.Folds.{list_all-append}
 use Rattle.std.proofs.lemmas.Bool.Decides.{nat_tests}
 use Rattle.event_schema.specs.declared.schema.Schema.{Schema}
-use Rattle.text_places.specs.Places.{At, CodeAt, code_at}
+use Rattle.query_tokens.specs.Places.{At, CodeAt, code_at}
 use Rattle.sql_lang.specs.Tokens.{Token, Sort, Word, OR, AND, Closing, tokens}
-use Rattle.text_places.specs.Tokens.{sorts, places, token_place}
+use Rattle.query_tokens.specs.Tokens.{sorts, places, token_place}
 use Rattle.sql_lang.specs.Grammar.{Collate, Unsaid, NoCase, Binary, Literal, a_text, a_number, Right, a_name, a_literal, Leaf, constant, is_null, compares, like, glob, regexp, one_of, between, Ors, last_and, and_or, Ands, last_not, not_and, Nots, not_not, a_test, enclosed, Query, spell_collate, spell_literal, spell_right, spell_not, spell_escape, spell_before, spell_test, spell_or, spell_and, spell_nots, spell_end, spell_query, StopsAt}
 use Rattle.sql_lang.specs.Expression.{Expr, or_expr, depth}
 use Rattle.sql_lang.specs.Faults.{query_faults}
@@ -18,7 +18,7 @@ use Rattle.sql_lang.specs.Verdict.{on_faults, on_depth, on_query, on_nesting, on
 use Rattle.sql_lang.proofs.Complete.{one_spelled}
 use Rattle.sql_lang.proofs.Both.{both_true}
 use Rattle.sql_lang.proofs.Fewer.{fewer, first_refused}
-use Rattle.text_places.proofs.Stops.{one_stop_of, no_stop_of}
+use Rattle.query_tokens.proofs.Stops.{one_stop_of, no_stop_of}
 use Rattle.sql_lang.proofs.Alive.{ends_so}
 
 -- ---- a query's tokens are all of the language

@@ -2,8 +2,8 @@
 use Rattle.std.proofs.Common.{ℕ, suc, ◌≡◌, refl, sym, ◌∙◌, Bool, true, false, ◌||◌, List, [], ◌∷◌, ◌++◌, arith, subst, ◌⊎◌, inl, inr}
 use Rattle.std.specs.Prelude.{Option, Some, None, ◌==◌, if◌then◌else◌, ⊤}
 use Rattle.event_schema.specs.Lists.{EachOf}
-use Rattle.text_places.specs.Places.{At, origin, after}
-use Rattle.text_places.specs.Tokens.{places}
+use Rattle.query_tokens.specs.Places.{At, origin, after}
+use Rattle.query_tokens.specs.Tokens.{places}
 use Rattle.sql_lang.specs.Tokens.{Op, Sort, Token, is_blank, is_run_char, begins_sign, long_sign, sign_of, sign_turn, run_sort, quoted_sort, Mode, Outside, Whole, InRun, InQuotes, AfterQuotes, InSign, start, Turn, goes_on, ends, turn, last, scan, tokens}
 use Rattle.sql_lang.specs.Rising.{IsBefore, AreRising}
 

@@ -1,8 +1,8 @@
 -- Bytes have exactly one verdict.
 use Rattle.std.proofs.Common.{ℕ, ◌≡◌, refl, sym, ◌∙◌, List, subst, ◌⊎◌, inl, inr}
 use Rattle.event_schema.specs.declared.schema.Schema.{Schema}
-use Rattle.text_places.specs.Places.{At, CodeAt, code_at, IsText, IsBadAt}
-use Rattle.text_places.proofs.Bytes.{text_or_bad, one_text, one_bad, not_both}
+use Rattle.query_tokens.specs.Places.{At, CodeAt, code_at, IsText, IsBadAt}
+use Rattle.query_tokens.proofs.Bytes.{text_or_bad, one_text, one_bad, not_both}
 use Rattle.sql_lang.specs.Expression.{Expr}
 use Rattle.sql_lang.specs.Reading.{ReadsWithin, IsRefusedPlace, Refuses, BytesRead, BytesRefused, no_text, no_query}
 use Rattle.sql_lang.proofs.Judged.{has_verdict_of, not_both_of, one_refusal_of}

@@ -2,7 +2,7 @@
 -- whether with 47 or 48, is told by a list of places.
 use Rattle.std.specs.Prelude.{ℕ, suc, ◌+◌, Bool, true, false, not, ◌&&◌, ◌||◌, ◌==◌, if◌then◌else◌, List, [], ◌∷◌, ◌++◌, length, drop, Option, Some, None}
 use Rattle.std.specs.List.{list_any}
-use Rattle.text_places.specs.Places.{At, CodeAt, code_at, code_at_if, nth}
+use Rattle.query_tokens.specs.Places.{At, CodeAt, code_at, code_at_if, nth}
 use Rattle.sql_lang.specs.Tokens.{Op, Eq, Ne}
 use Rattle.sql_lang.specs.Grammar.{Collate, Unsaid, NoCase, Binary, Literal, a_text, a_number, Right, a_name, a_literal, Leaf, constant, is_null, compares, like, glob, regexp, one_of, between, spell_collate, spell_not, spell_and, spell_nots, Ors, last_and, and_or, Ands, last_not, not_and, Nots, not_not, a_test, enclosed, Query}
 use Rattle.event_schema.specs.declared.schema.Field.{Field}

@@ -9,7 +9,7 @@
 -- A query is plain data here, with its parentheses; a text is this query where the query's spelling is the text's
 -- tokens. The tests are of SQLite's page on expressions; NOT binds tighter than AND, and AND tighter than OR.
 use Rattle.std.specs.Prelude.{ℕ, ◌≡◌, Bool, true, false, List, [], ◌∷◌, ◌++◌, codes, Option, Some, None}
-use Rattle.text_places.specs.Spelled as spelled
+use Rattle.query_tokens.specs.Spelled as spelled
 use Rattle.sql_lang.specs.Tokens.{SELECT, FROM, WHERE, OR, AND, NOT, IS, NULL, LIKE, ESCAPE, GLOB, REGEXP, IN, BETWEEN, COLLATE, NOCASE, BINARY, Op, Sort, Word, Name, Text, Number, Opening, Closing, Comma, Star, Semicolon, Compares}
 
 -- ---- one test

@@ -10,3 +10,5 @@ pub mod Meaning
 pub mod ColumnTests
 pub mod Rising
 pub mod Regexps
+pub mod Queries
+pub mod View

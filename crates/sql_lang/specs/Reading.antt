@@ -1,13 +1,13 @@
 -- Which text is which query under a schema, and which refusal comes first.
 use Rattle.std.specs.Prelude.{ℕ, suc, ◌≡◌, ◌≤◌, ◌<◌, ◌+◌, Bool, true, false, ◌||◌, nat_lt, if◌then◌else◌, List, [], ◌∷◌, length, Option, Some, None, encode_utf8_all}
 use Rattle.std.specs.Str.{all_scalars}
-use Rattle.text_places.specs.Places.{At, origin, IsText, IsBadAt, CodeAt, code_at}
+use Rattle.query_tokens.specs.Places.{At, origin, IsText, IsBadAt, CodeAt, code_at}
 use Rattle.sql_lang.specs.Tokens.{Token, Sort, Word, Opening, Closing, Other, NOT, tokens}
-use Rattle.text_places.specs.Tokens.{sorts, places, token_place}
+use Rattle.query_tokens.specs.Tokens.{sorts, places, token_place}
 use Rattle.sql_lang.specs.Grammar.{Query, spell_query, StopsAt}
 use Rattle.event_schema.specs.declared.schema.Schema.{Schema}
 use Rattle.sql_lang.specs.Expression.{Expr, or_expr, depth}
-use Rattle.languages.specs.RefusedPlaces.{is_of_pattern}
+use Rattle.query_lang.specs.RefusedPlaces.{is_of_pattern}
 use Rattle.sql_lang.specs.Faults.{is_refused, query_faults}
 
 -- These characters are a query of this schema with this expression: their tokens spell it, its names are the schema's,

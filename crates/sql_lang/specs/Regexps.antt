@@ -1,8 +1,8 @@
 -- The regular expressions in a text, with their places: each text that stands directly behind a word REGEXP.
 use Rattle.std.specs.Prelude.{ℕ, Bool, true, false, if◌then◌else◌, List, [], ◌∷◌, ◌++◌}
 use Rattle.std.specs.Str.{chars, is_utf8}
-use Rattle.text_places.specs.Places.{At}
-use Rattle.languages.specs.RefusedPlaces.{PatternAt}
+use Rattle.query_tokens.specs.Places.{At}
+use Rattle.query_lang.specs.RefusedPlaces.{PatternAt}
 use Rattle.sql_lang.specs.Tokens.{Token, Sort, Word, Text, REGEXP, tokens}
 
 abbrev pub is_regexp : Sort → Bool

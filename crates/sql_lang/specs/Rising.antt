@@ -1,7 +1,7 @@
 -- Places in a row: each stands before all that follow.
 use Rattle.std.specs.Prelude.{◌≡◌, ◌<◌, ◌⊎◌, ⊤, List, [], ◌∷◌}
 use Rattle.event_schema.specs.Lists.{EachOf}
-use Rattle.text_places.specs.Places.{At}
+use Rattle.query_tokens.specs.Places.{At}
 
 -- on a line before, or further left on the same one
 abbrev pub IsBefore : At → At → Type 0

@@ -5,8 +5,8 @@ use Rattle.std.specs.Char.{is_ascii_alphanumeric}
 use Rattle.std.specs.List.{list_all}
 use Rattle.std.specs.Str.{bytes_eq}
 use Rattle.sig_base.specs.Folding.{folded}
-use Rattle.text_places.specs.Places.{At, origin, after}
-use Rattle.text_places.specs.Tokens as texts
+use Rattle.query_tokens.specs.Places.{At, origin, after}
+use Rattle.query_tokens.specs.Tokens as texts
 
 pub data Keyword : Type 0 where
   SELECT : Keyword

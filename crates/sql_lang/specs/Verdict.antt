@@ -2,8 +2,8 @@
 -- places are refused for their regular expressions.
 use Rattle.std.specs.Prelude.{ℕ, ◌-◌, Bool, true, false, nat_lt, List, [], ◌∷◌, length, Option, Some, None, Result, Ok, Err}
 use Rattle.event_schema.specs.declared.schema.Schema.{Schema}
-use Rattle.text_places.specs.Places.{At, origin, CodeAt, code_at}
-use Rattle.text_places.specs.Tokens.{sorts, places, token_place}
+use Rattle.query_tokens.specs.Places.{At, origin, CodeAt, code_at}
+use Rattle.query_tokens.specs.Tokens.{sorts, places, token_place}
 use Rattle.sql_lang.specs.Tokens.{Sort, tokens}
 use Rattle.sql_lang.specs.Grammar.{Query}
 use Rattle.sql_lang.specs.Expression.{Expr, or_expr, depth}

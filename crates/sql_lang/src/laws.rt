@@ -9,8 +9,8 @@ ghost use Rattle.sql_lang.specs.Expression.{Expr};
 ghost use Rattle.sql_lang.specs.Machine.{Begun, Ends, run, finish};
 ghost use Rattle.sql_lang.specs.Reading.{Reads};
 ghost use Rattle.sql_lang.specs.Rising.{IsBefore, AreRising};
-ghost use Rattle.text_places.specs.Places.{At};
-ghost use Rattle.text_places.specs.Tokens.{places};
+ghost use Rattle.query_tokens.specs.Places.{At};
+ghost use Rattle.query_tokens.specs.Tokens.{places};
 
 /// Bytes are read as one expression at most.
 pub fn one_reading()

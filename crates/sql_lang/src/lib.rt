@@ -4,12 +4,22 @@
 //! `specs/` says which text is which query, where a text stops being one, which refusal comes first, how
 //! a text is read token by token, and what an expression says of a row. The functions are the laws of the
 //! definitions.
+//!
+//! SQL as a query language: what its queries are and mean.
+//!
+//! SQL queries as values: what a reader makes and an evaluator asks.
+//!
+//! `specs/View` says which expression of the language, as `sql_lang` defines it, a value is.
 #![tactic(auto)]
 
 mod laws;
 mod meaning;
+mod query;
+mod sql;
 mod verdict;
 
 pub use laws::{machine_reads, no_stop_in_query, one_reading, one_spelling, one_stop, places_rise};
 pub use meaning::{leaves_select, runs_and_characters};
+pub use query::{Collate, Expr, Operand, Select, Side, SqlOp, SqlTest};
+pub use sql::Sql;
 pub use verdict::{no_refused_query, one_refusal, query_or_refusal};

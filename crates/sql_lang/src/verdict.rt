@@ -4,7 +4,7 @@
 ghost use Rattle.std.specs.Prelude.{◌≡◌, ◌⊎◌, ℕ, List};
 ghost use Rattle.event_schema.specs.declared.schema.Schema.{Schema};
 ghost use Rattle.sql_lang.specs.Expression.{Expr};
-ghost use Rattle.text_places.specs.Places.{CodeAt};
+ghost use Rattle.query_tokens.specs.Places.{CodeAt};
 ghost use Rattle.sql_lang.specs.Verdict.{verdict, IsVerdict};
 ghost use Rattle.sql_lang.specs.Reading.{ReadsWithin, IsRefusedPlace, Refuses, BytesRead, BytesRefused};
 

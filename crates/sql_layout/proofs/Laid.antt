@@ -4,7 +4,7 @@ use Rattle.std.specs.Prelude.{Option, encode_utf8_all}
 use Rattle.std.specs.List.{list_all}
 use Rattle.std.specs.Str.{all_scalars}
 use Rattle.std.proofs.lemmas.List.Folds.{list_all-append}
-use Rattle.text_places.specs.Places.{At}
+use Rattle.query_tokens.specs.Places.{At}
 use Rattle.sql_lang.specs.Tokens.{Sort, Word, OR, AND, Closing}
 use Rattle.sql_lang.specs.Grammar.{Leaf, Ors, last_and, and_or, Ands, last_not, not_and, Nots, not_not, a_test, enclosed, spell_or, spell_and, spell_nots}
 use Rattle.event_schema.specs.declared.schema.Field.{Field}

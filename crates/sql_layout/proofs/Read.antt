@@ -1,9 +1,9 @@
 -- What is written is read.
 use Rattle.std.proofs.Common.{◌≡◌, refl, sym, true, List, []}
 use Rattle.std.specs.Prelude.{encode_utf8_all}
-use Rattle.text_places.specs.Places.{At}
+use Rattle.query_tokens.specs.Places.{At}
 use Rattle.sql_lang.specs.Tokens.{tokens}
-use Rattle.text_places.specs.Tokens.{places}
+use Rattle.query_tokens.specs.Tokens.{places}
 use Rattle.sql_lang.specs.Grammar.{Query}
 use Rattle.event_schema.specs.declared.schema.Schema.{Schema}
 use Rattle.sql_lang.specs.Expression.{or_expr}

@@ -6,7 +6,7 @@ use Rattle.event_schema.specs.Events.{IsWholeNumber}
 use Rattle.event_schema.specs.declared.schema.Field.{Field}
 use Rattle.event_schema.specs.declared.schema.FieldKind.{FieldKind}
 use Rattle.event_schema.specs.declared.schema.FieldKind.TheVariants as kinds
-use Rattle.text_places.specs.Places.{At}
+use Rattle.query_tokens.specs.Places.{At}
 use Rattle.sql_lang.specs.Tokens.{Op, Eq, Ne, Lt, Lte, Gt, Gte}
 use Rattle.sql_lang.specs.Names.{kind_of}
 use Rattle.sql_lang.specs.Faults.{is_whole, is_not_whole, is_unknown, whole, test_faults}

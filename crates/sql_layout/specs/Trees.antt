@@ -1,7 +1,7 @@
 -- Trees of tests: their value, and which of them can be written.
 use Rattle.std.specs.Prelude.{◌≡◌, true, List, [], Option}
 use Rattle.std.specs.List.{list_all}
-use Rattle.text_places.specs.Places.{At}
+use Rattle.query_tokens.specs.Places.{At}
 use Rattle.sql_lang.specs.Grammar.{Leaf, spell_test}
 use Rattle.event_schema.specs.declared.schema.Field.{Field}
 use Rattle.event_schema.specs.declared.value.Value.{Value}

@@ -3,9 +3,9 @@
 
 ghost use Rattle.std.specs.Prelude.{◌≡◌, true, List, [], encode_utf8_all};
 ghost use Rattle.event_schema.specs.declared.schema.Schema.{Schema};
-ghost use Rattle.text_places.specs.Places.{At};
+ghost use Rattle.query_tokens.specs.Places.{At};
 ghost use Rattle.sql_lang.specs.Tokens.{tokens};
-ghost use Rattle.text_places.specs.Tokens.{sorts};
+ghost use Rattle.query_tokens.specs.Tokens.{sorts};
 ghost use Rattle.sql_lang.specs.Grammar.{Query, spell_query};
 ghost use Rattle.sql_lang.specs.Expression.{or_expr};
 ghost use Rattle.sql_lang.specs.Faults.{query_faults};

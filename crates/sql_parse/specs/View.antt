@@ -21,7 +21,7 @@ use Rattle.sql_parse.specs.declared.state.State.TheVariants as a
 use Rattle.sql_parse.specs.declared.state.Query.{Query}
 use Rattle.sql_scan.specs.declared.token.Sort.{Sort}
 use Rattle.sql_scan.specs.View.{sort_view}
-use Rattle.sql_query.specs.View.{collate_view, op_view}
+use Rattle.sql_lang.specs.View.{collate_view, op_view}
 use Rattle.sql_lang.specs.Tokens as t
 use Rattle.sql_lang.specs.Grammar as x
 use Rattle.sql_lang.specs.Machine as m

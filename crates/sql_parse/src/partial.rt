@@ -2,7 +2,7 @@
 
 use crate::syntax::{Leaf, Literal, Ors, Right};
 use sig_base::Text;
-use sql_query::{Collate, SqlOp};
+use sql_lang::{Collate, SqlOp};
 use sql_scan::Numeral;
 
 #[derive(Drop)]

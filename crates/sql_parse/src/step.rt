@@ -10,7 +10,7 @@ use crate::state::{Inside, Level, State};
 use crate::syntax::{Ands, Core, Leaf, Nots, Ors};
 use crate::tests_read::{first, go_on};
 use sig_base::Text;
-use sql_query::Collate;
+use sql_lang::Collate;
 use sql_scan::{Keyword, Sort};
 use std::alloc::{AllocError, Global};
 

@@ -1,7 +1,7 @@
 //! What a query is made of, as it is written.
 
 use sig_base::Text;
-use sql_query::{Collate, SqlOp};
+use sql_lang::{Collate, SqlOp};
 use sql_scan::Numeral;
 
 #[derive(Drop)]

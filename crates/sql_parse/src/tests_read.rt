@@ -5,13 +5,13 @@ ghost use Rattle.sql_lang.specs.Tokens as tokens;
 ghost use Rattle.sql_lang.specs.Grammar as syntax;
 ghost use Rattle.sql_lang.specs.Machine as machine;
 ghost use Rattle.sql_scan.specs.View.{sort_view};
-ghost use Rattle.sql_query.specs.View.{collate_view, op_view};
+ghost use Rattle.sql_lang.specs.View.{collate_view, op_view};
 ghost use Rattle.sql_parse.specs.View.{option_view, right_view, literal_view, literals_view, partial_view};
 
 use crate::partial::Partial;
 use crate::syntax::{Leaf, Literal, Right};
 use sig_base::Text;
-use sql_query::{Collate, SqlOp};
+use sql_lang::{Collate, SqlOp};
 use sql_scan::{Keyword, Numeral, Sort};
 use std::alloc::{AllocError, Global};
 

@@ -1,7 +1,7 @@
 -- Scanning character by character.
 use Rattle.std.proofs.Common.{ℕ, suc, ◌+◌, ◌≤◌, ◌≡◌, refl, sym, ◌∙◌, ap, Bool, true, false, List, [], ◌∷◌, ◌++◌, length, append_assoc, append-nil, arith}
 use Rattle.std.specs.Prelude.{◌==◌, if◌then◌else◌}
-use Rattle.text_places.specs.Places.{At, after, place_after, origin}
+use Rattle.query_tokens.specs.Places.{At, after, place_after, origin}
 use Rattle.sql_lang.specs.Tokens.{Token, Mode, Turn, Outside, turn, scan, last, tokens}
 use Rattle.std.specs.Prelude.{Option}
 use Rattle.sql_scan.specs.declared.mode.Turn.{Turn as ReadTurn}

@@ -1,9 +1,9 @@
 -- Tokens and modes of the scanner as the definitions have them.
 use Rattle.std.specs.Prelude.{ℕ, ◌≡◌, Bool, true, false, List, [], ◌∷◌, map, Option, Some, None}
 use Rattle.sig_base.specs.declared.refusal.Place.{Place}
-use Rattle.text_places.specs.Places.{At, place_after, origin}
-use Rattle.sql_query.specs.declared.query.SqlOp.{SqlOp}
-use Rattle.sql_query.specs.View.{op_view}
+use Rattle.query_tokens.specs.Places.{At, place_after, origin}
+use Rattle.sql_lang.specs.declared.query.SqlOp.{SqlOp}
+use Rattle.sql_lang.specs.View.{op_view}
 use Rattle.sql_scan.specs.declared.token.Keyword.{Keyword}
 use Rattle.sql_scan.specs.declared.token.Keyword.TheVariants as k
 use Rattle.sql_scan.specs.declared.token.Sort.{Sort}

@@ -1,14 +1,14 @@
 //! The tokens of an SQL query, and the causes that are looked for in them first.
 #![tactic(auto)]
 
-mod judging;
 mod mode;
-mod scanning;
+mod refusals;
+mod scanner;
 mod signs;
 mod sorts;
 mod token;
-mod turning;
+mod transitions;
 
-pub use judging::{first_other, nests_too_far};
-pub use scanning::{Scanned, scan};
+pub use refusals::{first_other, nests_too_far};
+pub use scanner::{Scanned, scan};
 pub use token::{Keyword, Numeral, Sort, Token};

@@ -5,7 +5,7 @@ ghost use Rattle.sql_lang.specs.Tokens as tokens;
 ghost use Rattle.sql_scan.specs.View.{sort_view, op_option_view};
 
 use crate::token::Sort;
-use sql_query::SqlOp;
+use sql_lang::SqlOp;
 
 pub(crate) fn is_blank(c: char) -> bool
     ensures { result ≡ tokens.is_blank c }

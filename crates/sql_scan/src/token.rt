@@ -4,7 +4,7 @@ ghost use Rattle.std.specs.Prelude.{◌≡◌};
 ghost use Rattle.sql_lang.specs.Tokens.{number_of};
 
 use sig_base::{Place, Text};
-use sql_query::SqlOp;
+use sql_lang::SqlOp;
 
 #[derive(Clone, Copy, Debug, PartialEq, Eq)]
 pub enum Keyword {

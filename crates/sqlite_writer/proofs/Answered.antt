@@ -19,7 +19,7 @@ use Rattle.backend_core.specs.declared.lack.Lack.{Lack}
 use Rattle.backend_core.specs.declared.tree.Leaf.{Leaf}
 use Rattle.sql_lang.specs.Expression.{depth}
 use Rattle.sql_lang.specs.Reading.{Reads}
-use Rattle.sql_queries.specs.Queries.{IsWithin, Picks}
+use Rattle.sql_lang.specs.Queries.{IsWithin, Picks}
 use Rattle.sqlite_writer.specs.Lacking.{sqlite_lacks}
 use Rattle.sqlite_writer.specs.Queries.{query_expr, query_bytes, IsQueryOf}
 use Rattle.sqlite_writer.specs.Refused.{IsRefused, IsUnwritten, deep_refusal}

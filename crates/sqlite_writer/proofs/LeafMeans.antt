@@ -5,7 +5,7 @@ use Rattle.std.specs.Prelude.{◌↔◌, ◌||◌, ℤ, Option, Some, None, ⊤}
 use Rattle.std.specs.Fmt.{signed_decimal}
 use Rattle.std.specs.Str.{bytes_eq}
 use Rattle.std.proofs.lemmas.Slice.Eq.{bytes_eq-Decides}
-use Rattle.languages.specs.Patterns.{finds}
+use Rattle.query_lang.specs.Patterns.{finds}
 use Rattle.sig_base.specs.Folding.{folded}
 use Rattle.event_schema.specs.declared.schema.Field.{Field}
 use Rattle.event_schema.specs.declared.schema.FieldKind.{FieldKind}
@@ -27,7 +27,7 @@ use Rattle.sql_lang.specs.ColumnTests.{number_test}
 use Rattle.sql_lang.specs.Expression.{Expr, Test, test_of}
 use Rattle.sql_layout.specs.Escaped.{like_text, glob_text, characters}
 use Rattle.sql_lang.specs.Meaning.{Truth, Yes, Unknown, truth, negation, both, value_at, is_absent, int_eq, wholes_are, like_fits, glob_fits, on_text, compared, test_value, sql_value}
-use Rattle.sql_patterns.specs.Writable.{is_writable, sql_parts}
+use Rattle.sql_like.specs.Writable.{is_writable, sql_parts}
 use Rattle.backend_core.specs.Holds.{ValueStands, AreSame, TestHolds}
 use Rattle.backend_core.specs.declared.tree.Op.{Op as Order}
 use Rattle.backend_core.specs.Lacks.{leaf_refusal}

@@ -7,7 +7,7 @@ mod Doubled
 mod FieldKinds
 mod Guards
 mod Laid
-mod Laws
+mod TreeLaws
 mod LeafMeans
 mod Lists
 mod Names

@@ -5,7 +5,7 @@ use Rattle.sig_strings.specs.declared.part.Part.{Part}
 use Rattle.sig_strings.specs.declared.part.Part.TheVariants.{Char, One, Run, Dash, Hole}
 use Rattle.sql_lang.specs.Meaning.{Exactly}
 use Rattle.sql_layout.specs.Escaped.{like_piece, like_text, glob_piece, glob_text}
-use Rattle.sql_patterns.specs.Writable.{sql_parts}
+use Rattle.sql_like.specs.Writable.{sql_parts}
 use Rattle.sqlite_writer.specs.Signs.{like_sign, glob_sign}
 
 pub like_signs_are : (parts : List Part) → flat_map like_sign parts ≡ like_text (sql_parts parts)

@@ -17,7 +17,7 @@ use Rattle.sql_layout.specs.Escaped.{like_text, glob_text, characters}
 use Rattle.sql_layout.specs.Leaves.{has_value, has_no_value, equals_text, equals_field, compares_number, fits_like, fits_glob}
 use Rattle.sql_layout.specs.Trees.{IsSound as IsSoundLeaf, EachLeaf, EachOfTrees}
 use Rattle.sql_layout.proofs.Written.{like_is_good, glob_is_good, like_plain, glob_plain}
-use Rattle.sql_patterns.specs.Writable.{sql_parts}
+use Rattle.sql_like.specs.Writable.{sql_parts}
 use Rattle.backend_core.specs.declared.tree.LeafTest.{LeafTest}
 use Rattle.backend_core.specs.declared.tree.LeafTest.TheVariants as tests
 use Rattle.backend_core.specs.Trees.{Plain, Plains, no_parts, a_part, all, any, negated, leaf, never}

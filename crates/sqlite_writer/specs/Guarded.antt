@@ -13,7 +13,7 @@ use Rattle.sql_lang.specs.Tokens.{Eq}
 use Rattle.sql_layout.specs.Leaves.{has_value, has_no_value, equals_text, equals_field, compares_number, fits_like, fits_glob}
 use Rattle.sql_layout.specs.Escaped.{like_text, glob_text}
 use Rattle.sql_layout.specs.Trees.{Tree, leaf, all, any, negated, Trees, no_trees, a_tree}
-use Rattle.sql_patterns.specs.Writable.{sql_parts}
+use Rattle.sql_like.specs.Writable.{sql_parts}
 use Rattle.backend_core.specs.declared.tree.LeafTest.{LeafTest}
 use Rattle.backend_core.specs.declared.tree.LeafTest.TheVariants as tests
 use Rattle.backend_core.specs.declared.tree.Op.{Op}

@@ -10,7 +10,7 @@ use Rattle.sql_lang.specs.Meaning.{SqlSelects}
 use Rattle.sql_lang.specs.Reading.{Reads, ReadsWithin}
 use Rattle.sql_lang.specs.Grammar.{Query, spell_query}
 use Rattle.sql_lang.specs.Tokens.{tokens}
-use Rattle.text_places.specs.Tokens.{sorts}
+use Rattle.query_tokens.specs.Tokens.{sorts}
 use Rattle.sql_layout.specs.Trees.{Tree}
 use Rattle.sql_layout.specs.HalvedTrees.{layout, layout_text, fine_or}
 use Rattle.backend_core.specs.Trees.{Plain}

@@ -1,11 +1,11 @@
 //! SQLite as a backend.
 
-use crate::law::{schemas_are_found, tree_is_query};
+use crate::laws::{schemas_are_found, tree_is_query};
 use crate::writer::Sqlite;
 use backend_core::{Backend, Tree};
 use event_schema::Schema;
 use sig_base::{Bytes, Fault, Limits, Place};
-use sql_queries::Sql;
+use sql_lang::Sql;
 use std::alloc::Global;
 
 impl Backend for Sqlite {

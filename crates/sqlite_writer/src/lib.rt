@@ -7,7 +7,7 @@ mod deep;
 mod fields;
 mod guarding;
 mod lacking;
-mod law;
+mod laws;
 mod patterns;
 mod place;
 mod putting;
@@ -16,7 +16,7 @@ mod tests_of;
 mod walk;
 mod writer;
 
-pub use law::{
+pub use laws::{
     lists_are_shallow, polarity, schemas_are_found, text_fields_lack_nothing, text_schemas,
     tree_is_query,
 };

@@ -5,7 +5,7 @@ ghost use Rattle.std.specs.List.{flat_map};
 ghost use Rattle.sig_strings.specs.Edits.{plain_text};
 ghost use Rattle.sql_layout.specs.Escaped.{like_text, glob_text, is_like_sign as is_like_sign_char, is_glob_sign as is_glob_sign_char};
 ghost use Rattle.sql_layout.specs.Layout.{doubled};
-ghost use Rattle.sql_patterns.specs.Writable.{sql_parts};
+ghost use Rattle.sql_like.specs.Writable.{sql_parts};
 ghost use Rattle.sqlite_writer.specs.Signs.{like_sign, glob_sign};
 
 use crate::putting::put_inside;

@@ -18,7 +18,7 @@ ghost use Rattle.sqlite_writer.specs.Shallow.{ListsAreShallow};
 
 use crate::deep::tree_depth;
 use crate::guarding::guarded;
-use crate::law::{lists_are_shallow, tree_is_query};
+use crate::laws::{lists_are_shallow, tree_is_query};
 use crate::place::Standing;
 use crate::putting::{put, put_name};
 use crate::sizing::{with_text, with_tree};

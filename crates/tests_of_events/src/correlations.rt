@@ -3,7 +3,7 @@
 //! behind, one for each part.
 
 use crate::telling::assert_told;
-use correlation_rules::{Correlation, RuleIndex, span_of};
+use correlation_read::{Correlation, RuleIndex, span_of};
 use correlation_windows::Bound;
 use event_schema::{Field, FieldKind, FieldList, Schema};
 use rule_head::Head;

@@ -2,12 +2,12 @@
 
 use crate::telling::assert_told;
 use event_lines::LineReader;
-use event_reading::{read_event, read_schema};
+use event_read::{read_event, read_schema};
 use event_schema::{Event, Schema, Value};
-use sig_adapters::MemorySource;
 use sig_base::{Bytes, Fault, Limits, LineFault, LineStep};
 use std::alloc::Global;
 use std::test::Fail;
+use system_io::MemorySource;
 
 fn value_shown(alloc: Global, number: u32, value: &Value) -> Result<String, Fail> {
     let text = value.text(alloc)?;

@@ -1,8 +1,8 @@
 //! Moments by tables that were reckoned by hand.
 
 use crate::telling::assert_told;
-use event_moments::moment_in;
 use event_schema::TimeForm;
+use event_time::moment_in;
 use serde_json::Value;
 use std::alloc::Global;
 use std::test::Fail;

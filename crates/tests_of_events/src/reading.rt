@@ -1,7 +1,7 @@
 //! Events and schemas by tables that were reckoned by hand.
 
 use crate::telling::assert_told;
-use event_reading::{read_event, read_schema};
+use event_read::{read_event, read_schema};
 use event_schema::{Field, FieldKind, Schema, TimeForm, Value};
 use sig_base::{Fault, Limits, Text};
 use std::alloc::Global;

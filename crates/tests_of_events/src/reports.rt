@@ -1,5 +1,5 @@
 use crate::telling::assert_told;
-use correlation_reports::write_report;
+use correlation_run::write_report;
 use correlation_windows::Report;
 use sig_base::{Text, Texts};
 use std::alloc::Global;

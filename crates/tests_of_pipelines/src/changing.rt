@@ -6,7 +6,7 @@ use crate::shown::{show_detections, show_fault};
 use crate::tables::{
     assert_text, assert_told, columns, detections, difference, few_limits, is_step, rule_of, step,
 };
-use pipeline_steps::change;
+use pipeline_edit::change;
 use rule_head::LogSource;
 use rule_model::Rule;
 use sig_base::{Limits, Text};

@@ -5,9 +5,9 @@ use crate::tables::{
     assert_text, at, bare_rule, columns, detections, difference, few_limits, is_step, item_of,
     step, vars,
 };
+use pipeline_fill::change_tests;
 use pipeline_model::Var;
-use pipeline_values::change_tests;
-use rule_items::{Alternative, Alternatives, Detection, Detections, Test, Tests, Values};
+use rule_detections::{Alternative, Alternatives, Detection, Detections, Test, Tests, Values};
 use sig_base::{Limits, Sequence, Text, Texts};
 use sig_strings::{HoleName, Part, Pattern, SharedPattern};
 use std::alloc::Global;

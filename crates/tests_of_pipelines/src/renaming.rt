@@ -4,7 +4,7 @@ use crate::shown::show_answer;
 use crate::tables::{
     assert_text, bare_rule, columns, detections, difference, few_limits, is_step, step,
 };
-use pipeline_names::rename;
+use pipeline_rename::rename;
 use sig_base::{Limits, Text};
 use std::alloc::Global;
 use std::test::Fail;

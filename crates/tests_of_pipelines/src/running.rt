@@ -4,8 +4,8 @@
 
 use crate::shown::{show_detections, show_fault};
 use crate::tables::{assert_text, columns, detections, difference, product, rule_of, step, vars};
-use pipeline_chain::{by_priority, run_pipelines};
 use pipeline_model::{Pipeline, Step, Var};
+use pipeline_run::{by_priority, run_pipelines};
 use rule_model::Rule;
 use sig_base::{Limits, Sequence, Text};
 use sig_conditions::Formula;

@@ -3,7 +3,7 @@
 //! rule stand the number, the place and the message of a refusal.
 
 use crate::tables::at;
-use rule_items::{Alternative, Detection, Fields, Item, Test, Tests};
+use rule_detections::{Alternative, Detection, Fields, Item, Test, Tests};
 use rule_model::Rule;
 use sig_base::{Detail, Fault, Place, Text};
 use sig_strings::Part;

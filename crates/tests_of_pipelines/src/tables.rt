@@ -15,12 +15,12 @@
 //!
 //! The rule stands at 3:5, its detections at 10:3, 20:3 and so on, and their items at 11:5, 12:5 and so on behind them.
 
-use modifier_chains::Joined;
+use modifier_words::Joined;
 use pipeline_model::{Action, Choice, FieldCond, Pair, Step, Var};
-use rule_head::{Head, LogSource};
-use rule_items::{
+use rule_detections::{
     Alternative, Alternatives, Detection, Detections, Fields, Item, Test, Tests, Values,
 };
+use rule_head::{Head, LogSource};
 use rule_model::Rule;
 use sig_base::{Limits, Place, Sequence, Text, Texts};
 use sig_conditions::Formula;

@@ -11,12 +11,12 @@ use Rattle.sig_base.specs.declared.refusal.Fault.TheVariants as fault
 use Rattle.sig_base.specs.declared.refusal.Place.{Place}
 use Rattle.sig_base.specs.declared.refusal.Refusal.{Refusal}
 use Rattle.sig_base.specs.Judged.{first, must, refusal}
-use Rattle.text_places.specs.Places.{CodeAt, origin, code_at}
-use Rattle.languages.specs.Answers.{ReadAnswers}
-use Rattle.languages.specs.Built.{SearchAnswers}
-use Rattle.languages.specs.Patterns.{is_pattern, finds}
-use Rattle.languages.specs.RefusedPlaces.{IsCause, no_pattern, not_built, AreRefused}
-use Rattle.languages.specs.declared.search.Search.{Search}
+use Rattle.query_tokens.specs.Places.{CodeAt, origin, code_at}
+use Rattle.query_lang.specs.Answers.{ReadAnswers}
+use Rattle.query_lang.specs.Built.{SearchAnswers}
+use Rattle.query_lang.specs.Patterns.{is_pattern, finds}
+use Rattle.query_lang.specs.RefusedPlaces.{IsCause, no_pattern, not_built, AreRefused}
+use Rattle.query_lang.specs.declared.search.Search.{Search}
 
 abbrev pub start : Place
 start = record { line = 1; column = 1 }

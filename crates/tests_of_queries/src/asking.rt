@@ -7,7 +7,7 @@ ghost use Rattle.event_schema.specs.Lists.{EachOf};
 ghost use Rattle.event_schema.specs.declared.schema.FieldKind.TheVariants as kinds;
 
 use event_schema::{Event, Field, FieldKind, FieldList, FieldValues, Schema, Value};
-use languages::{Asker, Builder, CrateBuilder, Language, Selector};
+use query_lang::{Asker, Builder, CrateBuilder, Language, Selector};
 use sig_base::{Fault, Limits, Text, Texts};
 use std::alloc::Global;
 use std::test::Fail;

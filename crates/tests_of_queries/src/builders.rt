@@ -4,7 +4,7 @@ use crate::asking::{answer, text};
 use crate::small::Small;
 use crate::tables::{assert_told, with_controls};
 use event_schema::FieldValues;
-use languages::{BuildFault, CrateBuilder, Search};
+use query_lang::{BuildFault, CrateBuilder, Search};
 use sig_base::Text;
 use std::alloc::Global;
 use std::test::Fail;

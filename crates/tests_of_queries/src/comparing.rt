@@ -1,10 +1,11 @@
 //! A seed's tree compared with its query, in SQL and in a language that wants memory.
 
 use crate::wanting::Wanting;
-use comparison::{Readable, compare};
-use generated::{after_three, generated_events, make_events, make_rule, make_schema};
-use generation::{seeds_are_subjects, tree_for};
-use languages::{CrateBuilder, Language};
+use generate_run::{
+    Readable, after_three, compare, generated_events, make_events, make_rule, make_schema,
+    seeds_are_subjects, tree_for,
+};
+use query_lang::{CrateBuilder, Language};
 use sig_base::{Fault, Limits, Place};
 use sqlite_writer::Sqlite;
 use std::alloc::Global;

@@ -4,7 +4,7 @@ ghost use Rattle.std.specs.Prelude.{◌≡◌, ◌≤◌, List, ℕ, length};
 ghost use Rattle.event_schema.specs.Rows.{field_values};
 ghost use Rattle.event_schema.specs.Lists.{HasElement};
 
-use query_language::QueryLanguage;
+use query_lang::QueryLanguage;
 use std::test::Fail;
 
 /// Bytes are the query of their length's field: it picks events in which this field has a value.

@@ -2,9 +2,9 @@
 
 use crate::tables::assert_told;
 use event_schema::{Event, Value};
-use generated::{after_events, after_three, make_events, make_rule, make_schema};
-use modifier_chains::Op;
-use rule_items::{Detection, Test};
+use generate_run::{after_events, after_three, make_events, make_rule, make_schema};
+use modifier_words::Op;
+use rule_detections::{Detection, Test};
 use std::alloc::Global;
 use std::test::Fail;
 

@@ -3,9 +3,9 @@
 use crate::asking::{answer, answers};
 use crate::tables::assert_told;
 use event_schema::FieldValues;
-use languages::CrateBuilder;
-use lucene_language::LuceneReader;
-use sql_language::SqlReader;
+use lucene_read::LuceneReader;
+use query_lang::CrateBuilder;
+use sql_read::SqlReader;
 use std::alloc::Global;
 use std::test::Fail;
 

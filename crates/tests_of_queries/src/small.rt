@@ -6,12 +6,12 @@ ghost use Rattle.std.specs.Str.{is_utf8};
 ghost use Rattle.event_schema.specs.Rows.{field_values, first_value};
 ghost use Rattle.event_schema.specs.declared.value.Value.{Value};
 ghost use Rattle.event_schema.specs.declared.value.Value.TheVariants as values;
-ghost use Rattle.languages.specs.Patterns.{finds};
+ghost use Rattle.query_lang.specs.Patterns.{finds};
 ghost use Rattle.sig_base.specs.Judged.{first, must, refusal};
-ghost use Rattle.text_places.specs.Places.{origin};
+ghost use Rattle.query_tokens.specs.Places.{origin};
 
 use event_schema::{Event, Schema, Value};
-use languages::{Asker, Builder, Finder, Language, Search, Selector};
+use query_lang::{Asker, Builder, Finder, Language, Search, Selector};
 use sig_base::{Code, Fault, Limits, Place, Text, refused};
 use std::alloc::Global;
 use std::str;

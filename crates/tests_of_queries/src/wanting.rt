@@ -4,21 +4,20 @@ ghost use Rattle.std.specs.Prelude.{true};
 ghost use Rattle.sql_lang.specs.Expression as expression;
 ghost use Rattle.sql_lang.specs.Reading.{Reads};
 ghost use Rattle.sql_lang.specs.Regexps.{byte_regexps};
-ghost use Rattle.sql_queries.specs.Queries.{IsWithin, Picks};
-ghost use Rattle.sql_query.specs.View.{expr_view};
-ghost use Rattle.sql_reader.specs.Answers.{IsRefused};
+ghost use Rattle.sql_lang.specs.Queries.{IsWithin, Picks};
+ghost use Rattle.sql_lang.specs.View.{expr_view};
+ghost use Rattle.sql_read.specs.Answers.{IsRefused};
 ghost use Rattle.sqlite_writer.specs.Lacking.{sqlite_lacks};
 ghost use Rattle.sqlite_writer.specs.Queries.{query_bytes};
 ghost use Rattle.sqlite_writer.specs.Refused.{deep_refusal};
 
 use backend_core::{Backend, Lack, Lacking, Leaf, Tree};
-use comparison::Readable;
 use event_schema::{Event, Schema};
-use languages::{Asker, Builder, Language};
+use generate_run::Readable;
+use query_lang::{Asker, Builder, Language};
 use sig_base::{Bytes, Fault, Limits, Place};
-use sql_language::SqlReader;
-use sql_queries::Sql;
-use sql_query::Select;
+use sql_lang::{Select, Sql};
+use sql_read::SqlReader;
 use sqlite_writer::Sqlite;
 use std::alloc::Global;
 
@@ -113,6 +112,6 @@ impl Readable for Wanting {
 
     fn reads_back() {
         <Wanting as Backend>::law();
-        sql_language::line_feed_behind();
+        sql_read::line_feed_behind();
     }
 }

@@ -4,10 +4,10 @@ use crate::tables::{
     Asked, TOP, add, add_pairs, add_text, assert_told, at, map_of_pairs, no_row, text, three,
     told_fault, wrong_row,
 };
-use languages::CrateBuilder;
-use rule_building::{build_items, build_searches, find_unbuilt};
-use rule_items::Expression;
+use query_lang::CrateBuilder;
+use rule_detections::Expression;
 use rule_model::Rule;
+use rule_regex::{build_items, build_searches, find_unbuilt};
 use sig_base::{Limits, Text};
 use std::alloc::Global;
 use std::test::Fail;

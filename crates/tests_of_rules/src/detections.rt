@@ -3,8 +3,8 @@
 use crate::tables::{
     Asked, add, add_text, assert_told, at, no_row, text, three, told_fault, wrong_row,
 };
-use modifier_chains::Joined;
-use rule_items::{Alternative, Fields, Item, Test, Tests, find_expressions, read_detections};
+use modifier_words::Joined;
+use rule_detections::{Alternative, Fields, Item, Test, Tests, find_expressions, read_detections};
 use sig_base::{Limits, Place};
 use std::alloc::Global;
 use std::test::Fail;

@@ -5,7 +5,7 @@ use crate::tables::{
     Asked, TOP, add, add_pairs, assert_told, at, map_of_pairs, no_row, text, three, told_fault,
     value, wrong_row,
 };
-use rule_items::Expression;
+use rule_detections::Expression;
 use rule_model::{Rule, find_expressions};
 use sig_base::{Limits, Place};
 use std::alloc::Global;

@@ -3,11 +3,11 @@
 
 use crate::tables::{Asked, TOP, assert_told, no_row, wrong_row};
 use event_schema::{Field, FieldKind, FieldList, Schema};
-use modifier_chains::{Joined, Op};
-use rule_head::{Head, LogSource};
-use rule_items::{
+use modifier_words::{Joined, Op};
+use rule_detections::{
     Alternative, Alternatives, Detection, Detections, Fields, Item, Test, Tests, Values,
 };
+use rule_head::{Head, LogSource};
 use rule_model::Rule;
 use rule_schema::{check_filled, fit_indexed, fit_schema, infer_schema};
 use sig_base::{Fault, Limits, Place, Refusal, Text, Texts};

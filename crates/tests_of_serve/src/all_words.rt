@@ -1,7 +1,7 @@
 //! Each list of up to four words of a table, read by the program and by a reading of its own.
 
 use crate::worlds::words_of;
-use rule_queries::BackendName;
+use rule_convert::BackendName;
 use sig_base::Text;
 use sigma_serve::{Request, read_words};
 use std::alloc::Global;

@@ -8,15 +8,15 @@ ghost use Rattle.sigma_serve.specs.Sourced.{IsFound};
 use crate::correlating::{BOTH, EARLY, EVENTS, REPORTS, SCHEMA};
 use correlation_engine::Engine;
 use correlation_files::{Bindings, Found, read_rules};
-use event_reading::read_schema;
+use event_read::read_schema;
 use event_schema::Schema;
-use languages::CrateBuilder;
-use sig_adapters::{MemorySink, MemorySource};
+use query_lang::CrateBuilder;
 use sig_base::{Bytes, Limits, Text};
 use sigma_serve::{Status, follow};
 use std::alloc::Global;
 use std::process::Abort;
 use std::test::Fail;
+use system_io::{MemorySink, MemorySource};
 
 /// The rules and correlations of a file, of which nothing is refused.
 fn found_in(rt: &impl Abort, alloc: Global, schema: &Schema, rules: &str) -> Result<Found, Fail>

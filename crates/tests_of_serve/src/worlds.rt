@@ -1,11 +1,11 @@
 //! Files, events and outputs in memory, over which `serve` is run.
 
-use languages::CrateBuilder;
-use sig_adapters::{MemoryShelf, MemorySink, MemorySource};
+use query_lang::CrateBuilder;
 use sig_base::{Bytes, Limits, Text};
 use sigma_serve::{Status, serve};
 use std::alloc::Global;
 use std::test::Fail;
+use system_io::{MemoryShelf, MemorySink, MemorySource};
 
 /// Which call of the shelf, of the events, of the output, of the error output and of the builder fails (0: none), how many bytes one read
 /// and one write take, and for how many each output has room.

@@ -2,8 +2,8 @@
 use Rattle.std.proofs.Common.{◌≡◌, ℕ, Bool, true, false, List, [], ◌∷◌, ◌++◌, ◌⊎◌, inl, inr, Err, refl, sym, ap, ◌∙◌, subst, append_assoc, append-nil}
 use Rattle.std.specs.List.{list_any, list_all}
 use Rattle.yaml_tree.specs.Tree.{At, tree, refusal}
-use Rattle.yaml_lines.specs.File.{Line, is_marker, carries}
-use Rattle.yaml_lines.specs.Line.{Stop}
+use Rattle.yaml_inline.specs.File.{Line, is_marker, carries}
+use Rattle.yaml_inline.specs.Line.{Stop}
 use Rattle.yaml_blocks.specs.Reading.{block_in}
 use Rattle.yaml_blocks.specs.Laws.{HasTree}
 use Rattle.yaml_blocks.specs.Documents.{home, is_regular, has_content, Alive, IsRefusedAt, IsCode, code_at, EachAnswered, OneAnswer}

@@ -1,9 +1,9 @@
 -- What a node's reading is, by what begins there.
 use Rattle.std.proofs.Common.{◌≡◌, ℕ, Bool, true, false, ◌⊎◌, inl, inr, List, [], ◌∷◌, Ok, Err, refl}
 use Rattle.yaml_tree.specs.Tree.{Tree}
-use Rattle.yaml_lines.specs.File.{Line, ends_line}
-use Rattle.yaml_lines.specs.Line.{Stop, Read, is_dash}
-use Rattle.yaml_lines.specs.Key.{Keyed, keyed, unkeyed, key_stop, key_at}
+use Rattle.yaml_inline.specs.File.{Line, ends_line}
+use Rattle.yaml_inline.specs.Line.{Stop, Read, is_dash}
+use Rattle.yaml_inline.specs.Key.{Keyed, keyed, unkeyed, key_stop, key_at}
 use Rattle.yaml_blocks.specs.Blocks.{skip_comments, nothing_from, nothing_in, alone}
 use Rattle.yaml_blocks.specs.Reading.{scalar_or_flow_in, keyed_then, node_with, node_in, block_with, sequence_in, map_in}
 use Rattle.yaml_blocks.specs.Lays.{IsAlone, IsNoCollection}

@@ -2,10 +2,10 @@
 use Rattle.std.proofs.Common.{◌≡◌, ℕ, zero, suc, Bool, true, false, not, ◌&&◌, ◌||◌, ◌==◌, inl, inr, List, [], ◌∷◌, ◌++◌, Ok, refl, sym, ap, ◌∙◌, subst, arith}
 use Rattle.std.proofs.lemmas.Bool.Decides.{nat_tests}
 use Rattle.yaml_tree.specs.Tree.{At, Scalar, Tree, scalar, list, map, Elements, no_elements, element, Members, no_members, member}
-use Rattle.yaml_lines.specs.File.{Line, begins}
-use Rattle.yaml_lines.specs.Line.{spot, Read, ◌>>=◌, body, is_dash, is_left_out, is_indicator, starts_plain}
-use Rattle.yaml_lines.specs.Flow.{is_quote, is_bracket}
-use Rattle.yaml_lines.specs.Key.{keyed, key_at}
+use Rattle.yaml_inline.specs.File.{Line, begins}
+use Rattle.yaml_inline.specs.Line.{spot, Read, ◌>>=◌, body, is_dash, is_left_out, is_indicator, starts_plain}
+use Rattle.yaml_inline.specs.Flow.{is_quote, is_bracket}
+use Rattle.yaml_inline.specs.Key.{keyed, key_at}
 use Rattle.yaml_blocks.specs.Reading.{Item, offset, item_key, key_in, element_in, elements_in, entry_in, entries_in, scalar_or_flow_in, node_in, node_with, block_with, block_in, too_deep}
 use Rattle.yaml_blocks.specs.Lays.{IsFlow, IsScalar, IsNoCollection, IsDashed, IsKeyed, LaysBlock, LaysElement, LaysValue, LaysNode, LaysElements, LaysMembers, Lays}
 use Rattle.yaml_blocks.proofs.Tools.{either, both, none_is}

@@ -1,11 +1,11 @@
 -- Tables of small texts with what they are, reckoned by hand from YAML 1.2 and the profile's differences.
 use Rattle.std.proofs.Common.{◌≡◌, ℕ, List, [], ◌∷◌, codes, pos, negsuc, true, false, map as list_map, Err, refl}
 use Rattle.yaml_tree.specs.Tree.{Scalar, null, truth, text, whole, Tree, scalar, list, map, no_elements, element, no_members, Answer, tree, refusal}
-use Rattle.yaml_lines.specs.File.{Line, line_texts, lines_of, is_parting, is_marker, parted, documents_of, skip_blanks, carries_nothing, ends_line}
-use Rattle.yaml_lines.specs.Line.{indentation, indent, body, is_comment, is_empty_line, bad_start, unexpected, plain_len, trimmed, plain_front, plain_rest, Read, refused, unclosed, stops, is_indicator, starts_plain, is_dash, is_left_out}
-use Rattle.yaml_lines.specs.Scalar.{value_within, whole_of, resolved, single, escape, double, begins_blank, block_text}
-use Rattle.yaml_lines.specs.Flow.{quoted, behind_colon, flow_key, fresh_key, after_element, flow_element, flow_elements, flow_value, flow_entry, flow_members, flow_scalar, flow_node}
-use Rattle.yaml_lines.specs.Key.{key_at}
+use Rattle.yaml_inline.specs.File.{Line, line_texts, lines_of, is_parting, is_marker, parted, documents_of, skip_blanks, carries_nothing, ends_line}
+use Rattle.yaml_inline.specs.Line.{indentation, indent, body, is_comment, is_empty_line, bad_start, unexpected, plain_len, trimmed, plain_front, plain_rest, Read, refused, unclosed, stops, is_indicator, starts_plain, is_dash, is_left_out}
+use Rattle.yaml_inline.specs.Scalar.{value_within, whole_of, resolved, single, escape, double, begins_blank, block_text}
+use Rattle.yaml_inline.specs.Flow.{quoted, behind_colon, flow_key, fresh_key, after_element, flow_element, flow_elements, flow_value, flow_entry, flow_members, flow_scalar, flow_node}
+use Rattle.yaml_inline.specs.Key.{key_at}
 use Rattle.yaml_blocks.specs.Blocks.{nothing_in, continuation, more_plain, plain_text, scalar_lines, block_scalar}
 use Rattle.yaml_blocks.specs.Reading.{element_in, item_key, key_in, entry_in, scalar_or_flow_in, node_in}
 use Rattle.yaml_blocks.proofs.Examples.{at, text_at, entry, answers}

@@ -1,11 +1,11 @@
 -- Examples of the profile, computed.
 use Rattle.std.proofs.Common.{◌≡◌, ℕ, List, [], ◌∷◌, ◌++◌, if◌then◌else◌, codes, pos, refl, Ok, Err}
 use Rattle.yaml_tree.specs.Tree.{At, null, text, whole, Tree, scalar, list, map, no_elements, element, Members, no_members, member, Answer, tree, refusal}
-use Rattle.yaml_lines.specs.File.{Line, line_texts, lines_of, is_parting, is_marker, parted, documents_of, skip_blanks, carries_nothing, ends_line}
-use Rattle.yaml_lines.specs.Line.{indentation, indent, body, is_comment, is_empty_line, bad_start, unexpected, plain_len, trimmed, plain_front, plain_rest, Read}
-use Rattle.yaml_lines.specs.Scalar.{value_within, whole_of, resolved, single, escape, double, block_text}
-use Rattle.yaml_lines.specs.Flow.{quoted, behind_colon, flow_key, fresh_key, after_element, flow_element, flow_elements, flow_value, flow_entry, flow_members, flow_scalar, flow_node}
-use Rattle.yaml_lines.specs.Key.{key_at}
+use Rattle.yaml_inline.specs.File.{Line, line_texts, lines_of, is_parting, is_marker, parted, documents_of, skip_blanks, carries_nothing, ends_line}
+use Rattle.yaml_inline.specs.Line.{indentation, indent, body, is_comment, is_empty_line, bad_start, unexpected, plain_len, trimmed, plain_front, plain_rest, Read}
+use Rattle.yaml_inline.specs.Scalar.{value_within, whole_of, resolved, single, escape, double, block_text}
+use Rattle.yaml_inline.specs.Flow.{quoted, behind_colon, flow_key, fresh_key, after_element, flow_element, flow_elements, flow_value, flow_entry, flow_members, flow_scalar, flow_node}
+use Rattle.yaml_inline.specs.Key.{key_at}
 use Rattle.yaml_blocks.specs.Blocks.{nothing_in, continuation, more_plain, plain_text, scalar_lines, block_scalar}
 use Rattle.yaml_blocks.specs.Reading.{element_in, item_key, key_in, entry_in, scalar_or_flow_in, node_in, block_in}
 use Rattle.yaml_blocks.specs.Documents.{home, is_alive, code_at}

@@ -1,8 +1,8 @@
 -- One tree; documents before documents; and the first line up to which there is no tree.
 use Rattle.std.proofs.Common.{◌≡◌, ℕ, List, [], ◌∷◌, ◌++◌, ◌⊎◌, inl, inr, Ok, Err, refl, sym, ap, ◌∙◌, subst, append_assoc, append-nil}
 use Rattle.yaml_tree.specs.Tree.{At, Tree}
-use Rattle.yaml_lines.specs.File.{Line}
-use Rattle.yaml_lines.specs.Line.{Stop, Read}
+use Rattle.yaml_inline.specs.File.{Line}
+use Rattle.yaml_inline.specs.Line.{Stop, Read}
 use Rattle.yaml_blocks.specs.Reading.{block_in}
 use Rattle.yaml_blocks.specs.Laws.{HasTree, StopsFirst, OneTree, DocumentsBefore, StopsThere}
 use Rattle.yaml_blocks.proofs.Tools.{ok_same}

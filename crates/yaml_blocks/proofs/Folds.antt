@@ -5,8 +5,8 @@ use Rattle.std.specs.Borrow.{Bor}
 use Rattle.std.proofs.Math.Seq.{take-suc}
 use Rattle.std.proofs.lemmas.List.{drop_more, at_drop_all, length-take-le}
 use Rattle.std.proofs.lemmas.Bool.Decides.{nat_tests}
-use Rattle.yaml_lines.specs.File.{is_blank, is_empty}
-use Rattle.yaml_lines.specs.Scalar.{drop_empty, literal, joint, begins_blank, fold_from, folded, Chomping, chomped, block_text}
+use Rattle.yaml_inline.specs.File.{is_blank, is_empty}
+use Rattle.yaml_inline.specs.Scalar.{drop_empty, literal, joint, begins_blank, fold_from, folded, Chomping, chomped, block_text}
 use Rattle.yaml_blocks.specs.Chompings.{texts_view, add_text, kept_text}
 
 pub map_push : {A B : Type 0} (f : A → B) (xs : List A) (x : A) → list_map f (xs ++ x ∷ []) ≡ list_map f xs ++ f x ∷ []

@@ -4,10 +4,10 @@ use Rattle.std.specs.Prelude.{map as list_map}
 use Rattle.std.proofs.Math.Seq.{take-suc}
 use Rattle.std.proofs.lemmas.List.{at_drop_all, drop-drop, length-drop}
 use Rattle.std.proofs.lemmas.Bool.Decides.{nat_tests}
-use Rattle.yaml_lines.specs.declared.line.Line as code
-use Rattle.yaml_lines.specs.File.{Line}
-use Rattle.yaml_lines.specs.View.{line_view}
-use Rattle.yaml_lines.specs.Line.{indent, is_empty_line}
+use Rattle.yaml_inline.specs.declared.line.Line as code
+use Rattle.yaml_inline.specs.File.{Line}
+use Rattle.yaml_inline.specs.View.{line_view}
+use Rattle.yaml_inline.specs.Line.{indent, is_empty_line}
 use Rattle.yaml_blocks.specs.Blocks.{front_while, rest_while, first_indent, is_content, content, lines_at, scalar_lines}
 use Rattle.yaml_blocks.specs.Contents.{none_of_line, ScalarLines}
 use Rattle.yaml_blocks.specs.Views.{lines_view}

@@ -3,14 +3,14 @@ use Rattle.std.proofs.Common.{◌≡◌, ℕ, zero, suc, ◌<◌, ◌≤◌, Boo
 use Rattle.std.proofs.lemmas.Bool.Decides.{nat_tests}
 use Rattle.std.specs.Str.{bytes_eq}
 use Rattle.yaml_tree.specs.Tree.{At, Tree, null, text, scalar, list, Elements, no_elements, element, Members, no_members, member, Member}
-use Rattle.yaml_lines.specs.File.{Line, begins, blank_or_end, skip_blanks, ends_line}
-use Rattle.yaml_lines.specs.Line.{spot, Stop, refused, syntax, Read, starts_plain, plain_front, plain_rest, is_left_out}
-use Rattle.yaml_lines.specs.Scalar.{resolved, Quoted, closed, open_ended, bad_escape, single, double}
-use Rattle.yaml_lines.specs.Flow.{Front, front_map, opened, inside_open, runs_out, quoted_as, is_quote, quoted, merge, behind_colon, flow_key, is_seen, fresh_key, after_element, is_bracket, flow_element, flow_elements, flow_value, flow_entry, flow_members, flow_scalar, map_from, flow_node}
-use Rattle.yaml_lines.specs.Key.{key_stop, colon_then, quoted_key, key_at}
-use Rattle.yaml_lines.proofs.Flows.{length-tail}
-use Rattle.yaml_lines.proofs.Nexts.{next_is, plain_rest_shorter}
-use Rattle.yaml_lines.proofs.Opens.{quote_not_left_out}
+use Rattle.yaml_inline.specs.File.{Line, begins, blank_or_end, skip_blanks, ends_line}
+use Rattle.yaml_inline.specs.Line.{spot, Stop, refused, syntax, Read, starts_plain, plain_front, plain_rest, is_left_out}
+use Rattle.yaml_inline.specs.Scalar.{resolved, Quoted, closed, open_ended, bad_escape, single, double}
+use Rattle.yaml_inline.specs.Flow.{Front, front_map, opened, inside_open, runs_out, quoted_as, is_quote, quoted, merge, behind_colon, flow_key, is_seen, fresh_key, after_element, is_bracket, flow_element, flow_elements, flow_value, flow_entry, flow_members, flow_scalar, map_from, flow_node}
+use Rattle.yaml_inline.specs.Key.{key_stop, colon_then, quoted_key, key_at}
+use Rattle.yaml_inline.proofs.Flows.{length-tail}
+use Rattle.yaml_inline.proofs.Nexts.{next_is, plain_rest_shorter}
+use Rattle.yaml_inline.proofs.Opens.{quote_not_left_out}
 use Rattle.yaml_blocks.specs.LineStops.{quote_of, behind_quote, StopsQuoted, StopsKey, StopsWanting, StopsColon, StopsSeparator, StopsFlowKey, StopsFlowScalar, StopsFlowElement, StopsFlowElements, StopsFlowValue, StopsFlowEntry, StopsFlowEntries, StopsFlow}
 use Rattle.yaml_blocks.proofs.Tools.{choose, allowed, bind_ok, inside_ok, bind_err, ok_same, neither, not_false, not_true}
 use Rattle.yaml_blocks.proofs.Rests.{skip_within, quoted_within, fresh_key_within, after_within}

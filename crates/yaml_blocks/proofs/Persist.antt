@@ -2,9 +2,9 @@
 use Rattle.std.proofs.Common.{◌≡◌, ℕ, zero, suc, Bool, true, false, not, ◌&&◌, ◌||◌, ◌==◌, nat_lt, inl, inr, List, [], ◌∷◌, ◌++◌, drop, Some, is_some, Ok, Err, refl, ap, ◌∙◌}
 use Rattle.std.specs.Prelude.{map as list_map}
 use Rattle.yaml_tree.specs.Tree.{At, list, map, Elements, Members}
-use Rattle.yaml_lines.specs.File.{Line, is_empty, begins, carries_nothing, ends_line}
-use Rattle.yaml_lines.specs.Line.{spot, Stop, Read, ◌>>=◌, indent, body, bad_start, is_comment, is_empty_line, is_dash, is_left_out, starts_plain, plain_rest}
-use Rattle.yaml_lines.specs.Flow.{quoted, is_quote, is_bracket, flow_node}
+use Rattle.yaml_inline.specs.File.{Line, is_empty, begins, carries_nothing, ends_line}
+use Rattle.yaml_inline.specs.Line.{spot, Stop, Read, ◌>>=◌, indent, body, bad_start, is_comment, is_empty_line, is_dash, is_left_out, starts_plain, plain_rest}
+use Rattle.yaml_inline.specs.Flow.{quoted, is_quote, is_bracket, flow_node}
 use Rattle.yaml_blocks.specs.Blocks.{rest_while, front_while, skip_comments, nothing_from, nothing_in, Parts, put_line, inside, divide, alone, Continuation, empty_line, comment_line, text_line, last_line, continuation, add_line, more_plain, plain_text, header_of, first_indent, is_content, lines_at, scalar_lines, block_scalar}
 use Rattle.yaml_blocks.specs.Reading.{Item, item_of, items_of, offset, is_level, key_in, behind_in, element_in, elements_in, entry_in, entries_in, scalar_or_flow_in, node_in, block_from, block_with, block_in, too_deep}
 use Rattle.yaml_blocks.proofs.Tools.{choose, bind_err}

@@ -3,12 +3,12 @@ use Rattle.std.proofs.Common.{◌≡◌, ℕ, zero, suc, ◌<◌, ◌≤◌, Boo
 use Rattle.std.specs.List.{prefix_len}
 use Rattle.std.specs.Str.{bytes_eq}
 use Rattle.std.proofs.lemmas.List.{length-drop}
-use Rattle.yaml_lines.specs.File.{Line, is_blank, begins, skip_blanks, ends_line}
-use Rattle.yaml_lines.specs.Line.{indentation, body, is_dash, is_left_out, starts_plain, plain_len, plain_front, plain_rest}
-use Rattle.yaml_lines.specs.Scalar.{Quoted, closed, open_ended, bad_escape, behind, passed, single, escape, escaped, double}
-use Rattle.yaml_lines.specs.Flow.{Front, quoted_as, is_quote, quoted, merge, behind_colon, flow_key, is_seen, fresh_key, after_element}
-use Rattle.yaml_lines.specs.Key.{keyed, colon_then, quoted_key, key_at}
-use Rattle.yaml_lines.proofs.Flows.{length-tail}
+use Rattle.yaml_inline.specs.File.{Line, is_blank, begins, skip_blanks, ends_line}
+use Rattle.yaml_inline.specs.Line.{indentation, body, is_dash, is_left_out, starts_plain, plain_len, plain_front, plain_rest}
+use Rattle.yaml_inline.specs.Scalar.{Quoted, closed, open_ended, bad_escape, behind, passed, single, escape, escaped, double}
+use Rattle.yaml_inline.specs.Flow.{Front, quoted_as, is_quote, quoted, merge, behind_colon, flow_key, is_seen, fresh_key, after_element}
+use Rattle.yaml_inline.specs.Key.{keyed, colon_then, quoted_key, key_at}
+use Rattle.yaml_inline.proofs.Flows.{length-tail}
 use Rattle.yaml_blocks.proofs.Tools.{choose, allowed, bind_ok, ok_same}
 
 pub skip_within : (cs : List ℕ) → length (skip_blanks cs) ≤ length cs

@@ -1,9 +1,9 @@
 -- Where and why the reading of a scalar or a flow collection stops in its block, by cases; and that it stops in each case.
 use Rattle.std.proofs.Common.{◌≡◌, ℕ, suc, Bool, true, false, not, cond, ◌&&◌, ◌||◌, ◌==◌, nat_lt, ◌⊎◌, inl, inr, List, [], ◌∷◌, drop, is_some, Ok, Err, refl, sym, ◌∙◌}
-use Rattle.yaml_lines.specs.File.{Line, is_empty, begins, skip_blanks, carries_nothing, ends_line}
-use Rattle.yaml_lines.specs.Line.{spot, Stop, refused, syntax, indent, body, is_comment, is_empty_line, bad_start, starts_plain, plain_front, plain_rest, is_left_out}
-use Rattle.yaml_lines.specs.Scalar.{Chomping, clip, strip, keep}
-use Rattle.yaml_lines.specs.Flow.{quoted, is_quote, is_bracket, flow_node}
+use Rattle.yaml_inline.specs.File.{Line, is_empty, begins, skip_blanks, carries_nothing, ends_line}
+use Rattle.yaml_inline.specs.Line.{spot, Stop, refused, syntax, indent, body, is_comment, is_empty_line, bad_start, starts_plain, plain_front, plain_rest, is_left_out}
+use Rattle.yaml_inline.specs.Scalar.{Chomping, clip, strip, keep}
+use Rattle.yaml_inline.specs.Flow.{quoted, is_quote, is_bracket, flow_node}
 use Rattle.yaml_blocks.specs.Blocks.{skip_comments, nothing_from, nothing_in, alone, Continuation, empty_line, comment_line, text_line, last_line, continuation, add_line, more_plain, plain_text, digit_first, header_end, header_of, scalar_lines, block_scalar}
 use Rattle.yaml_blocks.specs.Reading.{offset, scalar_or_flow_in}
 use Rattle.yaml_blocks.specs.ScalarStops.{StopsBehind, StopsAlone, StopsContinuation, StopsPlainLines, StopsPlain, behind_chomping, StopsBlockScalar}

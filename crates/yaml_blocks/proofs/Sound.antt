@@ -1,11 +1,11 @@
 -- What the blocks' reading gives is laid out in the lines.
 use Rattle.std.proofs.Common.{◌≡◌, ℕ, zero, suc, Bool, true, false, not, ◌&&◌, ◌||◌, ◌==◌, inl, inr, List, [], ◌∷◌, ◌++◌, drop, None, is_some, Ok, Err, refl, sym, subst}
 use Rattle.yaml_tree.specs.Tree.{At, Scalar, text, Tree, scalar, list, map, Elements, element, Members, no_members, member, Member}
-use Rattle.yaml_lines.specs.File.{Line, begins, carries_nothing}
-use Rattle.yaml_lines.specs.Line.{spot, Read, body, bad_start, is_dash, is_left_out, starts_plain}
-use Rattle.yaml_lines.specs.Scalar.{resolved}
-use Rattle.yaml_lines.specs.Flow.{is_quote, is_bracket, flow_node, front_map, map_from, Front, is_seen}
-use Rattle.yaml_lines.specs.Key.{Keyed, keyed, unkeyed, key_stop, key_at}
+use Rattle.yaml_inline.specs.File.{Line, begins, carries_nothing}
+use Rattle.yaml_inline.specs.Line.{spot, Read, body, bad_start, is_dash, is_left_out, starts_plain}
+use Rattle.yaml_inline.specs.Scalar.{resolved}
+use Rattle.yaml_inline.specs.Flow.{is_quote, is_bracket, flow_node, front_map, map_from, Front, is_seen}
+use Rattle.yaml_inline.specs.Key.{Keyed, keyed, unkeyed, key_stop, key_at}
 use Rattle.yaml_blocks.specs.Blocks.{skip_comments, alone}
 use Rattle.yaml_blocks.specs.Reading.{Item, offset, is_level, key_of, item_key, key_in, behind_in, element_in, elements_in, entry_in, entries_in, scalar_or_flow_in, node_in, block_from, block_with, block_in, too_deep}
 use Rattle.yaml_blocks.specs.Lays.{IsFlow, IsNoCollection, IsDashed, IsKeyed, LaysBlock, LaysElement, LaysValue, LaysNode, LaysElements, LaysMembers, Lays}

@@ -1,10 +1,10 @@
 -- Where and why the blocks' reading stops, by cases; and that it stops in each case.
 use Rattle.std.proofs.Common.{◌≡◌, ℕ, zero, suc, Bool, true, false, not, ◌&&◌, inl, inr, List, [], ◌∷◌, ◌++◌, drop, None, is_some, Ok, Err, refl, sym, ap, ◌∙◌}
 use Rattle.yaml_tree.specs.Tree.{At, Tree, list, map, Elements, Members}
-use Rattle.yaml_lines.specs.File.{Line, carries_nothing}
-use Rattle.yaml_lines.specs.Line.{spot, Stop, Read, ◌>>=◌, body, bad_start, is_dash}
-use Rattle.yaml_lines.specs.Flow.{is_seen}
-use Rattle.yaml_lines.specs.Key.{Keyed, keyed, unkeyed, key_stop, key_at}
+use Rattle.yaml_inline.specs.File.{Line, carries_nothing}
+use Rattle.yaml_inline.specs.Line.{spot, Stop, Read, ◌>>=◌, body, bad_start, is_dash}
+use Rattle.yaml_inline.specs.Flow.{is_seen}
+use Rattle.yaml_inline.specs.Key.{Keyed, keyed, unkeyed, key_stop, key_at}
 use Rattle.yaml_blocks.specs.Blocks.{skip_comments}
 use Rattle.yaml_blocks.specs.Reading.{Item, items_of, offset, is_level, after_spaces, key_of, item_key, key_in, behind_in, element_in, elements_in, entry_in, entries_in, node_in, node_with, block_from, block_with, block_in, too_deep}
 use Rattle.yaml_blocks.specs.Lays.{IsDashed, IsKeyed}

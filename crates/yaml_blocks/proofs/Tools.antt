@@ -1,8 +1,8 @@
 -- What a reading that is an `if` or a chain gives.
 use Rattle.std.proofs.Common.{◌≡◌, ℕ, Bool, true, false, not, cond, ◌&&◌, ◌||◌, ◌⊎◌, inl, inr, Option, Some, None, is_some, Ok, Err, refl}
 use Rattle.yaml_tree.specs.Tree.{At}
-use Rattle.yaml_lines.specs.Line.{Stop, refused, unclosed, Read, ◌>>=◌}
-use Rattle.yaml_lines.specs.Flow.{inside_open}
+use Rattle.yaml_inline.specs.Line.{Stop, refused, unclosed, Read, ◌>>=◌}
+use Rattle.yaml_inline.specs.Flow.{inside_open}
 
 pub choose : {A : Type 0} (b : Bool) (x y z : A) → cond b x y ≡ z → ((b ≡ true) × (x ≡ z)) ⊎ ((b ≡ false) × (y ≡ z))
 choose true x y z e = inl (refl, e)

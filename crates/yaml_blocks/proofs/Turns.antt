@@ -1,11 +1,11 @@
 -- Loops over the lines of a block, a turn at a time.
 use Rattle.std.proofs.Common.{◌≡◌, ℕ, zero, suc, ◌+◌, ◌<◌, ◌≤◌, Bool, true, false, List, [], ◌∷◌, ◌++◌, length, get_or, drop, Ok, Err, refl, sym, ap, ◌∙◌, arith, append_assoc, append-nil}
 use Rattle.std.proofs.lemmas.List.{drop_more, at_drop_all}
-use Rattle.yaml_lines.specs.declared.line.Line as code
-use Rattle.yaml_lines.specs.File.{Line, is_empty, skip_blanks, carries_nothing, ends_line}
-use Rattle.yaml_lines.specs.Line.{Stop, syntax, Read, ◌>>=◌, is_comment, unexpected, plain_front, plain_rest}
-use Rattle.yaml_lines.specs.View.{line_view}
-use Rattle.yaml_lines.specs.Scalar.{feeds, plain_joint}
+use Rattle.yaml_inline.specs.declared.line.Line as code
+use Rattle.yaml_inline.specs.File.{Line, is_empty, skip_blanks, carries_nothing, ends_line}
+use Rattle.yaml_inline.specs.Line.{Stop, syntax, Read, ◌>>=◌, is_comment, unexpected, plain_front, plain_rest}
+use Rattle.yaml_inline.specs.View.{line_view}
+use Rattle.yaml_inline.specs.Scalar.{feeds, plain_joint}
 use Rattle.yaml_blocks.specs.Blocks.{nothing_in, empty_line, comment_line, text_line, last_line, continuation, more_plain, plain_text}
 use Rattle.yaml_blocks.specs.Continuations.{behind_text}
 use Rattle.yaml_blocks.specs.Views.{lines_view}

@@ -1,7 +1,7 @@
 -- A plain scalar behind which nothing stands.
 use Rattle.std.proofs.Common.{◌≡◌, ℕ, suc, Bool, true, false, List, [], ◌∷◌, Ok, refl, sym, ap, ◌∙◌, append-nil}
-use Rattle.yaml_lines.specs.File.{Line, is_empty, ends_line}
-use Rattle.yaml_lines.specs.Line.{is_comment, is_empty_line, plain_front, plain_rest}
+use Rattle.yaml_inline.specs.File.{Line, is_empty, ends_line}
+use Rattle.yaml_inline.specs.Line.{is_comment, is_empty_line, plain_front, plain_rest}
 use Rattle.yaml_blocks.specs.Blocks.{nothing_in, empty_line, comment_line, continuation, more_plain, plain_text}
 
 first_comment : (l : Line) (ls : List Line) (u : Unit {0}) → nothing_in (l ∷ ls) ≡ Ok u → is_comment l ≡ true

@@ -3,7 +3,7 @@ use Rattle.std.specs.Prelude.{ℕ, Bool, List, [], ◌∷◌, ◌++◌, if◌the
 use Rattle.std.specs.Borrow.{Bor}
 use Rattle.yaml_blocks.specs.declared.scalar.Chomping.{Chomping}
 use Rattle.yaml_blocks.specs.declared.scalar.Chomping.TheVariants.{Clip, Strip, Keep}
-use Rattle.yaml_lines.specs.Scalar as scalar
+use Rattle.yaml_inline.specs.Scalar as scalar
 
 abbrev pub chomping_view : Chomping → scalar.Chomping
 chomping_view Clip = scalar.clip

@@ -1,7 +1,7 @@
 -- What the readers of a block scalar's lines give.
 use Rattle.std.specs.Prelude.{◌≡◌, ℕ, List, [], ◌≤◌, length, drop}
-use Rattle.yaml_lines.specs.declared.line.Line as code
-use Rattle.yaml_lines.specs.File.{Line}
+use Rattle.yaml_inline.specs.declared.line.Line as code
+use Rattle.yaml_inline.specs.File.{Line}
 use Rattle.yaml_blocks.specs.Blocks.{scalar_lines}
 use Rattle.yaml_blocks.specs.Views.{lines_view}
 

@@ -1,6 +1,6 @@
 -- What the reader of continuation lines gives.
 use Rattle.std.specs.Prelude.{ℕ, List, ◌++◌, Ok}
-use Rattle.yaml_lines.specs.Line.{Read, ◌>>=◌}
+use Rattle.yaml_inline.specs.Line.{Read, ◌>>=◌}
 use Rattle.yaml_blocks.specs.declared.plain.Continuation.{Continuation}
 use Rattle.yaml_blocks.specs.declared.plain.Continuation.TheVariants.{Empty, Comment, Text, Last}
 use Rattle.yaml_blocks.specs.declared.plain.PlainText.{PlainText}

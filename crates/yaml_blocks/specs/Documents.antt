@@ -2,8 +2,8 @@
 use Rattle.std.specs.Prelude.{◌≡◌, ℕ, Bool, true, false, not, ◌&&◌, ◌||◌, ◌==◌, nat_le, if◌then◌else◌, ◌⊎◌, List, [], ◌∷◌, ◌++◌, Ok, Err}
 use Rattle.std.specs.List.{prefix_len, list_any, list_all}
 use Rattle.yaml_tree.specs.Tree.{At, Tree, Answer, tree, refusal}
-use Rattle.yaml_lines.specs.File.{Line, is_forbidden, is_marker, carries}
-use Rattle.yaml_lines.specs.Line.{at, Stop, refused, unclosed, Read}
+use Rattle.yaml_inline.specs.File.{Line, is_forbidden, is_marker, carries}
+use Rattle.yaml_inline.specs.Line.{at, Stop, refused, unclosed, Read}
 use Rattle.yaml_blocks.specs.Reading.{block_in}
 use Rattle.yaml_blocks.specs.Lays.{Lays}
 use Rattle.yaml_blocks.specs.Laws.{HasTree}

@@ -1,10 +1,10 @@
 -- Where a reading stops, by cases: what stands before is whole, and at the place a rule asks for something that doesn't stand there.
 use Rattle.std.specs.Prelude.{◌≡◌, ℕ, zero, suc, Bool, true, false, ◌&&◌, ◌||◌, ◌==◌, ◌⊎◌, List, [], ◌∷◌, ◌++◌, drop, None, is_some, Ok}
 use Rattle.yaml_tree.specs.Tree.{Tree}
-use Rattle.yaml_lines.specs.File.{Line, begins, skip_blanks, carries_nothing}
-use Rattle.yaml_lines.specs.Line.{spot, Stop, refused, syntax, body, bad_start, unexpected, starts_plain, is_dash, is_left_out}
-use Rattle.yaml_lines.specs.Flow.{quoted, is_quote, is_bracket, flow_node, is_seen}
-use Rattle.yaml_lines.specs.Key.{keyed, unkeyed, key_at}
+use Rattle.yaml_inline.specs.File.{Line, begins, skip_blanks, carries_nothing}
+use Rattle.yaml_inline.specs.Line.{spot, Stop, refused, syntax, body, bad_start, unexpected, starts_plain, is_dash, is_left_out}
+use Rattle.yaml_inline.specs.Flow.{quoted, is_quote, is_bracket, flow_node, is_seen}
+use Rattle.yaml_inline.specs.Key.{keyed, unkeyed, key_at}
 use Rattle.yaml_blocks.specs.Blocks.{skip_comments}
 use Rattle.yaml_blocks.specs.Reading.{Item, items_of, offset, is_level, after_spaces}
 use Rattle.yaml_blocks.specs.Lays.{IsNoCollection, IsDashed, IsKeyed, LaysElement, LaysValue, LaysNode}

@@ -1,8 +1,8 @@
 -- Laws of the definitions: one tree, documents before documents, and the first line without one.
 use Rattle.std.specs.Prelude.{◌≡◌, ℕ, List, [], ◌∷◌, ◌++◌, Ok, Err}
 use Rattle.yaml_tree.specs.Tree.{At, Tree}
-use Rattle.yaml_lines.specs.File.{Line}
-use Rattle.yaml_lines.specs.Line.{Stop}
+use Rattle.yaml_inline.specs.File.{Line}
+use Rattle.yaml_inline.specs.Line.{Stop}
 use Rattle.yaml_blocks.specs.Reading.{block_in}
 use Rattle.yaml_blocks.specs.Lays.{Lays}
 use Rattle.yaml_blocks.specs.Form.{Stops}

@@ -1,11 +1,11 @@
 -- How a tree is laid out in lines: by cases on the tree.
 use Rattle.std.specs.Prelude.{◌≡◌, ℕ, zero, suc, Bool, true, false, ◌||◌, ◌⊎◌, List, [], ◌∷◌, ◌++◌, drop, None, Ok}
 use Rattle.yaml_tree.specs.Tree.{At, Scalar, null, text, Tree, scalar, list, map, Elements, no_elements, element, Members, no_members, member}
-use Rattle.yaml_lines.specs.File.{Line, begins, skip_blanks, carries_nothing, ends_line}
-use Rattle.yaml_lines.specs.Line.{spot, body, bad_start, is_dash, is_left_out, starts_plain}
-use Rattle.yaml_lines.specs.Scalar.{resolved}
-use Rattle.yaml_lines.specs.Flow.{quoted, is_quote, is_bracket, flow_node, is_seen}
-use Rattle.yaml_lines.specs.Key.{keyed, unkeyed, key_at}
+use Rattle.yaml_inline.specs.File.{Line, begins, skip_blanks, carries_nothing, ends_line}
+use Rattle.yaml_inline.specs.Line.{spot, body, bad_start, is_dash, is_left_out, starts_plain}
+use Rattle.yaml_inline.specs.Scalar.{resolved}
+use Rattle.yaml_inline.specs.Flow.{quoted, is_quote, is_bracket, flow_node, is_seen}
+use Rattle.yaml_inline.specs.Key.{keyed, unkeyed, key_at}
 use Rattle.yaml_blocks.specs.Blocks.{skip_comments, plain_text, block_scalar}
 use Rattle.yaml_blocks.specs.Reading.{Item, items_of, offset, is_level, after_spaces}
 

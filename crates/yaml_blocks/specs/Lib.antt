@@ -10,3 +10,4 @@ pub mod Views
 pub mod Continuations
 pub mod Chompings
 pub mod Contents
+pub mod Items

@@ -2,10 +2,10 @@
 use Rattle.std.specs.Prelude.{◌≡◌, ℕ, zero, suc, true, false, not, ◌&&◌, ◌||◌, if◌then◌else◌, ◌⊎◌, List, [], ◌∷◌, ◌++◌, drop, Ok}
 use Rattle.std.specs.Str.{bytes_eq}
 use Rattle.yaml_tree.specs.Tree.{Tree, Elements, no_elements, element, Members, no_members, member}
-use Rattle.yaml_lines.specs.File.{Line, begins, skip_blanks, ends_line}
-use Rattle.yaml_lines.specs.Line.{spot, Stop, refused, unclosed, syntax, starts_plain, plain_front, plain_rest, is_left_out}
-use Rattle.yaml_lines.specs.Scalar.{Quoted, open_ended, bad_escape, single, double}
-use Rattle.yaml_lines.specs.Flow.{Front, opened, is_quote, quoted, merge, flow_key, is_seen, fresh_key, is_bracket, flow_element, flow_value, flow_entry, flow_node}
+use Rattle.yaml_inline.specs.File.{Line, begins, skip_blanks, ends_line}
+use Rattle.yaml_inline.specs.Line.{spot, Stop, refused, unclosed, syntax, starts_plain, plain_front, plain_rest, is_left_out}
+use Rattle.yaml_inline.specs.Scalar.{Quoted, open_ended, bad_escape, single, double}
+use Rattle.yaml_inline.specs.Flow.{Front, opened, is_quote, quoted, merge, flow_key, is_seen, fresh_key, is_bracket, flow_element, flow_value, flow_entry, flow_node}
 
 -- ---- quotes
 

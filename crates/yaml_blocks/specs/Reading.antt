@@ -2,11 +2,11 @@
 use Rattle.std.specs.Prelude.{ℕ, zero, suc, ◌-◌, Bool, true, false, not, ◌&&◌, ◌||◌, ◌==◌, if◌then◌else◌, List, [], ◌∷◌, ◌++◌, length, drop, map as list_map, is_some, Ok, Err}
 use Rattle.std.specs.List.{prefix_len}
 use Rattle.yaml_tree.specs.Tree.{At, null, text, Tree, scalar, list, map, Elements, no_elements, element, Members, no_members, member, Member}
-use Rattle.yaml_lines.specs.File.{Line, is_blank, is_space, begins, skip_blanks, carries_nothing}
-use Rattle.yaml_lines.specs.Line.{spot, refused, syntax, Read, ◌>>=◌, body, bad_start, unexpected, starts_plain, is_dash, is_left_out}
-use Rattle.yaml_lines.specs.Scalar.{resolved}
-use Rattle.yaml_lines.specs.Flow.{quoted, is_quote, is_bracket, flow_node, is_seen}
-use Rattle.yaml_lines.specs.Key.{Keyed, keyed, unkeyed, key_stop, key_at}
+use Rattle.yaml_inline.specs.File.{Line, is_blank, is_space, begins, skip_blanks, carries_nothing}
+use Rattle.yaml_inline.specs.Line.{spot, refused, syntax, Read, ◌>>=◌, body, bad_start, unexpected, starts_plain, is_dash, is_left_out}
+use Rattle.yaml_inline.specs.Scalar.{resolved}
+use Rattle.yaml_inline.specs.Flow.{quoted, is_quote, is_bracket, flow_node, is_seen}
+use Rattle.yaml_inline.specs.Key.{Keyed, keyed, unkeyed, key_stop, key_at}
 use Rattle.yaml_blocks.specs.Blocks.{skip_comments, Part, divide, alone, plain_text, block_scalar}
 
 -- a line of a block's own indentation from its dash or key on, and the lines inside it

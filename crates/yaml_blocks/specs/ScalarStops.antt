@@ -1,8 +1,8 @@
 -- Where and why the reading of a scalar stops over the lines of its block, by cases.
 use Rattle.std.specs.Prelude.{◌≡◌, ℕ, true, false, not, ◌||◌, nat_lt, if◌then◌else◌, ◌⊎◌, List, [], ◌∷◌, drop, is_some, Ok}
-use Rattle.yaml_lines.specs.File.{Line, is_empty, begins, ends_line}
-use Rattle.yaml_lines.specs.Line.{spot, Stop, refused, syntax, indent, body, is_comment, bad_start, unexpected, plain_rest}
-use Rattle.yaml_lines.specs.Scalar.{Chomping}
+use Rattle.yaml_inline.specs.File.{Line, is_empty, begins, ends_line}
+use Rattle.yaml_inline.specs.Line.{spot, Stop, refused, syntax, indent, body, is_comment, bad_start, unexpected, plain_rest}
+use Rattle.yaml_inline.specs.Scalar.{Chomping}
 use Rattle.yaml_blocks.specs.Blocks.{skip_comments, empty_line, comment_line, text_line, last_line, continuation, digit_first, header_of, scalar_lines}
 
 -- Nothing more may stand in the block.

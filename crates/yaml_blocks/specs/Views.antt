@@ -1,9 +1,9 @@
 -- Lines and what readers of them give, as plain data.
 use Rattle.std.specs.Prelude.{ℕ, List, [], ◌∷◌, map as list_map, Option, Some, None}
 use Rattle.std.specs.Borrow.{Bor}
-use Rattle.yaml_lines.specs.declared.line.Line as code
-use Rattle.yaml_lines.specs.File.{Line}
-use Rattle.yaml_lines.specs.View.{line_view}
+use Rattle.yaml_inline.specs.declared.line.Line as code
+use Rattle.yaml_inline.specs.File.{Line}
+use Rattle.yaml_inline.specs.View.{line_view}
 
 abbrev pub lines_view : List code.Line → List Line
 lines_view ls = list_map line_view ls

@@ -1,9 +1,9 @@
 //! The lines of a block scalar.
 
 ghost use Rattle.std.specs.Prelude.{◌≡◌, ◌++◌, ◌≤◌, ◌<◌, length, take, drop, true, map, IfOk, OnOk};
-ghost use Rattle.yaml_lines.specs.File as file;
-ghost use Rattle.yaml_lines.specs.Line.{is_empty_line};
-ghost use Rattle.yaml_lines.specs.View.{line_view, Gives};
+ghost use Rattle.yaml_inline.specs.File as file;
+ghost use Rattle.yaml_inline.specs.Line.{is_empty_line};
+ghost use Rattle.yaml_inline.specs.View.{line_view, Gives};
 ghost use Rattle.yaml_blocks.specs.Blocks as spec;
 ghost use Rattle.yaml_blocks.specs.Chompings.{texts_view};
 ghost use Rattle.yaml_blocks.specs.Continuations.{text_given};
@@ -14,8 +14,8 @@ use crate::lines::{indent, is_empty_line, lines_behind, nothing_in};
 use crate::scalar::{block_text, header_of};
 use sig_base::Text;
 use std::alloc::{AllocError, Global};
-use yaml_lines::scan::{begins, behind};
-use yaml_lines::{Halt, Line};
+use yaml_inline::scan::{begins, behind};
+use yaml_inline::{Halt, Line};
 
 /// How many lines with blanks alone come first.
 #[tactic(auto, using(crate::proofs::Fronts::front_more, crate::proofs::Fronts::front_stop, crate::proofs::Fronts::front_end))]

@@ -2,19 +2,19 @@
 
 ghost use Rattle.std.specs.Prelude.{◌≡◌, ◌≤◌, length, drop, is_some, Some};
 ghost use Rattle.std.specs.List.{prefix_len};
-ghost use Rattle.yaml_lines.specs.File as file;
-ghost use Rattle.yaml_lines.specs.Line as spec;
-ghost use Rattle.yaml_lines.specs.View.{line_view, halt_view, Gives};
+ghost use Rattle.yaml_inline.specs.File as file;
+ghost use Rattle.yaml_inline.specs.Line as spec;
+ghost use Rattle.yaml_inline.specs.View.{line_view, halt_view, Gives};
 ghost use Rattle.yaml_blocks.specs.Blocks as blocks;
 ghost use Rattle.yaml_blocks.specs.Views.{lines_view, three_view, done};
 
 use sig_base::{Code, Place};
-use yaml_lines::flow::{no_reading, refused};
-use yaml_lines::scan::{begins, behind, blank_or_end, carries_nothing, ends_line, skip_blanks};
-use yaml_lines::{Halt, Line};
+use yaml_inline::flow::{no_reading, refused};
+use yaml_inline::scan::{begins, behind, blank_or_end, carries_nothing, ends_line, skip_blanks};
+use yaml_inline::{Halt, Line};
 
 /// How many spaces a line begins with.
-#[tactic(auto, unfolding(yaml_lines::specs::Line::indentation, yaml_lines::specs::Line::indent))]
+#[tactic(auto, unfolding(yaml_inline::specs::Line::indentation, yaml_inline::specs::Line::indent))]
 pub fn indent(line: &Line<'_>) -> usize
     ensures indent { result ≡ spec.indent (line_view line.now) }
     ensures within { result ≤ length line.now.text.now }
@@ -23,7 +23,7 @@ pub fn indent(line: &Line<'_>) -> usize
 }
 
 /// The line behind its indentation.
-#[tactic(auto, unfolding(yaml_lines::specs::Line::body, yaml_lines::specs::Line::indent))]
+#[tactic(auto, unfolding(yaml_inline::specs::Line::body, yaml_inline::specs::Line::indent))]
 pub fn body<'t>(line: &Line<'t>) -> &'t [char]
     ensures body { result.now ≡ spec.body (line_view line.now) }
     ensures within { length result.now ≤ length line.now.text.now }
@@ -33,7 +33,7 @@ pub fn body<'t>(line: &Line<'t>) -> &'t [char]
 }
 
 /// Whether the line carries nothing.
-#[tactic(auto, unfolding(yaml_lines::specs::Line::is_comment))]
+#[tactic(auto, unfolding(yaml_inline::specs::Line::is_comment))]
 pub fn is_comment(line: &Line<'_>) -> bool
     ensures { result ≡ spec.is_comment (line_view line.now) }
 {
@@ -41,7 +41,7 @@ pub fn is_comment(line: &Line<'_>) -> bool
 }
 
 /// Whether the line has blanks alone.
-#[tactic(auto, unfolding(yaml_lines::specs::Line::is_empty_line))]
+#[tactic(auto, unfolding(yaml_inline::specs::Line::is_empty_line))]
 pub fn is_empty_line(line: &Line<'_>) -> bool
     ensures { result ≡ spec.is_empty_line (line_view line.now) }
 {
@@ -62,7 +62,7 @@ fn after_three(sign: char, text: &[char]) -> Option<&[char]>
 }
 
 /// Whether the line parts two documents.
-#[tactic(auto, unfolding(yaml_lines::specs::File::is_parting, yaml_lines::specs::File::ends_line))]
+#[tactic(auto, unfolding(yaml_inline::specs::File::is_parting, yaml_inline::specs::File::ends_line))]
 pub fn is_parting(line: &Line<'_>) -> bool
     ensures { result ≡ file.is_parting (line_view line.now) }
 {
@@ -82,7 +82,7 @@ fn ends_sign(sign: char, text: &[char]) -> bool
 }
 
 /// Whether the line begins with a marker that is left out.
-#[tactic(auto, unfolding(yaml_lines::specs::File::is_marker))]
+#[tactic(auto, unfolding(yaml_inline::specs::File::is_marker))]
 pub fn is_marker(line: &Line<'_>) -> bool
     ensures { result ≡ file.is_marker (line_view line.now) }
 {
@@ -90,7 +90,7 @@ pub fn is_marker(line: &Line<'_>) -> bool
 }
 
 /// Whether the line is refused for its start whatever else it has.
-#[tactic(auto, unfolding(yaml_lines::specs::Line::bad_start))]
+#[tactic(auto, unfolding(yaml_inline::specs::Line::bad_start))]
 pub fn has_bad_start(line: &Line<'_>) -> bool
     ensures { result ≡ is_some (spec.bad_start (line_view line.now)) }
 {
@@ -98,7 +98,7 @@ pub fn has_bad_start(line: &Line<'_>) -> bool
 }
 
 /// Why nothing may stand on the line.
-#[tactic(auto, unfolding(yaml_lines::specs::Line::unexpected, yaml_lines::specs::Line::bad_start))]
+#[tactic(auto, unfolding(yaml_inline::specs::Line::unexpected, yaml_inline::specs::Line::bad_start))]
 pub fn unexpected(line: &Line<'_>) -> Halt
     ensures { halt_view result ≡ Some (spec.unexpected (line_view line.now)) }
 {
@@ -116,7 +116,7 @@ pub fn unexpected(line: &Line<'_>) -> Halt
 }
 
 /// Nothing more may stand on these lines.
-#[tactic(auto, using(crate::proofs::Turns::nothing_comment, crate::proofs::Turns::nothing_unexpected, crate::proofs::Turns::nothing_end, yaml_lines::proofs::Failing::fails_as))]
+#[tactic(auto, using(crate::proofs::Turns::nothing_comment, crate::proofs::Turns::nothing_unexpected, crate::proofs::Turns::nothing_end, yaml_inline::proofs::Failing::fails_as))]
 pub fn nothing_in(lines: &[Line<'_>]) -> Result<(), Halt>
     ensures { Gives done result (blocks.nothing_in (lines_view lines.now)) }
 {

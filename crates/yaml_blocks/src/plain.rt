@@ -1,8 +1,8 @@
 //! Plain scalars, which may go on over continuation lines (YAML 1.2, 7.3.3 and 6.5 on folding).
 
 ghost use Rattle.std.specs.Prelude.{◌≡◌, ◌≤◌, ◌++◌, ℕ, length, drop, Ok, IfOk, MatchOption, OnOk};
-ghost use Rattle.yaml_lines.specs.Scalar as scalar;
-ghost use Rattle.yaml_lines.specs.View.{line_view, Gives};
+ghost use Rattle.yaml_inline.specs.Scalar as scalar;
+ghost use Rattle.yaml_inline.specs.View.{line_view, Gives};
 ghost use Rattle.yaml_blocks.specs.Blocks as spec;
 ghost use Rattle.yaml_blocks.specs.Views.{lines_view, done};
 ghost use Rattle.yaml_blocks.specs.Continuations.{continuation_view, text_given, plain_view, behind_text};
@@ -13,10 +13,10 @@ use crate::lines::{
 use crate::texts::push_feeds;
 use sig_base::Text;
 use std::alloc::{AllocError, Global};
-use yaml_lines::flow::no_reading;
-use yaml_lines::plain::plain_parts;
-use yaml_lines::scan::ends_line;
-use yaml_lines::{Halt, Line};
+use yaml_inline::flow::no_reading;
+use yaml_inline::plain::plain_parts;
+use yaml_inline::scan::ends_line;
+use yaml_inline::{Halt, Line};
 
 /// A line behind a plain scalar: empty, a comment, text, or text that a comment ends.
 enum Continuation<'t> {

@@ -1,8 +1,8 @@
 //! Block scalars (YAML 1.2, 8.1).
 
 ghost use Rattle.std.specs.Prelude.{◌≡◌, ℕ, List, ◌∷◌, ◌+◌, ◌<◌, ◌^◌, ◌≤◌, ◌++◌, ◌-◌, [], length, drop, take, IfOk, OnOk, true};
-ghost use Rattle.yaml_lines.specs.Scalar as scalar;
-ghost use Rattle.yaml_lines.specs.View.{line_view, Gives};
+ghost use Rattle.yaml_inline.specs.Scalar as scalar;
+ghost use Rattle.yaml_inline.specs.View.{line_view, Gives};
 ghost use Rattle.yaml_blocks.specs.Blocks as spec;
 ghost use Rattle.yaml_blocks.specs.Views.{lines_view, done};
 ghost use Rattle.yaml_blocks.specs.Chompings.{chomping_view, texts_view, add_text, kept_text};
@@ -10,9 +10,9 @@ ghost use Rattle.yaml_blocks.specs.Chompings.{chomping_view, texts_view, add_tex
 use crate::texts::push_feeds;
 use sig_base::{Code, Text};
 use std::alloc::{AllocError, Global};
-use yaml_lines::flow::{no_reading, refused};
-use yaml_lines::scan::{begins, behind, ends_line, is_blank};
-use yaml_lines::{Halt, Line};
+use yaml_inline::flow::{no_reading, refused};
+use yaml_inline::scan::{begins, behind, ends_line, is_blank};
+use yaml_inline::{Halt, Line};
 
 /// What stays at the end of a block scalar.
 #[derive(Clone, Copy, Debug)]

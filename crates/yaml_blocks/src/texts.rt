@@ -1,7 +1,7 @@
 //! What is added to a text.
 
 ghost use Rattle.std.specs.Prelude.{◌≡◌, ◌++◌, OnOk};
-ghost use Rattle.yaml_lines.specs.Scalar as scalar;
+ghost use Rattle.yaml_inline.specs.Scalar as scalar;
 
 use sig_base::Text;
 use std::alloc::AllocError;

@@ -1,10 +1,10 @@
 -- The lines at the front of a document, by tests that they pass.
 use Rattle.std.proofs.Common.{◌≡◌, ℕ, suc, ◌+◌, ◌<◌, ◌≤◌, Bool, true, false, cond, ◌⊎◌, inl, inr, List, [], ◌∷◌, ◌++◌, length, refl, ap, arith}
 use Rattle.std.specs.List.{prefix_len, list_all}
-use Rattle.yaml_lines.specs.declared.line.Line as code
-use Rattle.yaml_lines.specs.File.{Line, carries_nothing}
-use Rattle.yaml_lines.specs.Line.{is_comment}
-use Rattle.yaml_lines.specs.View.{line_view}
+use Rattle.yaml_inline.specs.declared.line.Line as code
+use Rattle.yaml_inline.specs.File.{Line, carries_nothing}
+use Rattle.yaml_inline.specs.Line.{is_comment}
+use Rattle.yaml_inline.specs.View.{line_view}
 use Rattle.yaml_blocks.specs.Blocks.{skip_comments}
 use Rattle.yaml_blocks.specs.Documents.{has_content}
 use Rattle.yaml_blocks.specs.Views.{lines_view}

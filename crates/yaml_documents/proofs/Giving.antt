@@ -6,11 +6,11 @@ use Rattle.yaml_tree.specs.Tree.{At, Tree, tree, refusal}
 use Rattle.yaml_tree.specs.View.{document_view}
 use Rattle.yaml_tree.specs.declared.tree.Document.{Document}
 use Rattle.yaml_tree.specs.declared.tree.Document.TheVariants.{Tree as ATree, Refused}
-use Rattle.yaml_lines.specs.declared.line.Line as code
-use Rattle.yaml_lines.specs.declared.halt.Halt.{Halt}
-use Rattle.yaml_lines.specs.File.{Line, is_marker}
-use Rattle.yaml_lines.specs.Line.{at, Stop, refused, unclosed, is_comment}
-use Rattle.yaml_lines.specs.View.{line_view, halt_view, Fails}
+use Rattle.yaml_inline.specs.declared.line.Line as code
+use Rattle.yaml_inline.specs.declared.halt.Halt.{Halt}
+use Rattle.yaml_inline.specs.File.{Line, is_marker}
+use Rattle.yaml_inline.specs.Line.{at, Stop, refused, unclosed, is_comment}
+use Rattle.yaml_inline.specs.View.{line_view, halt_view, Fails}
 use Rattle.yaml_blocks.specs.Reading.{block_in}
 use Rattle.yaml_blocks.specs.Documents.{home, is_regular, has_content, stop_code, code_at, IsAnswer}
 use Rattle.yaml_blocks.specs.Views.{lines_view}

@@ -5,12 +5,12 @@ use Rattle.std.proofs.Math.Seq.{take-length}
 use Rattle.std.proofs.lemmas.List.{length-append, take_all}
 use Rattle.std.proofs.lemmas.Str.{IsUtf8-from_is_utf8, is_utf8-from_IsUtf8, utf8_valid_len-IsValidUpTo, IsUtf8-nil, encodes_same, encodes-chars, scalars-chars}
 use Rattle.yaml_tree.specs.Tree.{At, Answer}
-use Rattle.yaml_lines.specs.File.{Line, documents_of}
-use Rattle.yaml_lines.specs.Line.{at}
+use Rattle.yaml_inline.specs.File.{Line, documents_of}
+use Rattle.yaml_inline.specs.Line.{at}
 use Rattle.yaml_blocks.specs.Blocks.{skip_comments}
 use Rattle.yaml_blocks.specs.Documents.{home, AreAnswers}
 use Rattle.yaml_blocks.proofs.Answered.{each_answered, one_answer}
-use Rattle.yaml_files.specs.Call.{IsText, IsBadAt, IsPastAt, IsCallRefusal, IsTaken, place_behind}
+use Rattle.yaml_documents.specs.Call.{IsText, IsBadAt, IsPastAt, IsCallRefusal, IsTaken, place_behind}
 use Rattle.yaml_documents.specs.Rows.{AreDocuments}
 use Rattle.yaml_documents.specs.Verdicts.{EachVerdict, NeverBoth, OneList, OneRefusal}
 use Rattle.yaml_documents.proofs.Fronts.{content_begins}

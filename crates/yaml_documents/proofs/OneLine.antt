@@ -3,11 +3,11 @@ use Rattle.std.proofs.Common.{◌≡◌, ℕ, zero, suc, ◌-◌, ◌≤◌, Boo
 use Rattle.std.specs.Str.{bytes_eq}
 use Rattle.std.proofs.lemmas.List.Sums.{prefix_len-le-length}
 use Rattle.yaml_tree.specs.Tree.{At, Tree}
-use Rattle.yaml_lines.specs.File.{Line, is_space, begins, blank_or_end, skip_blanks, ends_line, is_marker}
-use Rattle.yaml_lines.specs.Line.{at, spot, Stop, refused, unclosed, Read, ◌>>=◌, indentation, indent, body, bad_start, unexpected, starts_plain, plain_front, plain_rest, is_left_out}
-use Rattle.yaml_lines.specs.Scalar.{Quoted, closed, open_ended, bad_escape, single, double}
-use Rattle.yaml_lines.specs.Flow.{Front, opened, inside_open, quoted_as, is_quote, quoted, merge, is_seen, behind_colon, flow_key, fresh_key, after_element, is_bracket, flow_element, flow_elements, flow_value, flow_entry, flow_members, flow_scalar, flow_node}
-use Rattle.yaml_lines.specs.Key.{Keyed, keyed, unkeyed, key_stop, colon_then, quoted_key, key_at}
+use Rattle.yaml_inline.specs.File.{Line, is_space, begins, blank_or_end, skip_blanks, ends_line, is_marker}
+use Rattle.yaml_inline.specs.Line.{at, spot, Stop, refused, unclosed, Read, ◌>>=◌, indentation, indent, body, bad_start, unexpected, starts_plain, plain_front, plain_rest, is_left_out}
+use Rattle.yaml_inline.specs.Scalar.{Quoted, closed, open_ended, bad_escape, single, double}
+use Rattle.yaml_inline.specs.Flow.{Front, opened, inside_open, quoted_as, is_quote, quoted, merge, is_seen, behind_colon, flow_key, fresh_key, after_element, is_bracket, flow_element, flow_elements, flow_value, flow_entry, flow_members, flow_scalar, flow_node}
+use Rattle.yaml_inline.specs.Key.{Keyed, keyed, unkeyed, key_stop, colon_then, quoted_key, key_at}
 use Rattle.yaml_documents.specs.Places.{IsOn, StandsOn}
 
 -- where the reading stops, it does so on this line

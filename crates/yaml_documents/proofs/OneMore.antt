@@ -2,11 +2,11 @@
 use Rattle.std.proofs.Common.{◌≡◌, ℕ, zero, suc, Bool, true, false, not, cond, ◌&&◌, ◌||◌, ◌==◌, nat_lt, List, [], ◌∷◌, ◌++◌, drop, Some, is_some, Ok, Err, refl, sym, ap, ◌∙◌, subst, append-nil, inl, inr}
 use Rattle.std.specs.Prelude.{map as list_map}
 use Rattle.yaml_tree.specs.Tree.{At, Tree}
-use Rattle.yaml_lines.specs.File.{Line, is_empty, begins, carries_nothing, ends_line}
-use Rattle.yaml_lines.specs.Line.{spot, Stop, Read, ◌>>=◌, indent, body, bad_start, unexpected, is_comment, is_empty_line, is_dash, is_left_out, starts_plain, plain_rest}
-use Rattle.yaml_lines.specs.Scalar.{Chomping, clip, strip, keep}
-use Rattle.yaml_lines.specs.Flow.{quoted, is_quote, is_bracket, flow_node, is_seen}
-use Rattle.yaml_lines.specs.Key.{Keyed, keyed, unkeyed, key_stop, key_at}
+use Rattle.yaml_inline.specs.File.{Line, is_empty, begins, carries_nothing, ends_line}
+use Rattle.yaml_inline.specs.Line.{spot, Stop, Read, ◌>>=◌, indent, body, bad_start, unexpected, is_comment, is_empty_line, is_dash, is_left_out, starts_plain, plain_rest}
+use Rattle.yaml_inline.specs.Scalar.{Chomping, clip, strip, keep}
+use Rattle.yaml_inline.specs.Flow.{quoted, is_quote, is_bracket, flow_node, is_seen}
+use Rattle.yaml_inline.specs.Key.{Keyed, keyed, unkeyed, key_stop, key_at}
 use Rattle.yaml_blocks.specs.Blocks.{rest_while, front_while, skip_comments, nothing_from, nothing_in, Parts, put_line, inside, divide, alone, Continuation, empty_line, comment_line, text_line, last_line, continuation, add_line, more_plain, plain_text, digit_first, header_end, header_of, first_indent, is_content, lines_at, scalar_lines, block_scalar}
 use Rattle.yaml_blocks.specs.Reading.{Item, item_of, items_of, offset, is_level, after_spaces, key_of, item_key, key_in, behind_in, element_in, elements_in, entry_in, entries_in, sequence_in, map_in, scalar_or_flow_in, keyed_then, node_with, node_in, block_from, block_with, block_in, too_deep}
 use Rattle.yaml_blocks.specs.Laws.{HasTree}

@@ -1,8 +1,8 @@
 -- A refusal's place lies on the line that a document is refused at.
 use Rattle.std.proofs.Common.{◌≡◌, ℕ, Bool, true, false, cond, ◌&&◌, List, [], ◌∷◌, ◌++◌, inl, inr, Ok, refl, sym, subst, append-nil}
 use Rattle.yaml_tree.specs.Tree.{At, Tree, null, scalar}
-use Rattle.yaml_lines.specs.File.{Line}
-use Rattle.yaml_lines.specs.Line.{Stop, refused, unclosed}
+use Rattle.yaml_inline.specs.File.{Line}
+use Rattle.yaml_inline.specs.Line.{Stop, refused, unclosed}
 use Rattle.yaml_blocks.specs.Reading.{block_in}
 use Rattle.yaml_blocks.specs.Documents.{home, Alive, is_before_forbidden, closes_later, first_open, stop_code}
 use Rattle.yaml_blocks.proofs.Complete.{reads_all}

@@ -8,11 +8,11 @@ use Rattle.std.proofs.lemmas.List.Elements.{All-append}
 use Rattle.yaml_tree.specs.Tree.{Answer}
 use Rattle.yaml_tree.specs.View.{document_view}
 use Rattle.yaml_tree.specs.declared.tree.Document.{Document}
-use Rattle.yaml_lines.specs.declared.line.Line as code
-use Rattle.yaml_lines.specs.File.{Line, line_texts, numbered, skip_mark, lines_of, carries, is_parting, put_line, parted, with_content, documents_of}
+use Rattle.yaml_inline.specs.declared.line.Line as code
+use Rattle.yaml_inline.specs.File.{Line, line_texts, numbered, skip_mark, lines_of, carries, is_parting, put_line, parted, with_content, documents_of}
 use Rattle.yaml_blocks.specs.Documents.{has_content, IsAnswer, AreAnswers}
 use Rattle.yaml_blocks.specs.Views.{lines_view}
-use Rattle.yaml_files.specs.Views.{documents_view}
+use Rattle.yaml_documents.specs.Views.{documents_view}
 use Rattle.yaml_documents.specs.Rows.{AreNumbered, AreInARow, AreDocuments}
 use Rattle.yaml_documents.specs.Given.{answers_view, IsPlain}
 

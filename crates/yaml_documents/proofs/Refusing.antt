@@ -4,8 +4,8 @@ use Rattle.std.specs.List.{prefix_len, list_all}
 use Rattle.std.proofs.lemmas.List.{length-append}
 use Rattle.std.proofs.Math.Seq.{take-append_seam}
 use Rattle.yaml_tree.specs.Tree.{Tree, tree, refusal}
-use Rattle.yaml_lines.specs.File.{Line, is_marker}
-use Rattle.yaml_lines.specs.Line.{Stop, is_comment}
+use Rattle.yaml_inline.specs.File.{Line, is_marker}
+use Rattle.yaml_inline.specs.Line.{Stop, is_comment}
 use Rattle.yaml_blocks.specs.Reading.{block_in}
 use Rattle.yaml_blocks.specs.Laws.{HasTree, StopsFirst}
 use Rattle.yaml_blocks.specs.Documents.{home, is_regular, has_content, Alive, IsRefusedAt, IsCode, stop_code, code_at, IsAnswer}

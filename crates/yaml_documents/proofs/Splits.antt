@@ -1,9 +1,9 @@
 -- The code's lines, where they are parted at one of them.
 use Rattle.std.proofs.Common.{◌≡◌, ℕ, suc, ◌+◌, ◌-◌, ◌<◌, ◌≤◌, List, [], ◌∷◌, ◌++◌, length, get_or, take, drop, Option, Some, None, option_map, IfSome, ap, subst, add-one, arith}
-use Rattle.yaml_lines.specs.declared.line.Line as code
-use Rattle.yaml_lines.specs.File.{Line}
-use Rattle.yaml_lines.specs.Line.{Stop}
-use Rattle.yaml_lines.specs.View.{line_view}
+use Rattle.yaml_inline.specs.declared.line.Line as code
+use Rattle.yaml_inline.specs.File.{Line}
+use Rattle.yaml_inline.specs.Line.{Stop}
+use Rattle.yaml_inline.specs.View.{line_view}
 use Rattle.yaml_blocks.specs.Views.{lines_view}
 use Rattle.yaml_documents.specs.Rows.{AreNumbered, AreInARow}
 use Rattle.yaml_documents.specs.Given.{number_of, HasNumber}

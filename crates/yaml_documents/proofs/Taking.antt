@@ -4,12 +4,12 @@ use Rattle.std.specs.Borrow.{Bor}
 use Rattle.std.proofs.lemmas.List.{length-map}
 use Rattle.yaml_tree.specs.Tree.{At}
 use Rattle.yaml_tree.specs.declared.tree.Document.{Document}
-use Rattle.yaml_lines.specs.declared.line.Line as code
-use Rattle.yaml_lines.specs.File.{Line, lines_of, parted, with_content, documents_of}
+use Rattle.yaml_inline.specs.declared.line.Line as code
+use Rattle.yaml_inline.specs.File.{Line, lines_of, parted, with_content, documents_of}
 use Rattle.yaml_blocks.specs.Documents.{AreAnswers}
 use Rattle.yaml_blocks.specs.Views.{lines_view}
-use Rattle.yaml_files.specs.Call.{IsText, IsTooMany, IsCallRefusal, IsTaken}
-use Rattle.yaml_files.specs.Views.{documents_view}
+use Rattle.yaml_documents.specs.Call.{IsText, IsTooMany, IsCallRefusal, IsTaken}
+use Rattle.yaml_documents.specs.Views.{documents_view}
 use Rattle.yaml_documents.specs.Rows.{AreDocuments}
 use Rattle.yaml_documents.specs.Given.{answers_view}
 use Rattle.yaml_documents.proofs.Ready.{documents_ready}

@@ -5,8 +5,8 @@ use Rattle.yaml_tree.specs.Tree.{At, Answer}
 use Rattle.yaml_tree.specs.View.{place_view, document_view}
 use Rattle.yaml_tree.specs.declared.tree.Document.{Document}
 use Rattle.yaml_tree.specs.declared.tree.Document.TheVariants.{Tree, Refused}
-use Rattle.yaml_lines.specs.File.{Line}
-use Rattle.yaml_lines.specs.Line.{Stop, refused, unclosed}
+use Rattle.yaml_inline.specs.File.{Line}
+use Rattle.yaml_inline.specs.Line.{Stop, refused, unclosed}
 use Rattle.yaml_blocks.specs.Documents.{stop_code, code_at}
 
 abbrev pub answers_view : List Document → List Answer

@@ -2,3 +2,8 @@ pub mod Places
 pub mod Rows
 pub mod Given
 pub mod Verdicts
+pub mod Call
+pub mod Views
+pub mod Ends
+pub mod Nodes
+pub mod Bounds

@@ -1,8 +1,8 @@
 -- On which line a stop stands, and a refusal.
 use Rattle.std.specs.Prelude.{◌≡◌, ℕ, suc, ◌≤◌, List, [], ◌∷◌, length}
 use Rattle.yaml_tree.specs.Tree.{At}
-use Rattle.yaml_lines.specs.File.{Line}
-use Rattle.yaml_lines.specs.Line.{Stop, refused, unclosed}
+use Rattle.yaml_inline.specs.File.{Line}
+use Rattle.yaml_inline.specs.Line.{Stop, refused, unclosed}
 use Rattle.yaml_blocks.specs.Laws.{StopsFirst}
 use Rattle.yaml_blocks.specs.Documents.{IsRefusedAt, IsCode}
 

@@ -1,6 +1,6 @@
 -- Lines that are numbered one by one.
 use Rattle.std.specs.Prelude.{◌≡◌, ℕ, suc, true, List, [], ◌∷◌}
-use Rattle.yaml_lines.specs.File.{Line}
+use Rattle.yaml_inline.specs.File.{Line}
 use Rattle.yaml_blocks.specs.Documents.{has_content}
 
 abbrev pub AreNumbered : ℕ → List Line → Type 0

@@ -1,7 +1,7 @@
 -- Each file has exactly one verdict: it is taken, with one list of answers, or refused as a whole, with one code and place.
 use Rattle.std.specs.Prelude.{◌≡◌, ℕ, ◌⊎◌, List}
 use Rattle.yaml_tree.specs.Tree.{At, Answer}
-use Rattle.yaml_files.specs.Call.{IsCallRefusal, IsTaken}
+use Rattle.yaml_documents.specs.Call.{IsCallRefusal, IsTaken}
 
 abbrev pub EachVerdict : Type 0
 EachVerdict =

@@ -4,19 +4,19 @@ ghost use Rattle.std.specs.Prelude.{◌≡◌, ◌≤◌, ◌<◌, true, length,
 ghost use Rattle.std.specs.List.{prefix_len};
 ghost use Rattle.sig_base.specs.declared.refusal.Fault.TheVariants.{Memory};
 ghost use Rattle.yaml_tree.specs.View.{place_view, document_view};
-ghost use Rattle.yaml_lines.specs.Line as line_spec;
-ghost use Rattle.yaml_lines.specs.View.{line_view, halt_view};
+ghost use Rattle.yaml_inline.specs.Line as line_spec;
+ghost use Rattle.yaml_inline.specs.View.{line_view, halt_view};
 ghost use Rattle.yaml_blocks.specs.Documents as spec;
 ghost use Rattle.yaml_blocks.specs.Views.{lines_view};
 ghost use Rattle.yaml_documents.specs.Rows.{AreInARow};
 ghost use Rattle.yaml_documents.specs.Given.{IsPlain, IsRefused, number_of, HasNumber, IsStopped, IsRefusedBehind};
 
+use crate::codes::{is_regular, stop_code};
 use sig_base::{Code, Detail, Fault, Place, Refusal};
 use std::alloc::Global;
 use yaml_blocks::lines::{is_comment, is_marker, lines_behind};
-use yaml_files::codes::{is_regular, stop_code};
-use yaml_lines::{Halt, Line};
-use yaml_nodes::read_block;
+use yaml_blocks::read_block;
+use yaml_inline::{Halt, Line};
 use yaml_tree::Document;
 
 /// The answer to a document with content. Its collections nest at most so deep.

@@ -4,18 +4,20 @@ ghost use Rattle.std.specs.Prelude.{◌≡◌, ◌≤◌, ◌*◌, IfOk, IfErr};
 ghost use Rattle.std.specs.List.{All};
 ghost use Rattle.sig_base.specs.declared.refusal.Fault.TheVariants.{Memory};
 ghost use Rattle.yaml_blocks.specs.Documents.{AreAnswers};
-ghost use Rattle.yaml_files.specs.Nodes.{all_nodes};
-ghost use Rattle.yaml_files.specs.Call.{IsTaken, IsCallRefusal};
-ghost use Rattle.yaml_files.specs.Views.{documents_view, IfRefused};
+ghost use Rattle.yaml_documents.specs.Nodes.{all_nodes};
+ghost use Rattle.yaml_documents.specs.Call.{IsTaken, IsCallRefusal};
+ghost use Rattle.yaml_documents.specs.Views.{documents_view, IfRefused};
 ghost use Rattle.yaml_documents.specs.Rows.{AreDocuments};
 ghost use Rattle.yaml_documents.specs.Given.{answers_view, IsPlain};
 
+use crate::bounds::nodes_are_few;
 use crate::document::read_document;
+use crate::documents::documents_in;
+use crate::lines::lines_of;
+use crate::text::characters;
 use sig_base::{Fault, Limits};
 use std::alloc::Global;
-use yaml_files::bounds::nodes_are_few;
-use yaml_files::{characters, documents_in, lines_of};
-use yaml_lines::Line;
+use yaml_inline::Line;
 use yaml_tree::Document;
 
 /// The answer to each document with content of a file, in their order. The call itself refuses a file

@@ -1,9 +1,9 @@
 //! `check`: which documents are rules or correlations.
 
 ghost use Rattle.std.specs.Prelude.{◌≡◌, [], ⊤, List};
-ghost use Rattle.answer_parts.specs.Stands.{Writes};
+ghost use Rattle.answer_writer.specs.Stands.{Writes};
 ghost use Rattle.pipeline_model.specs.declared.pipeline.Pipeline.{Pipeline};
-ghost use Rattle.rule_building.specs.Unbuilt.{Unbuilt};
+ghost use Rattle.rule_regex.specs.Unbuilt.{Unbuilt};
 ghost use Rattle.sig_base.specs.declared.limits.Limits.{Limits as LimitsData};
 ghost use Rattle.sigma_serve.specs.Check.{CheckGives};
 ghost use Rattle.sigma_serve.specs.Laws.{EachTree};
@@ -13,9 +13,9 @@ ghost use Rattle.yaml_tree.specs.View.{node_view};
 
 use crate::documents::{TreeCommand, put_refusal};
 use crate::report::ok_text;
-use answer_parts::{Outside, Stop, put_text};
+use answer_writer::{Outside, Stop, put_text};
 use correlation_files::check_document;
-use languages::Builder;
+use query_lang::Builder;
 use sig_base::{Fault, Limits, Text};
 use std::alloc::Global;
 use yaml_tree::Node;

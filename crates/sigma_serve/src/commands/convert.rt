@@ -1,11 +1,11 @@
 //! `convert`: the queries of rules that pipelines make.
 
 ghost use Rattle.std.specs.Prelude.{◌≡◌, false, List, option_map};
-ghost use Rattle.answer_parts.specs.Stands.{Ends, Writes};
+ghost use Rattle.answer_writer.specs.Stands.{Ends, Writes};
 ghost use Rattle.event_schema.specs.Lists.{EachOf};
-ghost use Rattle.pipeline_chain.specs.Kept.{IsWholePipeline};
+ghost use Rattle.pipeline_run.specs.Kept.{IsWholePipeline};
 ghost use Rattle.pipeline_model.specs.declared.pipeline.Pipeline.{Pipeline as PipelineData};
-ghost use Rattle.rule_building.specs.Unbuilt.{Unbuilt};
+ghost use Rattle.rule_regex.specs.Unbuilt.{Unbuilt};
 ghost use Rattle.sig_base.specs.declared.limits.Limits.{Limits as LimitsData};
 ghost use Rattle.sigma_serve.specs.Answers.{names_with};
 ghost use Rattle.sigma_serve.specs.Convert.{ConvertGives};
@@ -20,13 +20,13 @@ use crate::documents::{TreeCommand, put_refusal};
 use crate::files::answer_files;
 use crate::given_pipelines::{PipelineCommand, answer_pipelines};
 use crate::given_schema::{SchemaCommand, answer_schema};
-use crate::law::each_answer;
-use answer_parts::{Outside, Stop, put_line};
+use crate::laws::each_answer;
+use answer_writer::{Outside, Stop, put_line};
 use event_schema::Schema;
-use languages::Builder;
 use pipeline_model::Pipeline;
-use rule_queries::BackendName;
-use rule_queries::named::convert_node;
+use query_lang::Builder;
+use rule_convert::BackendName;
+use rule_convert::named::convert_node;
 use sig_base::{Fault, Limits, Text};
 use std::alloc::Global;
 use yaml_tree::Node;

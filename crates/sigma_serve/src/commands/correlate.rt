@@ -2,11 +2,11 @@
 
 ghost use Rattle.std.specs.Prelude.{◌≡◌, ◌<◌, ◌^◌, ◌∷◌, [], true, List, Some, length};
 ghost use Rattle.std.specs.List.{AllByRecursion};
-ghost use Rattle.answer_parts.specs.FollowedLines.{FollowedLines};
-ghost use Rattle.answer_parts.specs.Stands.{Ends, Writes};
+ghost use Rattle.answer_writer.specs.FollowedLines.{FollowedLines};
+ghost use Rattle.answer_writer.specs.Stands.{Ends, Writes};
 ghost use Rattle.correlation_engine.specs.Limits.{IsWithinLimits};
 ghost use Rattle.correlation_files.specs.Found.{StandsFor, Named};
-ghost use Rattle.correlation_runs.specs.Followed.{Follows};
+ghost use Rattle.correlation_run.specs.Followed.{Follows};
 ghost use Rattle.correlation_windows.specs.History.{Taken};
 ghost use Rattle.rule_model.specs.Plain.{PlainRule};
 ghost use Rattle.sigma_serve.specs.Answers.{names_with};
@@ -18,16 +18,16 @@ ghost use Rattle.sigma_serve.specs.UnderSchema.{UnderBuilder, is_ended};
 use crate::documents::{either, put_refusal};
 use crate::given_pipelines::{PipelineCommand, answer_pipelines};
 use crate::given_schema::{SchemaCommand, answer_under};
-use crate::law::each_answer;
+use crate::laws::each_answer;
 use crate::sources::answer_sources;
-use answer_parts::{Outside, Stop};
+use answer_writer::{Outside, Stop};
 use correlation_engine::Engine;
 use correlation_files::{Bindings, Found, Unbound};
-use correlation_runs::follow_events;
+use correlation_run::follow_events;
 use correlation_windows::Bound;
 use event_schema::Schema;
-use languages::Builder;
 use pipeline_model::Pipeline;
+use query_lang::Builder;
 use sig_base::{Code, Detail, Limits, Place, Refusal, Text};
 use std::alloc::Global;
 
@@ -196,7 +196,7 @@ fn answer_bindings<W: Outside>(
     ensures { (rules : List PlainRule) (correlations : List Named) → StandsFor schema.now rules correlations found.now
         → Ends (record { names = []; events = true }) (CorrelatedBy limits.now schema.now rules correlations) result (W.state outside.old) (W.state outside.new) }
 {
-    correlation_runs::one_follower();
+    correlation_run::one_follower();
     let Bindings {
         bounds,
         names,
@@ -252,7 +252,7 @@ fn follow_bound<W: Outside>(
         (λ world parts. (after : List Taken) × FollowedLines (Follows (record { schema = schema.now; rules = rules; bounds = bounds.items; names = names.now })) limits.now [] world parts after)
         result (W.state outside.old) (W.state outside.new) }
 {
-    correlation_runs::one_follower();
+    correlation_run::one_follower();
     let Ok(mut engine) = Engine::make(alloc, bounds) else {
         return Err(Stop::Memory);
     };

@@ -1,11 +1,11 @@
 //! `generate`: a rule is compared with its queries over events that a number makes.
 
 ghost use Rattle.std.specs.Prelude.{[], false};
-ghost use Rattle.answer_parts.specs.Stands.{Ends};
+ghost use Rattle.answer_writer.specs.Stands.{Ends};
 ghost use Rattle.sigma_serve.specs.Generate.{Generated};
 
-use answer_parts::{Outside, Stop, put_line};
-use generation::{generate, generated_lines};
+use answer_writer::{Outside, Stop, put_line};
+use generate_run::{generate, generated_lines};
 use std::alloc::Global;
 
 /// Writes the line of a number and of so many events; nothing is read for it, and nothing is refused.

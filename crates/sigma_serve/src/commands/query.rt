@@ -1,8 +1,8 @@
 //! `query`: the events that a query selects.
 
 ghost use Rattle.std.specs.Prelude.{◌≡◌, ◌+◌, ◌∷◌, [], true, Some};
-ghost use Rattle.answer_parts.specs.Stands.{Ends};
-ghost use Rattle.query_runs.specs.Asked.{most_bytes};
+ghost use Rattle.answer_writer.specs.Stands.{Ends};
+ghost use Rattle.query_read.specs.Asked.{most_bytes};
 ghost use Rattle.sig_base.specs.Files.{IsFront};
 ghost use Rattle.sigma_serve.specs.Languages as named;
 ghost use Rattle.sigma_serve.specs.Queried.{AskedBy};
@@ -10,16 +10,15 @@ ghost use Rattle.sigma_serve.specs.UnderSchema.{UnderBuilder, is_ended};
 
 use crate::documents::put_refusal;
 use crate::given_schema::{SchemaCommand, answer_under};
-use crate::law::each_answer;
-use answer_parts::{Outside, Stop, read_file};
+use crate::laws::each_answer;
+use answer_writer::{Outside, Stop, read_file, select_lines};
 use event_schema::Schema;
-use languages::{Builder, Language};
-use lucene_language::LuceneReader;
-use query_runs::{asked_once, read_query};
-use rule_queries::BackendName;
-use selected_lines::select_lines;
+use lucene_read::LuceneReader;
+use query_lang::{Builder, Language};
+use query_read::{asked_once, read_query};
+use rule_convert::BackendName;
 use sig_base::{Fault, Limits, Text};
-use sql_language::SqlReader;
+use sql_read::SqlReader;
 use std::alloc::Global;
 
 /// Asks the query of a file, in the language of a backend.

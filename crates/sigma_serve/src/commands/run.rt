@@ -1,16 +1,16 @@
 //! `run`: the events that the rule that pipelines make matches.
 
 ghost use Rattle.std.specs.Prelude.{◌≡◌, ◌+◌, ◌∷◌, [], true, Option, None, Some, List, ℕ, option_map};
-ghost use Rattle.answer_parts.specs.EventLines.{EventLines};
-ghost use Rattle.answer_parts.specs.Stands.{Ends};
+ghost use Rattle.answer_writer.specs.EventLines.{EventLines};
+ghost use Rattle.answer_writer.specs.Stands.{Ends};
 ghost use Rattle.event_schema.specs.Lists.{EachOf};
-ghost use Rattle.pipeline_chain.specs.Kept.{IsWholePipeline};
+ghost use Rattle.pipeline_run.specs.Kept.{IsWholePipeline};
 ghost use Rattle.detection_eval.specs.Ready.{StandsFor, JudgesFor};
 ghost use Rattle.event_schema.specs.declared.schema.Schema.{Schema as SchemaData};
 ghost use Rattle.pipeline_model.specs.declared.pipeline.Pipeline.{Pipeline as PipelineData};
 ghost use Rattle.rule_model.specs.Plain.{rule_view};
-ghost use Rattle.rule_runs.specs.Answers.{ForValues, IsBare};
-ghost use Rattle.rule_runs.specs.Runs.{IsFit};
+ghost use Rattle.rule_run.specs.Answers.{ForValues, IsBare};
+ghost use Rattle.rule_run.specs.Runs.{IsFit};
 ghost use Rattle.rule_schema.specs.Inferred.{schema_for};
 ghost use Rattle.sig_base.specs.Files.{IsFront};
 ghost use Rattle.sigma_serve.specs.Answers.{names_with};
@@ -21,16 +21,17 @@ ghost use Rattle.sigma_serve.specs.UnderSchema.{UnderBuilder, is_ended};
 use crate::documents::put_refusal;
 use crate::given_pipelines::{PipelineCommand, answer_pipelines};
 use crate::given_schema::{SchemaCommand, answer_schema};
-use crate::law::each_answer;
-use answer_parts::{LineCommand, Outside, Stop, answer_lines, read_file, tell_line_refusal};
+use crate::laws::each_answer;
+use answer_writer::{
+    LineCommand, Outside, Stop, answer_lines, put_picked, read_file, tell_line_refusal,
+};
 use detection_eval::{Judge, Ready};
-use event_reading::read_event;
+use event_read::read_event;
 use event_schema::Schema;
-use languages::Builder;
 use pipeline_model::Pipeline;
+use query_lang::Builder;
 use rule_model::Rule;
-use rule_runs::{rule_alone, rule_under};
-use selected_lines::put_picked;
+use rule_run::{rule_alone, rule_under};
 use sig_base::{Bytes, Fault, Limits, Text};
 use std::alloc::Global;
 use yaml_documents::laws::{one_verdict, verdicts};

@@ -1,18 +1,18 @@
 //! Lines of small inputs, answered over a source and sinks in memory.
 
 ghost use Rattle.std.specs.Prelude.{◌≡◌, ◌⊎◌};
-ghost use Rattle.answer_parts.specs.EventLines.{line_refused};
-ghost use Rattle.answer_parts.specs.Lines.{ended};
-ghost use Rattle.answer_parts.specs.Parts.{no_share, text_share};
+ghost use Rattle.answer_writer.specs.EventLines.{line_refused};
+ghost use Rattle.answer_writer.specs.Lines.{ended};
+ghost use Rattle.answer_writer.specs.Parts.{no_share, text_share};
 
 use super::ends::{ending, shown};
 use super::signs::{columns, written};
 use crate::telling::assert_told;
-use answer_parts::{Lent, LineCommand, Outside, Stop, answer_lines, put_line, tell_line_refusal};
-use sig_adapters::{MemoryShelf, MemorySink, MemorySource};
+use answer_writer::{Lent, LineCommand, Outside, Stop, answer_lines, put_line, tell_line_refusal};
 use sig_base::{Bytes, Code, Limits};
 use std::alloc::Global;
 use std::test::Fail;
+use system_io::{MemoryShelf, MemorySink, MemorySource};
 
 /// Selects the lines that begin with this byte, and refuses those that begin with `!`.
 #[derive(Drop)]

@@ -1,6 +1,6 @@
 //! How answering or following lines ended, and what was written meanwhile.
 
-use answer_parts::Stop;
+use answer_writer::Stop;
 use std::alloc::Global;
 use std::test::Fail;
 

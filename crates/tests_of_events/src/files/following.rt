@@ -1,19 +1,19 @@
 //! Lines of small inputs, followed over a source and sinks in memory.
 
 ghost use Rattle.std.specs.Prelude.{◌≡◌, ◌⊎◌, ℕ, Option, slice_get};
-ghost use Rattle.answer_parts.specs.EventLines.{line_refused};
-ghost use Rattle.answer_parts.specs.Lines.{ended};
-ghost use Rattle.answer_parts.specs.Parts.{no_share, text_share};
+ghost use Rattle.answer_writer.specs.EventLines.{line_refused};
+ghost use Rattle.answer_writer.specs.Lines.{ended};
+ghost use Rattle.answer_writer.specs.Parts.{no_share, text_share};
 
 use super::answering::{number, sink_of, small_limits};
 use super::ends::{ending, shown};
 use super::signs::{columns, written};
 use crate::telling::assert_told;
-use answer_parts::{Lent, LineFollower, Outside, Stop, follow_lines, put_line, tell_line_refusal};
-use sig_adapters::{MemoryShelf, MemorySource};
+use answer_writer::{Lent, LineFollower, Outside, Stop, follow_lines, put_line, tell_line_refusal};
 use sig_base::{Bytes, Code, Limits};
 use std::alloc::Global;
 use std::test::Fail;
+use system_io::{MemoryShelf, MemorySource};
 
 /// Selects the lines that begin otherwise than the last one that was selected, and refuses those that begin with `!`.
 #[derive(Drop)]

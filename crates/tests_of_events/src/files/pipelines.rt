@@ -2,9 +2,9 @@
 
 use super::signs::{columns, written};
 use crate::telling::assert_told;
-use languages::CrateBuilder;
 use pipeline_files::{FileFault, read_pipelines};
 use pipeline_model::Pipeline;
+use query_lang::CrateBuilder;
 use sig_base::{Detail, Limits, Refusal};
 use std::alloc::Global;
 use std::test::Fail;

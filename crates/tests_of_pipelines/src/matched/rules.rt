@@ -1,8 +1,8 @@
 //! Rules that are made by hand, and conditions that are written `0`, `!0`, `!!0`, `one-0-2`, `all-0-1`, or `and` or `or` before such
 //! parts with spaces between them.
 
+use rule_detections::{Alternative, Alternatives, Detection, Detections, Fields, Item};
 use rule_head::{Head, LogSource};
-use rule_items::{Alternative, Alternatives, Detection, Detections, Fields, Item};
 use rule_model::Rule;
 use sig_base::{Place, Text, Texts};
 use sig_conditions::{DetectionNumbers, Formula};

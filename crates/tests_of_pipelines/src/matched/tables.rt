@@ -1,6 +1,6 @@
 //! Tables of rows that are told one by one, each row of parts with `;` between them.
 
-use modifier_chains::Joined;
+use modifier_words::Joined;
 use std::alloc::Global;
 use std::test::Fail;
 

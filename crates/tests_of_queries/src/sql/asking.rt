@@ -3,9 +3,9 @@
 use crate::tables::assert_told;
 use crate::trees;
 use sig_base::{Place, Refusal, Text};
+use sql_check::{Columns, is_named, is_too_deep, judge, test_of};
 use sql_parse::{Core, Leaf, Ors, Outcome, read_query};
 use sql_scan::{Token, scan};
-use sql_tests::{Columns, is_named, is_too_deep, judge, test_of};
 use std::alloc::Global;
 use std::collections::VecDeque;
 use std::test::Fail;

@@ -1,7 +1,7 @@
 //! Which texts LIKE and GLOB patterns take, by hand.
 
 use crate::tables::assert_told;
-use sql_patterns::{is_glob, is_like};
+use sql_like::{is_glob, is_like};
 use std::alloc::Global;
 use std::test::Fail;
 

@@ -2,10 +2,10 @@
 
 use crate::tables::{assert_told, with_controls};
 use crate::trees::schema;
-use languages::CrateBuilder;
+use query_lang::CrateBuilder;
 use sig_base::{Fault, Limits};
-use sql_query::{Expr, Select, SqlTest};
-use sql_reader::read_select;
+use sql_lang::{Expr, Select, SqlTest};
+use sql_read::read_select;
 use std::alloc::Global;
 use std::test::Fail;
 

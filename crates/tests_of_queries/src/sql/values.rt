@@ -2,10 +2,10 @@
 
 use crate::tables::assert_told;
 use event_schema::{Event, FieldValues, Value};
-use languages::{CrateBuilder, Search};
+use query_lang::{CrateBuilder, Search};
 use sig_base::Text;
 use sql_eval::{Truth, value_of};
-use sql_query::{Collate, Expr, Operand, Select, Side, SqlOp, SqlTest};
+use sql_lang::{Collate, Expr, Operand, Select, Side, SqlOp, SqlTest};
 use std::alloc::Global;
 use std::test::Fail;
 

@@ -1,9 +1,9 @@
 //! The words of the program.
 
-use program_words::words_of;
 use std::env::FillError;
 use std::rt::Env;
 use std::test::Fail;
+use system_io::words_of;
 
 /// A program's words of which the last one isn't UTF-8.
 #[derive(Drop)]

@@ -1,7 +1,6 @@
 //! What no clause says: that the calls succeed, and that the fakes do what a reader of them expects.
 
 use crate::tables::assert_told;
-use sig_adapters::{MemoryShelf, MemorySink, MemorySource};
 use sig_base::{
     Bytes, Code, Limits, Sequence, Shelf, ShelfFault, Sink, Source, Text, Texts, TryCopy, fold,
     put_all,
@@ -9,6 +8,7 @@ use sig_base::{
 use std::alloc::Global;
 use std::collections::HashSet;
 use std::test::Fail;
+use system_io::{MemoryShelf, MemorySink, MemorySource};
 
 /// A text that was added to.
 fn grown(alloc: Global) -> Result<Text, Fail> {

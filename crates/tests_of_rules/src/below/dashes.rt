@@ -2,7 +2,7 @@
 
 use crate::below::tables::{Asked, answer, wrong_row};
 use crate::tables::assert_told;
-use dash_choices::{choice, dash_count};
+use modifier_windash::{choice, dash_count};
 use sig_base::{Limits, Place};
 use sig_strings::{Part, Pattern, SharedPattern};
 use std::alloc::Global;

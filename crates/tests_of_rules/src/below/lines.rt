@@ -3,10 +3,10 @@
 use crate::below::tables::{Asked, answer, meant, number, wrong_row};
 use crate::tables::assert_told;
 use event_lines::LineReader;
-use sig_adapters::MemorySource;
 use sig_base::{Bytes, Limits, LineFault, LineStep};
 use std::alloc::Global;
 use std::test::Fail;
+use system_io::MemorySource;
 
 /// The standard limits but for these.
 fn within(line_bytes: usize, events_bytes: usize) -> Limits {

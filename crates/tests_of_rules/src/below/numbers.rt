@@ -3,7 +3,7 @@
 use crate::below::tables::{Asked, wrong_row};
 use crate::tables::assert_told;
 use event_schema::{Field, FieldKind, FieldList};
-use field_numbers::FieldNumbers;
+use schema_index::FieldNumbers;
 use sig_base::{Text, Texts};
 use std::alloc::Global;
 use std::test::Fail;

@@ -2,7 +2,7 @@
 
 use crate::below::tables::{Asked, answer, wrong_row};
 use crate::tables::assert_told;
-use command_words::{CommandName, read};
+use command_line::{CommandName, read};
 use std::alloc::Global;
 use std::test::Fail;
 

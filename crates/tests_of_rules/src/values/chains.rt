@@ -2,7 +2,7 @@
 
 use super::tables::{Asked, answer, wrong_row};
 use crate::tables::assert_told;
-use modifier_chains::{Chain, ChainForm, Flags, Joined, Op};
+use modifier_words::{Chain, ChainForm, Flags, Joined, Op};
 use sig_base::{Detail, Fault, Place, Refusal, Text};
 use std::alloc::Global;
 use std::test::Fail;

@@ -3,8 +3,8 @@
 use super::tables::{Asked, answer, wrong_row};
 use crate::tables::assert_told;
 use event_schema::{Event, Field, FieldKind, FieldList, FieldValues, Schema, Value};
-use modifier_chains::Op;
-use rule_items::Test;
+use modifier_words::Op;
+use rule_detections::Test;
 use sig_base::{Limits, Place, Text, Texts};
 use sig_encode::Network;
 use sig_strings::{Pattern, SharedPattern};

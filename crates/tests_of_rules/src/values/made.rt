@@ -2,8 +2,8 @@
 
 use super::tables::{Asked, answer, wrong_row};
 use crate::tables::assert_told;
-use modifier_chains::{Chain, Flags, Op};
-use rule_items::{Test, Tests};
+use modifier_words::{Chain, Flags, Op};
+use rule_detections::{Test, Tests};
 use sig_base::{Fault, Limits, Place, Refusal, Text, TryCopy};
 use sig_strings::{Part, SharedPattern};
 use std::alloc::Global;
@@ -123,7 +123,7 @@ fn resolved(
     chain: &Chain,
     value: &Node,
 ) -> Result<String, Fail> {
-    match rule_items::resolve(alloc, limits, unbuilt, chain, value) {
+    match rule_detections::resolve(alloc, limits, unbuilt, chain, value) {
         Ok(tests) => all_shown(alloc, &tests.try_copy(alloc)?),
         Err(Fault::Refused(refusal)) => refused(alloc, &refusal),
         Err(Fault::Memory) => answer(alloc, "memory"),

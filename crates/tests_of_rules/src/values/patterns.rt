@@ -2,14 +2,14 @@
 
 use super::tables::{Asked, answer, wrong_row};
 use crate::tables::assert_told;
-use modifier_chains::{Chain, Flags};
+use modifier_values::{
+    check_ordered, expression_text, read_expression, read_network, read_patterns, read_reference,
+};
+use modifier_words::{Chain, Flags};
 use sig_base::{Fault, Limits, Place, Refusal, Text};
 use sig_strings::{Part, SharedPattern};
 use std::alloc::Global;
 use std::test::Fail;
-use value_patterns::{
-    check_ordered, expression_text, read_expression, read_network, read_patterns, read_reference,
-};
 
 const KEY: Place = Place { line: 6, column: 5 };
 

@@ -5,7 +5,7 @@ use std::alloc::Global;
 use std::test::Fail;
 use yaml_blocks::content::block_scalar;
 use yaml_blocks::plain::{PlainText, plain_text};
-use yaml_lines::{Halt, Line};
+use yaml_inline::{Halt, Line};
 
 /// The text of a plain scalar, with memory of its own.
 fn owned(alloc: Global, read: Result<PlainText<'_>, Halt>) -> Result<Text, Halt> {

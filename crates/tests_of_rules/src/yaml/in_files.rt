@@ -4,9 +4,9 @@ use sig_base::{Fault, Place};
 use std::alloc::Global;
 use std::fmt::Write;
 use std::test::Fail;
-use yaml_files::codes::stop_code;
-use yaml_files::{characters, documents_in, lines_of};
-use yaml_lines::{Halt, Line, Opening};
+use yaml_documents::codes::stop_code;
+use yaml_documents::{characters, documents_in, lines_of};
+use yaml_inline::{Halt, Line, Opening};
 
 /// The documents of a file, each line behind its number, or why there are none.
 fn shown(alloc: Global, file_bytes: usize, most: usize, bytes: &[u8]) -> Result<String, Fail> {

@@ -2,12 +2,12 @@ use super::tables::with_controls;
 use crate::tables::assert_told;
 use std::alloc::Global;
 use std::test::Fail;
-use yaml_lines::Line;
-use yaml_lines::flow::flow_node;
-use yaml_lines::key::key_at;
-use yaml_lines::plain::plain_parts;
-use yaml_lines::scan::blank_or_end;
-use yaml_lines::word::resolved;
+use yaml_inline::Line;
+use yaml_inline::flow::flow_node;
+use yaml_inline::key::key_at;
+use yaml_inline::plain::plain_parts;
+use yaml_inline::scan::blank_or_end;
+use yaml_inline::word::resolved;
 
 /// What is read of a flow collection or of a scalar in quotes that the text begins with.
 fn shown(alloc: Global, depth: usize, text: &str) -> Result<String, Fail> {

@@ -3,8 +3,8 @@ use crate::tables::assert_told;
 use sig_base::Place;
 use std::alloc::Global;
 use std::test::Fail;
-use yaml_lines::{Halt, Line};
-use yaml_nodes::read_block;
+use yaml_blocks::read_block;
+use yaml_inline::{Halt, Line};
 use yaml_tree::{Kind, Node};
 
 /// Writes a tree with the place of each node and key before it.

@@ -1,5 +1,5 @@
 use Rattle.std.proofs.Common.{map}
-use Rattle.correlation_rules.specs.Binding.{names_of_head}
+use Rattle.correlation_read.specs.Binding.{names_of_head}
 use Rattle.correlation_files.proofs.Binds.{judged_next, judged_end}
 use Rattle.correlation_files.proofs.bindings.bind_each.Goals as goal
 

@@ -1,6 +1,6 @@
 use Rattle.std.proofs.Common.{List, map, take}
 use Rattle.std.specs.List.{AllZip}
-use Rattle.correlation_rules.specs.Binding.{names_of_head}
+use Rattle.correlation_read.specs.Binding.{names_of_head}
 use Rattle.correlation_files.proofs.Binds.{AllJudged}
 use Rattle.correlation_files.specs.Found.{IsKept, Named}
 use Rattle.correlation_files.proofs.bindings.bind_each.Given as goal

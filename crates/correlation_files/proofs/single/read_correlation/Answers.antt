@@ -1,6 +1,6 @@
 use Rattle.rule_head.specs.Heads.{rest_of}
 use Rattle.yaml_tree.specs.View.{node_view}
-use Rattle.correlation_rules.specs.Correlations.{correlation_view, correlation_with}
+use Rattle.correlation_read.specs.Correlations.{correlation_view, correlation_with}
 use Rattle.correlation_files.proofs.single.read_correlation.Goals as goal
 
 pub returns-in-Ok : goal.returns-in-Ok

@@ -1,6 +1,6 @@
 use Rattle.std.proofs.Common.{sym, subst}
 use Rattle.std.specs.Prelude.{Result, Err}
-use Rattle.rule_building.specs.ForUnbuilt.{is_answered}
+use Rattle.rule_regex.specs.ForUnbuilt.{is_answered}
 use Rattle.sig_base.specs.declared.refusal.Fault.{Fault}
 use Rattle.yaml_tree.specs.View.{node_view, document_view}
 use Rattle.yaml_tree.specs.declared.tree.Document.{Document}

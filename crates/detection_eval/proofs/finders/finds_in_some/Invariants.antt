@@ -1,7 +1,7 @@
 use Rattle.std.proofs.Common.{◌≡◌, ◌↔◌, true, drop}
 use Rattle.event_schema.specs.Lists.{SomeOf}
 use Rattle.event_schema.specs.Rows.{value_text}
-use Rattle.languages.specs.Patterns.{finds}
+use Rattle.query_lang.specs.Patterns.{finds}
 use Rattle.detection_eval.proofs.finders.finds_in_some.Given as goal
 
 abbrev pub invariant-loop-value : goal.invariant-loop-value

@@ -1,7 +1,7 @@
 use Rattle.std.proofs.Common.{sym, ◌∙◌, ap, map-id}
 use Rattle.std.proofs.lemmas.Iterator.{YieldsList-from_chars}
 use Rattle.std.proofs.lemmas.Iterator.Consumers.{YieldsList-end}
-use Rattle.text_places.specs.Places.{origin, place_after}
+use Rattle.query_tokens.specs.Places.{origin, place_after}
 use Rattle.lucene_scan.proofs.places.place_behind.Goals as goal
 
 pub returns : goal.returns

@@ -1,5 +1,5 @@
 use Rattle.std.proofs.Common.{◌≡◌}
-use Rattle.text_places.specs.Places.{origin, place_after}
+use Rattle.query_tokens.specs.Places.{origin, place_after}
 use Rattle.lucene_scan.specs.View.{place_view}
 use Rattle.lucene_scan.proofs.places.place_behind.Given as goal
 

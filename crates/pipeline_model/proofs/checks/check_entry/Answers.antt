@@ -1,5 +1,5 @@
 use Rattle.pipeline_model.specs.Checks.{entry_refusal}
-use Rattle.pipeline_model.proofs.Entered.{found_entry}
+use Rattle.pipeline_check.proofs.Entered.{found_entry}
 use Rattle.pipeline_model.proofs.checks.check_entry.Goals as goal
 
 pub returns : goal.returns

@@ -1,5 +1,5 @@
 use Rattle.pipeline_model.specs.Checks.{top_entry}
-use Rattle.pipeline_model.proofs.Entered.{read_entry}
+use Rattle.pipeline_check.proofs.Entered.{read_entry}
 use Rattle.pipeline_model.proofs.checks.check_top_entry.Goals as goal
 
 pub returns-clause-ok : goal.returns-clause-ok

@@ -1,6 +1,6 @@
 use Rattle.std.proofs.Common.{◌≡◌, take, drop}
 use Rattle.yaml_tree.specs.View.{nodes_view}
-use Rattle.pipeline_model.specs.Causes.{sooner_of}
+use Rattle.pipeline_check.specs.Causes.{sooner_of}
 use Rattle.pipeline_model.specs.Checks.{ids_refusal, id_checks}
 use Rattle.pipeline_model.proofs.ids.check_all.Given as goal
 

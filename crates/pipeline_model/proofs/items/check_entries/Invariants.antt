@@ -1,7 +1,7 @@
 use Rattle.std.proofs.Common.{◌≡◌, drop, map}
 use Rattle.yaml_tree.specs.View.{entries_view}
-use Rattle.rule_items.specs.Items.{item_refusal}
-use Rattle.pipeline_model.specs.Causes.{least, sooner_of}
+use Rattle.rule_detections.specs.Items.{item_refusal}
+use Rattle.pipeline_check.specs.Causes.{least, sooner_of}
 use Rattle.pipeline_model.proofs.items.check_entries.Given as goal
 
 abbrev pub invariant-loop-entry : goal.invariant-loop-entry

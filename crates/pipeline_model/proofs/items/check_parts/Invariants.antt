@@ -1,7 +1,7 @@
 use Rattle.std.proofs.Common.{◌≡◌, drop, map}
 use Rattle.yaml_tree.specs.View.{nodes_view}
 use Rattle.pipeline_model.specs.Checks.{items_refusal}
-use Rattle.pipeline_model.specs.Causes.{least, sooner_of}
+use Rattle.pipeline_check.specs.Causes.{least, sooner_of}
 use Rattle.pipeline_model.proofs.items.check_parts.Given as goal
 
 abbrev pub invariant-loop-part : goal.invariant-loop-part

@@ -2,8 +2,8 @@ use Rattle.std.proofs.Common.{◌∙◌, ◌+◌, sym, subst, take}
 use Rattle.std.specs.Prelude.{List}
 use Rattle.std.specs.List.{AllZip}
 use Rattle.yaml_tree.specs.View.{entry_view, entries_view}
-use Rattle.rule_items.specs.Items.{IsItem, item_refusal}
-use Rattle.rule_items.specs.declared.item.Item.{Item}
+use Rattle.rule_detections.specs.Items.{IsItem, item_refusal}
+use Rattle.rule_detections.specs.declared.item.Item.{Item}
 use Rattle.sig_base.proofs.Firsts.{one_more, rest_first}
 use Rattle.pipeline_model.proofs.items.read_items.Goals as goal
 

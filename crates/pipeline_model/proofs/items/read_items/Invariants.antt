@@ -2,7 +2,7 @@ use Rattle.std.proofs.Common.{◌≡◌, drop, map, take}
 use Rattle.std.specs.List.{AllZip}
 use Rattle.sig_base.specs.Judged.{first}
 use Rattle.yaml_tree.specs.View.{entries_view}
-use Rattle.rule_items.specs.Items.{IsItem, item_refusal}
+use Rattle.rule_detections.specs.Items.{IsItem, item_refusal}
 use Rattle.pipeline_model.proofs.items.read_items.Given as goal
 
 abbrev pub invariant-loop-entry : goal.invariant-loop-entry

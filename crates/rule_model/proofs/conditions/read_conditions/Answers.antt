@@ -3,7 +3,7 @@ use Rattle.std.specs.Prelude.{not, filter, codes}
 use Rattle.sig_conditions.specs.Named.{Named}
 use Rattle.yaml_tree.specs.Tree.{Member}
 use Rattle.yaml_tree.specs.View.{node_view}
-use Rattle.rule_items.specs.Detections.{is_key}
+use Rattle.rule_detections.specs.Detections.{is_key}
 use Rattle.rule_model.proofs.ConditionLists.{IsJudged, listed_judged, judged_some, judged_whole}
 use Rattle.rule_model.proofs.conditions.read_conditions.Goals as goal
 

@@ -1,7 +1,7 @@
 use Rattle.std.proofs.Common.{◌≡◌, ◌++◌, drop}
 use Rattle.std.specs.List.{flat_map}
-use Rattle.rule_items.specs.Expressions.{expression_at}
-use Rattle.rule_items.specs.TestExpressions.{expression_of}
+use Rattle.rule_detections.specs.Expressions.{expression_at}
+use Rattle.rule_detections.specs.TestExpressions.{expression_of}
 use Rattle.rule_model.proofs.expressions.add_tests.Given as goal
 
 abbrev pub invariant-loop-test : goal.invariant-loop-test

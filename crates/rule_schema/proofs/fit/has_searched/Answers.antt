@@ -1,5 +1,5 @@
 use Rattle.std.proofs.Common.{◌∙◌, ap, not, nat_eq, length}
-use Rattle.field_numbers.specs.Numbers.{number_of}
+use Rattle.schema_index.specs.Numbers.{number_of}
 use Rattle.rule_schema.proofs.Looking.{some_searched}
 use Rattle.rule_schema.proofs.fit.has_searched.Goals as goal
 

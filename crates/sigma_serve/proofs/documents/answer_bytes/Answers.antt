@@ -1,5 +1,5 @@
 use Rattle.std.proofs.Common.{List, subst}
-use Rattle.answer_parts.specs.Stands.{Writes}
+use Rattle.answer_writer.specs.Stands.{Writes}
 use Rattle.sigma_serve.proofs.Documented.{Documents, file_answered, file_refused, file_memory}
 use Rattle.sigma_serve.specs.UnderSchema.{is_ended}
 use Rattle.yaml_documents.specs.Given.{answers_view}

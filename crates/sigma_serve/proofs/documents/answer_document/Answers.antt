@@ -1,6 +1,6 @@
 use Rattle.std.proofs.Common.{◌≡◌, sym, subst, ◌∷◌, []}
-use Rattle.answer_parts.proofs.Wrote.{writes_as}
-use Rattle.answer_parts.specs.Stands.{Writes}
+use Rattle.answer_writer.proofs.Wrote.{writes_as}
+use Rattle.answer_writer.specs.Stands.{Writes}
 use Rattle.sigma_serve.proofs.Documented.{Documents, document_answered, document_refused}
 use Rattle.sigma_serve.specs.Reports.{refusal_share}
 use Rattle.sigma_serve.specs.RuleFiles.{BySome}

@@ -1,5 +1,5 @@
 use Rattle.std.proofs.Common.{take, Ok, true}
-use Rattle.answer_parts.specs.Stands.{Writes}
+use Rattle.answer_writer.specs.Stands.{Writes}
 use Rattle.sigma_serve.proofs.Documented.{Documents}
 use Rattle.yaml_documents.specs.Given.{answers_view}
 use Rattle.sigma_serve.proofs.documents.answer_documents.Given as goal

@@ -1,5 +1,5 @@
 use Rattle.std.proofs.Common.{◌≡◌, refl}
-use Rattle.answer_parts.proofs.Wrote.{writes_memory}
+use Rattle.answer_writer.proofs.Wrote.{writes_memory}
 use Rattle.sigma_serve.specs.Reports.{refusal_share}
 use Rattle.sigma_serve.proofs.documents.put_refusal.Goals as goal
 

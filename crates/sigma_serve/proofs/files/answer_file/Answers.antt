@@ -1,6 +1,6 @@
 use Rattle.std.proofs.Common.{ℕ, List, false, subst}
-use Rattle.answer_parts.specs.Stands.{Writes}
-use Rattle.answer_parts.specs.State.{State}
+use Rattle.answer_writer.specs.Stands.{Writes}
+use Rattle.answer_writer.specs.State.{State}
 use Rattle.sigma_serve.proofs.Documented.{file_left}
 use Rattle.sigma_serve.proofs.Filed.{file_read, file_unread}
 use Rattle.sigma_serve.specs.RuleFiles.{FileBySome}

@@ -1,5 +1,5 @@
 use Rattle.std.proofs.Common.{false}
-use Rattle.answer_parts.specs.Input.{Needs}
+use Rattle.answer_writer.specs.Input.{Needs}
 use Rattle.sigma_serve.proofs.Filed.{there, files_none, files_next, files_stop}
 use Rattle.sigma_serve.proofs.files.answer_files.Goals as goal
 

@@ -1,5 +1,5 @@
 use Rattle.std.proofs.Common.{take, Ok, true, false}
-use Rattle.answer_parts.specs.Stands.{Ends}
+use Rattle.answer_writer.specs.Stands.{Ends}
 use Rattle.sigma_serve.proofs.Filed.{Files}
 use Rattle.sigma_serve.proofs.files.answer_files.Given as goal
 

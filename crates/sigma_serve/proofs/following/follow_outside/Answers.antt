@@ -1,5 +1,5 @@
 use Rattle.std.proofs.Common.{map, true, false}
-use Rattle.correlation_runs.specs.Followed.{Correlating}
+use Rattle.correlation_run.specs.Followed.{Correlating}
 use Rattle.rule_model.specs.Plain.{rule_view}
 use Rattle.sigma_serve.proofs.FollowServed.{follow_whole, follow_unread, follow_unwritten, follow_memory}
 use Rattle.sigma_serve.proofs.following.follow_outside.Goals as goal

@@ -1,8 +1,8 @@
 use Rattle.std.proofs.Common.{List, true, false, sym, ◌∙◌, subst}
 use Rattle.std.specs.Prelude.{option_map}
-use Rattle.answer_parts.specs.Stands.{Ends, Writes}
+use Rattle.answer_writer.specs.Stands.{Ends, Writes}
 use Rattle.event_schema.specs.Lists.{EachOf}
-use Rattle.pipeline_chain.specs.Kept.{IsWholePipeline}
+use Rattle.pipeline_run.specs.Kept.{IsWholePipeline}
 use Rattle.pipeline_model.specs.declared.pipeline.Pipeline.{Pipeline}
 use Rattle.sig_base.specs.declared.refusal.Refusal.{Refusal}
 use Rattle.sigma_serve.proofs.Piped.{each_ordered, pipelines_given, pipelines_memory, pipelines_refused}

@@ -1,6 +1,6 @@
 use Rattle.std.proofs.Common.{◌≡◌, refl}
-use Rattle.answer_parts.proofs.Rows.{writes_none, writes_next, writes_stops}
-use Rattle.answer_parts.specs.Parts.{Share}
+use Rattle.answer_writer.proofs.Rows.{writes_none, writes_next, writes_stops}
+use Rattle.answer_writer.specs.Parts.{Share}
 use Rattle.sig_base.specs.declared.refusal.Refusal.{Refusal}
 use Rattle.sigma_serve.specs.Reports.{refusal_share}
 use Rattle.sigma_serve.proofs.given_pipelines.put_refusals.Goals as goal

@@ -1,5 +1,5 @@
 use Rattle.std.proofs.Common.{take, Ok}
-use Rattle.answer_parts.specs.Stands.{Writes}
+use Rattle.answer_writer.specs.Stands.{Writes}
 use Rattle.sigma_serve.specs.UnderPipelines.{AreReported}
 use Rattle.sigma_serve.proofs.given_pipelines.put_refusals.Given as goal
 

@@ -1,5 +1,5 @@
 use Rattle.std.proofs.Common.{List, subst}
-use Rattle.answer_parts.specs.Stands.{Writes}
+use Rattle.answer_writer.specs.Stands.{Writes}
 use Rattle.sig_base.specs.declared.refusal.Refusal.{Refusal}
 use Rattle.sigma_serve.proofs.Sourced.{source_told, source_memory}
 use Rattle.sigma_serve.specs.UnderPipelines.{AreReported}

@@ -1,7 +1,7 @@
 use Rattle.std.proofs.Common.{ℕ, List, subst}
 use Rattle.std.specs.Prelude.{OnOk}
-use Rattle.answer_parts.specs.Stands.{Writes}
-use Rattle.answer_parts.specs.State.{State}
+use Rattle.answer_writer.specs.Stands.{Writes}
+use Rattle.answer_writer.specs.State.{State}
 use Rattle.correlation_files.specs.Found.{Grows}
 use Rattle.sigma_serve.proofs.Sourced.{source_read, source_unread, source_kept}
 use Rattle.sigma_serve.specs.Sourced.{SourceShare}

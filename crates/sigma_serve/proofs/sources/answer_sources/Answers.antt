@@ -1,5 +1,5 @@
 use Rattle.std.proofs.Common.{false}
-use Rattle.answer_parts.specs.Input.{Needs}
+use Rattle.answer_writer.specs.Input.{Needs}
 use Rattle.sigma_serve.proofs.Filed.{there}
 use Rattle.sigma_serve.proofs.Sourced.{sources_none, sources_next, sources_stop}
 use Rattle.sigma_serve.proofs.sources.answer_sources.Goals as goal

@@ -1,5 +1,5 @@
 use Rattle.std.proofs.Common.{take, Ok, true, false}
-use Rattle.answer_parts.specs.Stands.{Ends}
+use Rattle.answer_writer.specs.Stands.{Ends}
 use Rattle.sigma_serve.proofs.Sourced.{Sources}
 use Rattle.sigma_serve.specs.Sourced.{GrowsBy, IsFound}
 use Rattle.sigma_serve.proofs.sources.answer_sources.Given as goal

@@ -1,5 +1,5 @@
 use Rattle.std.proofs.Common.{ℕ, ◌≡◌, ◌++◌, List, drop}
-use Rattle.sql_query.specs.View.{exprs_view}
+use Rattle.sql_lang.specs.View.{exprs_view}
 use Rattle.sql_eval.specs.Searches.{left_of, all_patterns}
 use Rattle.sql_eval.proofs.value.+passing.Given as goal
 

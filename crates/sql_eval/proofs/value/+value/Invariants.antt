@@ -1,7 +1,7 @@
 use Rattle.std.proofs.Common.{ℕ, ◌≡◌, ◌++◌, List, drop}
 use Rattle.event_schema.specs.Rows.{first_values}
 use Rattle.sql_lang.specs.Meaning as meaning
-use Rattle.sql_query.specs.View.{exprs_view}
+use Rattle.sql_lang.specs.View.{exprs_view}
 use Rattle.sql_eval.specs.Searches.{left_of, all_patterns}
 use Rattle.sql_eval.specs.View.{truth_view}
 use Rattle.sql_eval.proofs.value.+value.Given as goal

@@ -1,10 +1,10 @@
 use Rattle.std.proofs.Common.{◌≡◌, ◌∙◌}
 use Rattle.backend_core.specs.View.{tree_view}
-use Rattle.generated.specs.Draws.{after_three}
-use Rattle.generated.specs.Events.{events_from}
+use Rattle.generate_run.specs.Draws.{after_three}
+use Rattle.generate_run.specs.Events.{events_from}
 use Rattle.rule_model.specs.Plain.{rule_view}
-use Rattle.generation.proofs.Alike.{subject_at, each_at}
-use Rattle.generation.specs.Subjects.{IsStandard, IsSubject}
+use Rattle.generate_run.proofs.Alike.{subject_at, each_at}
+use Rattle.generate_run.specs.Subjects.{IsStandard, IsSubject}
 use Rattle.tests_of_queries.proofs.comparing.answers_by.Goals as goal
 
 pub compare-requires-clause-named : goal.compare-requires-clause-named

@@ -1,4 +1,4 @@
-use Rattle.yaml_lines.specs.Line.{is_empty_line}
+use Rattle.yaml_inline.specs.Line.{is_empty_line}
 use Rattle.yaml_blocks.proofs.Fronts.{CountsFront}
 use Rattle.yaml_blocks.proofs.content.count_empty.Given as goal
 

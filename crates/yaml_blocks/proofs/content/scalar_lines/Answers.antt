@@ -1,8 +1,8 @@
 use Rattle.std.proofs.Common.{◌≡◌, ◌++◌, true, false, nat_lt, take, sym, ap, ◌∙◌, arith}
 use Rattle.std.proofs.lemmas.Bool.Decides.{nat_tests}
 use Rattle.std.specs.Prelude.{map}
-use Rattle.yaml_lines.specs.Line.{indent}
-use Rattle.yaml_lines.specs.View.{line_view}
+use Rattle.yaml_inline.specs.Line.{indent}
+use Rattle.yaml_inline.specs.View.{line_view}
 use Rattle.yaml_blocks.specs.Blocks.{content}
 use Rattle.yaml_blocks.specs.Contents.{none_of_line}
 use Rattle.yaml_blocks.specs.Chompings.{texts_view}

@@ -1,9 +1,9 @@
 use Rattle.std.proofs.Common.{Ok, sym, ap, ◌∙◌}
-use Rattle.yaml_lines.specs.View.{line_view}
+use Rattle.yaml_inline.specs.View.{line_view}
 use Rattle.yaml_blocks.specs.Blocks.{continuation, more_plain, nothing_in}
 use Rattle.yaml_blocks.specs.Continuations.{continuation_view, text_given, behind_text}
 use Rattle.yaml_blocks.specs.Views.{lines_view}
-use Rattle.yaml_lines.proofs.Failing.{fails_more, gives_err}
+use Rattle.yaml_inline.proofs.Failing.{fails_more, gives_err}
 use Rattle.yaml_blocks.proofs.Turns.{plain_stop, comment_err, last_err}
 use Rattle.yaml_blocks.proofs.plain.more_plain.Goals as goal
 

@@ -1,12 +1,12 @@
 use Rattle.std.proofs.Common.{◌≡◌, List, ℕ, true, false, Ok, sym, ap, ◌∙◌, subst, arith}
 use Rattle.std.proofs.lemmas.Grind.{common_steps}
-use Rattle.yaml_lines.specs.File.{is_empty, ends_line}
-use Rattle.yaml_lines.specs.Line.{plain_rest, syntax}
-use Rattle.yaml_lines.specs.View.{line_view, Fails}
+use Rattle.yaml_inline.specs.File.{is_empty, ends_line}
+use Rattle.yaml_inline.specs.Line.{plain_rest, syntax}
+use Rattle.yaml_inline.specs.View.{line_view, Fails}
 use Rattle.yaml_blocks.specs.Blocks.{plain_text, nothing_in}
 use Rattle.yaml_blocks.specs.Continuations.{plain_view}
 use Rattle.yaml_blocks.specs.Views.{lines_view}
-use Rattle.yaml_lines.proofs.Failing.{fails_as, fails_more, gives_err}
+use Rattle.yaml_inline.proofs.Failing.{fails_as, fails_more, gives_err}
 use Rattle.yaml_blocks.proofs.Turns.{text_goes_on, text_stops, text_unended}
 use Rattle.yaml_blocks.proofs.Whole.{whole_text}
 use Rattle.yaml_blocks.proofs.plain.plain_text.Goals as goal

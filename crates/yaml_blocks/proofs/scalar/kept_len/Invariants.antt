@@ -1,5 +1,5 @@
 use Rattle.std.proofs.Common.{◌≡◌, ◌≤◌, length, take}
-use Rattle.yaml_lines.specs.Scalar.{drop_empty}
+use Rattle.yaml_inline.specs.Scalar.{drop_empty}
 use Rattle.yaml_blocks.specs.Chompings.{texts_view}
 use Rattle.yaml_blocks.proofs.scalar.kept_len.Given as goal
 

@@ -1,5 +1,5 @@
 use Rattle.std.proofs.Common.{◌≡◌, ◌++◌, ◌-◌, ◌≤◌, length, drop}
-use Rattle.yaml_lines.specs.Scalar.{folded}
+use Rattle.yaml_inline.specs.Scalar.{folded}
 use Rattle.yaml_blocks.specs.Chompings.{texts_view}
 use Rattle.yaml_blocks.proofs.scalar.push_folded.Given as goal
 

@@ -1,5 +1,5 @@
 use Rattle.std.proofs.Common.{◌≡◌, ◌++◌, ◌≤◌, drop}
-use Rattle.yaml_lines.specs.Scalar.{fold_from}
+use Rattle.yaml_inline.specs.Scalar.{fold_from}
 use Rattle.yaml_blocks.specs.Chompings.{texts_view}
 use Rattle.yaml_blocks.proofs.scalar.push_folded_from.Given as goal
 

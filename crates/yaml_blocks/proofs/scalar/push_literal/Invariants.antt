@@ -1,5 +1,5 @@
 use Rattle.std.proofs.Common.{◌≡◌, take}
-use Rattle.yaml_lines.specs.Scalar.{literal}
+use Rattle.yaml_inline.specs.Scalar.{literal}
 use Rattle.yaml_blocks.specs.Chompings.{texts_view}
 use Rattle.yaml_blocks.proofs.scalar.push_literal.Given as goal
 

@@ -1,7 +1,7 @@
-use Rattle.yaml_lines.specs.View.{line_view, halt_view}
+use Rattle.yaml_inline.specs.View.{line_view, halt_view}
 use Rattle.yaml_blocks.specs.Documents.{stop_code}
 use Rattle.yaml_blocks.specs.Views.{lines_view}
-use Rattle.yaml_files.specs.Views.{code_view}
+use Rattle.yaml_documents.specs.Views.{code_view}
 use Rattle.yaml_documents.proofs.Giving.{so_refused}
 use Rattle.yaml_documents.proofs.document.refused_so.Goals as goal
 

@@ -1,6 +1,6 @@
 use Rattle.std.proofs.Common.{◌<◌, ◌-◌, length, get_or, arith}
 use Rattle.std.proofs.lemmas.Result.{IfOk-weaker}
-use Rattle.yaml_lines.specs.View.{halt_view}
+use Rattle.yaml_inline.specs.View.{halt_view}
 use Rattle.yaml_blocks.specs.Views.{lines_view}
 use Rattle.yaml_documents.specs.Given.{HasNumber}
 use Rattle.yaml_documents.proofs.Splits.{is_at, there_is}

@@ -1,7 +1,7 @@
 use Rattle.std.proofs.Common.{take}
 use Rattle.std.specs.List.{All}
 use Rattle.yaml_blocks.specs.Documents.{AreAnswers}
-use Rattle.yaml_files.specs.Views.{documents_view}
+use Rattle.yaml_documents.specs.Views.{documents_view}
 use Rattle.yaml_documents.specs.Given.{answers_view, IsPlain}
 use Rattle.yaml_documents.proofs.file.read_each.Given as goal
 

@@ -1,10 +1,10 @@
 use Rattle.std.proofs.Common.{◌≡◌, ◌≤◌, ◌∙◌, sym, ap, subst, length, arith}
 use Rattle.std.proofs.lemmas.Result.{IfOk-weaker}
-use Rattle.yaml_lines.specs.File.{parted, with_content, lines_of}
+use Rattle.yaml_inline.specs.File.{parted, with_content, lines_of}
 use Rattle.yaml_blocks.specs.Views.{lines_view}
-use Rattle.yaml_files.specs.Call.{IsText, IsCallRefusal}
-use Rattle.yaml_files.specs.Views.{documents_view}
-use Rattle.yaml_files.proofs.Refusals.{refused_as, handed_on}
+use Rattle.yaml_documents.specs.Call.{IsText, IsCallRefusal}
+use Rattle.yaml_documents.specs.Views.{documents_view}
+use Rattle.yaml_documents.proofs.Refusals.{refused_as, handed_on}
 use Rattle.yaml_documents.proofs.Taking.{ready, taken, too_many}
 use Rattle.yaml_documents.proofs.file.read_file.Goals as goal
 

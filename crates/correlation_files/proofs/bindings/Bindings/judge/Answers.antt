@@ -1,5 +1,5 @@
 use Rattle.std.proofs.Common.{map}
-use Rattle.correlation_rules.specs.Binding.{names_of_head}
+use Rattle.correlation_read.specs.Binding.{names_of_head}
 use Rattle.correlation_files.proofs.Binds.{bound_added, unbound_added}
 use Rattle.correlation_files.proofs.bindings.Bindings.judge.Goals as goal
 

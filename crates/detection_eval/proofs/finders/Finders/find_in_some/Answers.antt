@@ -1,7 +1,7 @@
 use Rattle.std.proofs.Common.{◌≡◌, ◌∙◌, ℕ, List, length, map, ap, sym, arith}
 use Rattle.std.proofs.Math.Seq.{map-set_same}
 use Rattle.std.proofs.lemmas.List.{length-map}
-use Rattle.languages.specs.declared.search.Finder.{Finder}
+use Rattle.query_lang.specs.declared.search.Finder.{Finder}
 use Rattle.detection_eval.proofs.Founds.{none_found, one_found}
 use Rattle.detection_eval.proofs.finders.Finders.find_in_some.Goals as goal
 

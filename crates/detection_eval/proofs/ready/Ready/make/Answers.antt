@@ -1,9 +1,9 @@
 use Rattle.std.proofs.Common.{◌≡◌, ◌∙◌, ℕ, List, Err, Ok, Vec, Global, ap, refl, subst}
 use Rattle.std.proofs.lemmas.Result.{IfOk-weaker}
-use Rattle.languages.specs.declared.search.Search.{Search}
-use Rattle.rule_building.proofs.BuiltRows.{fault_so, no_memory}
-use Rattle.rule_building.specs.Building.{Builds}
-use Rattle.rule_items.specs.declared.expression.Expression.{Expression}
+use Rattle.query_lang.specs.declared.search.Search.{Search}
+use Rattle.rule_regex.proofs.BuiltRows.{fault_so, no_memory}
+use Rattle.rule_regex.specs.Building.{Builds}
+use Rattle.rule_detections.specs.declared.expression.Expression.{Expression}
 use Rattle.rule_model.specs.Expressions.{rule_expressions}
 use Rattle.rule_model.specs.Plain.{rule_view}
 use Rattle.sig_base.proofs.Firsts.{from_error}

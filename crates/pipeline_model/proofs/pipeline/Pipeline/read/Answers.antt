@@ -1,7 +1,7 @@
 use Rattle.std.proofs.Common.{rules, ◌≡◌}
 use Rattle.std.specs.Prelude.{None}
 use Rattle.yaml_tree.specs.View.{node_view}
-use Rattle.pipeline_model.specs.Causes.{sooner}
+use Rattle.pipeline_check.specs.Causes.{sooner}
 use Rattle.pipeline_model.proofs.Unrefused.{read_whole}
 use Rattle.pipeline_model.proofs.pipeline.Pipeline.read.Goals as goal
 

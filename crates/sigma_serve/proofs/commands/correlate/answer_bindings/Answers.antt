@@ -1,5 +1,5 @@
 use Rattle.std.proofs.Common.{List, ◌∙◌, subst, Ok, Err}
-use Rattle.answer_parts.specs.Stands.{Writes}
+use Rattle.answer_writer.specs.Stands.{Writes}
 use Rattle.correlation_files.specs.declared.bindings.Unbound.{Unbound}
 use Rattle.sigma_serve.proofs.Correlating.{told_stop, followed_stop, followed_whole, lines_judged}
 use Rattle.sigma_serve.specs.Sourced.{AreTold}

@@ -1,6 +1,6 @@
 use Rattle.std.proofs.Common.{◌≡◌, refl}
-use Rattle.answer_parts.proofs.Rows.{writes_none, writes_next, writes_stops}
-use Rattle.answer_parts.specs.Parts.{Share}
+use Rattle.answer_writer.proofs.Rows.{writes_none, writes_next, writes_stops}
+use Rattle.answer_writer.specs.Parts.{Share}
 use Rattle.correlation_files.specs.declared.bindings.Unbound.{Unbound}
 use Rattle.sigma_serve.specs.Reports.{refusal_share}
 use Rattle.sigma_serve.proofs.commands.correlate.put_unbound.Goals as goal

@@ -1,5 +1,5 @@
 use Rattle.std.proofs.Common.{take, Ok}
-use Rattle.answer_parts.specs.Stands.{Writes}
+use Rattle.answer_writer.specs.Stands.{Writes}
 use Rattle.sigma_serve.specs.Sourced.{AreTold}
 use Rattle.sigma_serve.proofs.commands.correlate.put_unbound.Given as goal
 

@@ -1,5 +1,5 @@
 use Rattle.std.proofs.Common.{ℕ, List, subst, sym}
-use Rattle.generation.specs.Lines.{IsGenerated}
+use Rattle.generate_run.specs.Lines.{IsGenerated}
 use Rattle.sigma_serve.proofs.Made.{made_put, made_nothing}
 use Rattle.sigma_serve.proofs.commands.generate.answer_generate.Goals as goal
 

@@ -1,7 +1,7 @@
 use Rattle.std.proofs.Common.{◌+◌, [], ◌∷◌, true, Some, sym, subst}
-use Rattle.answer_parts.specs.Stands.{Ends}
-use Rattle.query_runs.specs.Asked.{most_bytes}
-use Rattle.rule_queries.specs.declared.backend_name.BackendName.{BackendName}
+use Rattle.answer_writer.specs.Stands.{Ends}
+use Rattle.query_read.specs.Asked.{most_bytes}
+use Rattle.rule_convert.specs.declared.backend_name.BackendName.{BackendName}
 use Rattle.sig_base.specs.Files.{IsFront}
 use Rattle.sigma_serve.specs.Languages.{AskedBy}
 use Rattle.sigma_serve.specs.UnderSchema.{is_ended}

@@ -1,7 +1,7 @@
 use Rattle.std.specs.Prelude.{[], true}
-use Rattle.answer_parts.proofs.Ending.{ends_memory}
-use Rattle.answer_parts.proofs.Lined.{each_answer}
-use Rattle.answer_parts.specs.EventLines.{EventLines}
+use Rattle.answer_writer.proofs.Ending.{ends_memory}
+use Rattle.answer_writer.proofs.Lined.{each_answer}
+use Rattle.answer_writer.specs.EventLines.{EventLines}
 use Rattle.rule_model.specs.Plain.{rule_view}
 use Rattle.sigma_serve.specs.Ran.{RunGives}
 use Rattle.sigma_serve.proofs.commands.run.answer_events.Goals as goal

@@ -1,7 +1,7 @@
 use Rattle.std.specs.Prelude.{None, true, false}
-use Rattle.rule_building.specs.Unbuilt.{of_values}
-use Rattle.rule_runs.specs.Answers.{ForValues, IsBare}
-use Rattle.rule_runs.specs.Runs.{IsFit}
+use Rattle.rule_regex.specs.Unbuilt.{of_values}
+use Rattle.rule_run.specs.Answers.{ForValues, IsBare}
+use Rattle.rule_run.specs.Runs.{IsFit}
 use Rattle.sigma_serve.proofs.Ran.{run_unfit, run_memory, values_alone, values_follow}
 use Rattle.sigma_serve.proofs.commands.run.run_alone.Goals as goal
 

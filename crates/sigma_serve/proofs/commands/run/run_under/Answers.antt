@@ -1,6 +1,6 @@
 use Rattle.std.specs.Prelude.{Some}
 use Rattle.std.proofs.Common.{refl, false}
-use Rattle.rule_building.specs.Unbuilt.{of_values}
+use Rattle.rule_regex.specs.Unbuilt.{of_values}
 use Rattle.sigma_serve.proofs.Ran.{run_unfit, run_memory, values_alone, values_follow}
 use Rattle.sigma_serve.proofs.commands.run.run_under.Goals as goal
 

@@ -1,8 +1,8 @@
 use Rattle.std.proofs.Common.{ℕ, ◌≡◌, ◌+◌, ◌∷◌, ◌∙◌, List, ap, map, drop}
 use Rattle.std.specs.Str.{chars}
 use Rattle.std.proofs.Math.Seq.{map-set_same}
-use Rattle.languages.specs.declared.search.Finder.{Finder}
-use Rattle.languages.specs.Patterns.{finds}
+use Rattle.query_lang.specs.declared.search.Finder.{Finder}
+use Rattle.query_lang.specs.Patterns.{finds}
 use Rattle.sql_eval.specs.Searches.{Passing, left_of}
 use Rattle.sql_eval.proofs.Passed.{next_is, rest_is}
 use Rattle.sql_eval.proofs.finders.Finders.finds.Goals as goal

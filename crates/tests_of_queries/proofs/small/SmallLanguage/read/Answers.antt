@@ -1,7 +1,7 @@
 use Rattle.std.proofs.Common.{◌≡◌, refl, ap, ◌∙◌, subst, chars, IfOk}
 use Rattle.std.proofs.lemmas.Str.{is_utf8-from_IsUtf8}
 use Rattle.std.specs.Str.{is_utf8}
-use Rattle.languages.specs.Built.{SearchAnswers}
+use Rattle.query_lang.specs.Built.{SearchAnswers}
 use Rattle.tests_of_queries.proofs.OnePattern.{start, read_text, read_nothing, not_utf8}
 use Rattle.tests_of_queries.proofs.small.SmallLanguage.read.Goals as goal
 

@@ -1,6 +1,6 @@
 use Rattle.std.proofs.Common.{◌≡◌, ◌∙◌, ap, true, false, [], Ok, Err}
-use Rattle.answer_parts.specs.Lines.{ended}
-use Rattle.answer_parts.specs.Parts.{text_share}
+use Rattle.answer_writer.specs.Lines.{ended}
+use Rattle.answer_writer.specs.Parts.{text_share}
 use Rattle.sig_base.specs.declared.refusal.Fault.TheVariants.{Memory, Refused}
 use Rattle.sig_base.specs.declared.refusal.Place.{Place}
 use Rattle.sigma_serve.proofs.Judged.{Checked}

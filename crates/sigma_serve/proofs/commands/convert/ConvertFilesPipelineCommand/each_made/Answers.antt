@@ -1,4 +1,4 @@
-use Rattle.sigma_serve.proofs.Laws.{each_converted_cut}
+use Rattle.sigma_serve.proofs.RequestLaws.{each_converted_cut}
 use Rattle.sigma_serve.proofs.commands.convert.ConvertFilesPipelineCommand.each_made.Goals as goal
 
 pub returns : goal.returns

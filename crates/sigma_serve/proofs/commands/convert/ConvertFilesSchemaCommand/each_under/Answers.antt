@@ -1,4 +1,4 @@
-use Rattle.sigma_serve.proofs.Laws.{each_converted_cut}
+use Rattle.sigma_serve.proofs.RequestLaws.{each_converted_cut}
 use Rattle.sigma_serve.proofs.Piped.{each_piped}
 use Rattle.sigma_serve.specs.Convert.{ConvertGives}
 use Rattle.sigma_serve.specs.Converted.{RulesBySome}

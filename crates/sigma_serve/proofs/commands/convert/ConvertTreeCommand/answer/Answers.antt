@@ -1,6 +1,6 @@
 use Rattle.std.proofs.Common.{◌≡◌, ◌∙◌, ap, false, Err}
 use Rattle.std.specs.Prelude.{option_map}
-use Rattle.rule_queries.specs.NamedQueries.{query_of, ConvertAnswers, IsConverted, IsRefused}
+use Rattle.rule_convert.specs.NamedQueries.{query_of, ConvertAnswers, IsConverted, IsRefused}
 use Rattle.rule_model.specs.Plain.{PlainRule}
 use Rattle.sigma_serve.proofs.Trees.{tree_wrote, tree_memory}
 use Rattle.sig_base.specs.declared.refusal.Fault.TheVariants.{Memory}

@@ -1,5 +1,5 @@
 use Rattle.std.proofs.Common.{true}
-use Rattle.answer_parts.specs.Input.{Needs}
+use Rattle.answer_writer.specs.Input.{Needs}
 use Rattle.sigma_serve.proofs.Correlated.{nothing_correlated}
 use Rattle.sigma_serve.proofs.commands.correlate.CorrelateFilesPipelineCommand.answer_made.Goals as goal
 

@@ -1,5 +1,5 @@
 use Rattle.std.proofs.Common.{true}
-use Rattle.answer_parts.specs.Input.{Needs}
+use Rattle.answer_writer.specs.Input.{Needs}
 use Rattle.sigma_serve.proofs.Correlated.{nothing_timed}
 use Rattle.sigma_serve.specs.Answers.{names_with}
 use Rattle.sigma_serve.specs.Correlated.{FilesCorrelated}

@@ -1,8 +1,8 @@
 use Rattle.std.proofs.Common.{List, ℕ, ◌+◌, [], ◌∷◌, true, Some, sym, subst}
-use Rattle.answer_parts.specs.Stands.{Ends}
-use Rattle.answer_parts.specs.State.{State}
-use Rattle.query_runs.specs.Asked.{most_bytes}
-use Rattle.rule_queries.specs.NamedQueries.{is_query, is_within, picks}
+use Rattle.answer_writer.specs.Stands.{Ends}
+use Rattle.answer_writer.specs.State.{State}
+use Rattle.query_read.specs.Asked.{most_bytes}
+use Rattle.rule_convert.specs.NamedQueries.{is_query, is_within, picks}
 use Rattle.sig_base.specs.Files.{IsFront}
 use Rattle.sigma_serve.proofs.Queried.{nothing_asked, query_unread}
 use Rattle.sigma_serve.specs.Languages.{patterns, refuses, AskedBy}

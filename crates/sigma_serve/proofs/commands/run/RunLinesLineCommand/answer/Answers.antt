@@ -1,13 +1,13 @@
 use Rattle.std.proofs.Common.{List, ℕ, subst, Ok, Err}
-use Rattle.answer_parts.proofs.Wrote.{writes_memory}
-use Rattle.event_reading.specs.Answers.{Answers}
-use Rattle.event_reading.specs.EventOf.{event_of}
+use Rattle.answer_writer.proofs.Wrote.{writes_memory}
+use Rattle.event_read.specs.Answers.{Answers}
+use Rattle.event_read.specs.EventOf.{event_of}
 use Rattle.event_schema.specs.Occurrence.{Occurrence}
 use Rattle.rule_model.specs.Matching.{Matches}
 use Rattle.rule_model.specs.Plain.{rule_view}
 use Rattle.sig_base.specs.declared.refusal.Fault.TheVariants.{Refused}
 use Rattle.sig_base.specs.declared.refusal.Place.{Place}
-use Rattle.selected_lines.proofs.Selected.{event_gives, refused_gives}
+use Rattle.answer_writer.proofs.Selected.{event_gives, refused_gives}
 use Rattle.sigma_serve.specs.Ran.{RunGives}
 use Rattle.sigma_serve.proofs.commands.run.RunLinesLineCommand.answer.Goals as goal
 

@@ -1,9 +1,9 @@
 use Rattle.std.proofs.Common.{◌≡◌, false, Ok, inr}
 use Rattle.std.specs.Prelude.{◌⊎◌}
-use Rattle.answer_parts.proofs.Wrote.{writes_as, writes_nothing}
-use Rattle.answer_parts.specs.EventLines.{line_refused}
-use Rattle.answer_parts.specs.Lines.{ended}
-use Rattle.answer_parts.specs.Parts.{no_share, text_share}
+use Rattle.answer_writer.proofs.Wrote.{writes_as, writes_nothing}
+use Rattle.answer_writer.specs.EventLines.{line_refused}
+use Rattle.answer_writer.specs.Lines.{ended}
+use Rattle.answer_writer.specs.Parts.{no_share, text_share}
 use Rattle.tests_of_events.proofs.files.answering.PickLineCommand.answer.Goals as goal
 
 pub returns-clause-writes : goal.returns-clause-writes

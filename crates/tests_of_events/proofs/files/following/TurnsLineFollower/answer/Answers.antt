@@ -1,8 +1,8 @@
 use Rattle.std.proofs.Common.{◌≡◌, refl, false, Ok, inl, inr}
-use Rattle.answer_parts.proofs.Followed.{on_ok}
-use Rattle.answer_parts.proofs.Wrote.{writes_as, writes_nothing}
-use Rattle.answer_parts.specs.EventLines.{line_refused}
-use Rattle.answer_parts.specs.Parts.{no_share}
+use Rattle.answer_writer.proofs.Followed.{on_ok}
+use Rattle.answer_writer.proofs.Wrote.{writes_as, writes_nothing}
+use Rattle.answer_writer.specs.EventLines.{line_refused}
+use Rattle.answer_writer.specs.Parts.{no_share}
 use Rattle.tests_of_events.proofs.files.following.TurnsLineFollower.answer.Goals as goal
 
 pub returns-then-eq-clause-writes : goal.returns-then-eq-clause-writes

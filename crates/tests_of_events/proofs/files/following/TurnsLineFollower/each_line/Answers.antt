@@ -1,5 +1,5 @@
 use Rattle.std.proofs.Common.{refl, inr}
-use Rattle.answer_parts.specs.Parts.{no_share}
+use Rattle.answer_writer.specs.Parts.{no_share}
 use Rattle.tests_of_events.proofs.files.following.TurnsLineFollower.each_line.Goals as goal
 
 pub returns : goal.returns

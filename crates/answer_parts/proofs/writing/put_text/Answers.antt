@@ -1,7 +1,0 @@
-use Rattle.answer_parts.proofs.Wrote.{put_cut}
-use Rattle.answer_parts.proofs.writing.put_text.Goals as goal
-
-pub returns-in-Err : goal.returns-in-Err
-returns-in-Err g c =
-    let e = c.in-Err.ensures in
-    put_cut c.args.text.now (g.W.Outside.state c.args.outside.now) (g.W.Outside.state c.put.new.self) e.failed e.err e.cause.failed e.inputs e.kept

@@ -1,0 +1,11 @@
+pub mod Cut
+pub mod Each
+pub mod EventLines
+pub mod FollowedLines
+pub mod Input
+pub mod Lines
+pub mod Parts
+pub mod Stands
+pub mod State
+pub mod Answered
+pub mod Selected

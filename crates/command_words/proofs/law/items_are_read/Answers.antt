@@ -1,6 +1,0 @@
-use Rattle.command_words.specs.Table.{row_of}
-use Rattle.command_words.proofs.Computing.{computed, plain_names}
-use Rattle.command_words.proofs.law.items_are_read.Goals as goal
-
-pub returns : goal.returns
-returns c = λ command words items. computed (row_of command) words items (plain_names command)

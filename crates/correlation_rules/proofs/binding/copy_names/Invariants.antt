@@ -1,6 +1,0 @@
-use Rattle.std.proofs.Common.{◌≡◌, take}
-use Rattle.correlation_rules.specs.Binding as spec
-use Rattle.correlation_rules.proofs.binding.copy_names.Given as goal
-
-abbrev pub invariant-loop-alias : goal.invariant-loop-alias
-invariant-loop-alias l = l.names ≡ spec.names_of (take l.alias-index l.aliases)

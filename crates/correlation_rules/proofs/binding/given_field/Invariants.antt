@@ -1,7 +1,0 @@
-use Rattle.std.proofs.Common.{◌≡◌, drop}
-use Rattle.std.specs.Prelude.{find}
-use Rattle.correlation_rules.specs.Binding.{is_rule}
-use Rattle.correlation_rules.proofs.binding.given_field.Given as goal
-
-abbrev pub invariant-loop-entry : goal.invariant-loop-entry
-invariant-loop-entry l = find (is_rule l.rule) l.entries ≡ find (is_rule l.rule) (drop l.entry-index l.entries)

@@ -1,8 +1,0 @@
-use Rattle.std.proofs.Common.{◌≡◌, drop, map}
-use Rattle.sig_base.specs.Judged.{first}
-use Rattle.yaml_tree.specs.View.{entries_view}
-use Rattle.correlation_rules.specs.Checks.{field_refusal}
-use Rattle.correlation_rules.proofs.checks.check_all_fields.Given as goal
-
-abbrev pub invariant-loop-entry : goal.invariant-loop-entry
-invariant-loop-entry l = first (map field_refusal (entries_view l.entries)) ≡ first (map field_refusal (entries_view (drop l.entry-index l.entries)))

@@ -1,9 +1,0 @@
-use Rattle.correlation_rules.proofs.Bounds.{few}
-use Rattle.correlation_rules.proofs.Documents.{read_within}
-use Rattle.correlation_rules.proofs.law.bounds_are_within.Goals as goal
-
-pub returns-clause-read : goal.returns-clause-read
-returns-clause-read c = read_within
-
-pub returns-clause-bound : goal.returns-clause-bound
-returns-clause-bound c = few

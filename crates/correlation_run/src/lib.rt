@@ -1,0 +1,17 @@
+//! The events that rules are correlated over: each line's reports.
+//!
+//! Reports of correlations as lines of JSON.
+#![tactic(auto)]
+
+mod brought_events;
+mod following;
+mod judges;
+mod laws;
+mod line;
+mod report_laws;
+mod report_lines;
+
+pub use following::follow_events;
+pub use laws::one_follower;
+pub use line::write_report;
+pub use report_laws::line_reads_back;

@@ -1,4 +1,0 @@
-pub mod Brought
-pub mod Followed
-pub mod Judged
-pub mod Lined

@@ -1,4 +1,0 @@
-pub mod Followed
-pub mod Judges
-pub mod Laws
-pub mod References

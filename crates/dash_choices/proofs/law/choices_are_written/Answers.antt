@@ -1,8 +1,0 @@
-use Rattle.dash_choices.proofs.Writing.{none_left, written}
-use Rattle.dash_choices.proofs.law.choices_are_written.Goals as goal
-
-pub returns-clause-no_dash : goal.returns-clause-no_dash
-returns-clause-no_dash c = λ parts. none_left parts
-
-pub returns-clause-written : goal.returns-clause-written
-returns-clause-written c = λ parts all. written parts all

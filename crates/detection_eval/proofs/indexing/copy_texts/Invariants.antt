@@ -1,6 +1,0 @@
-use Rattle.std.proofs.Common.{◌≡◌, ◌++◌, drop}
-use Rattle.detection_eval.specs.Ready.{searches_view}
-use Rattle.detection_eval.proofs.indexing.copy_texts.Given as goal
-
-abbrev pub invariant-loop-search : goal.invariant-loop-search
-invariant-loop-search l = l.texts ++ searches_view (drop l.search-index l.searches) ≡ searches_view l.searches

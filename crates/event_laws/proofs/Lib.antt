@@ -1,3 +1,0 @@
-mod Lexed
-mod Quoted
-mod Taken

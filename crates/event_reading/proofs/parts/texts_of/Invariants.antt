@@ -1,7 +1,0 @@
-use Rattle.std.proofs.Common.{◌≡◌, ◌++◌, drop}
-use Rattle.event_reading.specs.SchemaOf.{texts_of}
-use Rattle.serde_json.specs.View.{items_view}
-use Rattle.event_reading.proofs.parts.texts_of.Given as goal
-
-abbrev pub invariant-loop-item : goal.invariant-loop-item
-invariant-loop-item l = l.texts ++ texts_of (items_view (drop l.item-index l.items)) ≡ texts_of (items_view l.items)

@@ -1,8 +1,0 @@
-use Rattle.std.proofs.Common.{sym, ◌∙◌, subst}
-use Rattle.event_reading.proofs.PlainTexts.{decimal_plain}
-use Rattle.event_schema.specs.Events.{IsPlainText}
-use Rattle.event_reading.proofs.taking.as_digits.Goals as goal
-
-pub returns-clause-kind : goal.returns-clause-kind
-returns-clause-kind c =
-    subst IsPlainText (sym c.in_ok-decimal.ensures.ok) (decimal_plain _ (sym c.is_whole.ensures ∙ c.if-not-is_whole.false))

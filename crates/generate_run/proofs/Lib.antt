@@ -1,0 +1,12 @@
+pub mod Alike
+pub mod Deciding
+pub mod Lengths
+pub mod LuceneWritten
+pub mod Shapes
+pub mod SqlWritten
+pub mod Unrefused
+pub mod Reading
+pub mod Turns
+pub mod Drawn
+pub mod Fitting
+pub mod Wholeness

@@ -1,0 +1,35 @@
+//! The generator: a seed's rule, its queries in SQL and in Lucene, and how many of the seed's events each of the three selects.
+//!
+//! A tree compared with its query: written by a backend, read back and asked of events.
+//!
+//! A rule and events that a seed makes, for comparing the rule with its queries.
+#![tactic(auto)]
+
+mod backends;
+mod builder;
+mod comparisons;
+mod counting;
+mod counts;
+mod drawn_laws;
+mod draws;
+mod events;
+mod generating;
+mod laws;
+mod line;
+mod making;
+mod matches;
+mod readable;
+mod rule;
+mod selection;
+mod subject;
+mod words;
+
+pub use comparisons::compare;
+pub use drawn_laws::{events_go_on, generated_events, generated_rule};
+pub use draws::{after_events, after_three};
+pub use events::{make_events, make_schema};
+pub use generating::generate;
+pub use laws::{generated_lines, seeds_are_subjects};
+pub use making::tree_for;
+pub use readable::Readable;
+pub use rule::make_rule;

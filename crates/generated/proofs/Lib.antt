@@ -1,3 +1,0 @@
-pub mod Drawn
-pub mod Fitting
-pub mod Wholeness

@@ -1,8 +1,0 @@
-use Rattle.generated.proofs.Drawn.{events_on, state_on}
-use Rattle.generated.proofs.laws.events_go_on.Goals as goal
-
-pub returns-clause-events : goal.returns-clause-events
-returns-clause-events c = events_on
-
-pub returns-clause-state : goal.returns-clause-state
-returns-clause-state c = state_on

@@ -1,4 +1,0 @@
-pub mod Draws
-pub mod Events
-pub mod Rules
-pub mod Words

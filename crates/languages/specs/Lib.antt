@@ -1,4 +1,0 @@
-pub mod Answers
-pub mod Built
-pub mod Patterns
-pub mod RefusedPlaces

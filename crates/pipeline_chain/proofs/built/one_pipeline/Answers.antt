@@ -1,5 +1,0 @@
-use Rattle.pipeline_chain.proofs.OneStep.{pipeline_one}
-use Rattle.pipeline_chain.proofs.built.one_pipeline.Goals as goal
-
-pub returns : goal.returns
-returns c = pipeline_one c.one_tests.ensures

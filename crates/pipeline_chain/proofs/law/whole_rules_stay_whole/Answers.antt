@@ -1,5 +1,0 @@
-use Rattle.pipeline_chain.proofs.WholeChain.{stays_whole}
-use Rattle.pipeline_chain.proofs.law.whole_rules_stay_whole.Goals as goal
-
-pub returns : goal.returns
-returns c = stays_whole c.names_stay_whole.ensures c.whole_rules_stay_whole.ensures c.tests_stay_whole.ensures

@@ -1,8 +1,0 @@
-use Rattle.std.proofs.Common.{◌≡◌, drop, map}
-use Rattle.yaml_tree.specs.View.{entries_view}
-use Rattle.pipeline_model.specs.Causes.{least, sooner_of}
-use Rattle.pipeline_model.specs.Shapes.{field_entry}
-use Rattle.pipeline_model.proofs.conditions.check_field_entries.Given as goal
-
-abbrev pub invariant-loop-entry : goal.invariant-loop-entry
-invariant-loop-entry l = least (map (field_entry l.known) (entries_view l.entries)) ≡ sooner_of l.found (map (field_entry l.known) (entries_view (drop l.entry-index l.entries)))

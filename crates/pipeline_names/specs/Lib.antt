@@ -1,6 +1,0 @@
-pub mod Known
-pub mod Names
-pub mod Renamed
-pub mod Sizes
-pub mod Made
-pub mod Kept

@@ -1,0 +1,18 @@
+//! The steps of pipelines that change the names of a rule's fields.
+#![tactic(auto)]
+
+mod concerned;
+mod finding;
+mod items;
+mod laws;
+mod list;
+mod made;
+mod mapping;
+mod name_counts;
+mod names;
+mod references;
+mod renamed_rule;
+mod room;
+
+pub use laws::names_stay_whole;
+pub use renamed_rule::rename;

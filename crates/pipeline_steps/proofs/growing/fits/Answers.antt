@@ -1,5 +1,0 @@
-use Rattle.pipeline_steps.proofs.Sizing.{capped}
-use Rattle.pipeline_steps.proofs.growing.fits.Goals as goal
-
-pub returns : goal.returns
-returns c = capped _ c.count_detections.result c.args.limits.now.grown c.count_detections.ensures c.args.limits.now.grown_in.1

@@ -1,5 +1,0 @@
-use Rattle.pipeline_steps.proofs.Sizing.{room_judged}
-use Rattle.pipeline_steps.proofs.growing.judge_added.Goals as goal
-
-pub returns : goal.returns
-returns c = room_judged c.args.limits.now c.args.place c.args.detections.now c.args.items.now c.has_room_for.result c.must.result c.has_room_for.ensures c.must.ensures.judged

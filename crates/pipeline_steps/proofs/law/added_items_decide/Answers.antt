@@ -1,5 +1,0 @@
-use Rattle.pipeline_steps.proofs.AddedLaw.{added_decide}
-use Rattle.pipeline_steps.proofs.law.added_items_decide.Goals as goal
-
-pub returns : goal.returns
-returns c = λ items negated rule fields row. added_decide fields row items negated rule

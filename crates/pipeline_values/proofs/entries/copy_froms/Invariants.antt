@@ -1,6 +1,0 @@
-use Rattle.std.proofs.Common.{◌≡◌, take}
-use Rattle.pipeline_values.specs.Made.{froms_of}
-use Rattle.pipeline_values.proofs.entries.copy_froms.Given as goal
-
-abbrev pub invariant-loop-pair : goal.invariant-loop-pair
-invariant-loop-pair l = l.froms ≡ froms_of (take l.pair-index l.pairs)

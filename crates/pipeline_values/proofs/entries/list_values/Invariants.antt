@@ -1,7 +1,0 @@
-use Rattle.std.proofs.Common.{◌≡◌, ◌++◌, map, drop}
-use Rattle.pipeline_values.specs.Entries.{as_pairs}
-use Rattle.pipeline_values.specs.Made.{entries_view, found_of}
-use Rattle.pipeline_values.proofs.entries.list_values.Given as goal
-
-abbrev pub invariant-loop-var : goal.invariant-loop-var
-invariant-loop-var l = entries_view l.all.items ++ map found_of (as_pairs (drop l.var-index l.vars)) ≡ map found_of (as_pairs l.vars)

@@ -1,5 +1,0 @@
-use Rattle.pipeline_values.proofs.WholeTests.{few_together}
-use Rattle.pipeline_values.proofs.law.patterns_are_few_together.Goals as goal
-
-pub returns : goal.returns
-returns c = λ limits vars step place ds none. few_together vars step limits place ds none

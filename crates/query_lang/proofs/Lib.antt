@@ -1,0 +1,5 @@
+mod Examples
+mod Refusing
+mod Unrefused
+pub mod Finding
+pub mod Text

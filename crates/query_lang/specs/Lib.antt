@@ -1,0 +1,5 @@
+pub mod Answers
+pub mod Built
+pub mod Patterns
+pub mod RefusedPlaces
+pub mod Ended

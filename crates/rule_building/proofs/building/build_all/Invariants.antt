@@ -1,9 +1,0 @@
-use Rattle.std.proofs.Common.{◌≡◌, take}
-use Rattle.rule_building.specs.Building.{ArePatterns}
-use Rattle.rule_building.proofs.building.build_all.Given as goal
-
-abbrev pub invariant-loop-expression : goal.invariant-loop-expression
-invariant-loop-expression g l = record {
-  built : g.B.Builder.refused l.builder ≡ g.B.Builder.refused l.initial.builder;
-  patterns : ArePatterns (take l.expression-index l.expressions);
-}

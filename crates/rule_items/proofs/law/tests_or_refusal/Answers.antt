@@ -1,5 +1,0 @@
-use Rattle.rule_items.proofs.TestsLemmas.{some_list}
-use Rattle.rule_items.proofs.law.tests_or_refusal.Goals as goal
-
-pub returns : goal.returns
-returns c = some_list c.one_list_of_patterns.ensures.some c.one_network.ensures.some

@@ -1,6 +1,0 @@
-use Rattle.std.proofs.Common.{◌≡◌, map, take}
-use Rattle.rule_items.specs.declared.test.Test.TheVariants.{Fits}
-use Rattle.rule_items.proofs.resolving.fits_tests.Given as goal
-
-abbrev pub invariant-loop-pattern : goal.invariant-loop-pattern
-invariant-loop-pattern l = l.tests ≡ map (λ parts. Fits parts l.cased) (take l.pattern-index l.patterns)

@@ -1,5 +1,0 @@
-use Rattle.rule_model.proofs.AsBuilt.{rule_as_built, lone_as_built}
-use Rattle.rule_model.proofs.law.refused_as_built.Goals as goal
-
-pub returns : goal.returns
-returns c = record { rule = rule_as_built; lone = lone_as_built }

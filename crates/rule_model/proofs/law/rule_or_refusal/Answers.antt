@@ -1,5 +1,0 @@
-use Rattle.rule_model.proofs.SomeRule.{rule_some}
-use Rattle.rule_model.proofs.law.rule_or_refusal.Goals as goal
-
-pub returns : goal.returns
-returns c = λ unbuilt. rule_some unbuilt (c.tests_or_refusal.ensures unbuilt)

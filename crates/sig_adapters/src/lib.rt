@@ -1,8 +1,0 @@
-//! Shelves, sources and sinks: those of the real files and streams, which tell no contents, and those in memory, which tell theirs.
-#![tactic(auto)]
-
-pub use memory::{MemoryShelf, MemorySink, MemorySource};
-pub use real::{FileShelf, InputSource, OutputSink};
-
-mod memory;
-mod real;

@@ -1,5 +1,0 @@
-use Rattle.sig_conditions.proofs.MeaningLemmas.{means}
-use Rattle.sig_conditions.proofs.law.same_meaning.Goals as goal
-
-pub returns : goal.returns
-returns c = means

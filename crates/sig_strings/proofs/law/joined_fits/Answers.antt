@@ -1,5 +1,0 @@
-use Rattle.sig_strings.proofs.FitsLemmas.{Fits-append}
-use Rattle.sig_strings.proofs.law.joined_fits.Goals as goal
-
-pub returns : goal.returns
-returns c = Fits-append

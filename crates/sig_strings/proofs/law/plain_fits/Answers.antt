@@ -1,5 +1,0 @@
-use Rattle.sig_strings.proofs.FitsLemmas.{Fits-plain, Fits-folded}
-use Rattle.sig_strings.proofs.law.plain_fits.Goals as goal
-
-pub returns : goal.returns
-returns c = record { cased = Fits-plain; folded = Fits-folded }

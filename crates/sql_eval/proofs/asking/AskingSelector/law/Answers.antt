@@ -1,7 +1,0 @@
-use Rattle.event_schema.specs.Rows.{first_values}
-use Rattle.sql_eval.proofs.Truths.{yes_or_not}
-use Rattle.sql_eval.proofs.asking.AskingSelector.law.Goals as goal
-use Rattle.sql_lang.specs.Meaning.{sql_value}
-
-pub returns : goal.returns
-returns c = λ query row. yes_or_not (sql_value query (first_values row))

@@ -1,0 +1,11 @@
+mod Looked
+mod Regexps
+mod Choosing
+mod Going
+mod Past
+mod Leaf
+mod Placed
+mod Wholes
+mod Verdicts
+mod Deciding
+mod LineFeed

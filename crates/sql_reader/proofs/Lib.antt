@@ -1,9 +1,0 @@
-mod Looked
-mod Regexps
-mod Choosing
-mod Going
-mod Past
-mod Leaf
-mod Placed
-mod Wholes
-mod Verdicts

@@ -1,5 +1,0 @@
-use Rattle.sql_scan.proofs.Judged.{Decides}
-use Rattle.sql_scan.proofs.judging.first_other.Given as goal
-
-abbrev pub invariant-loop-token : goal.invariant-loop-token
-invariant-loop-token l = Decides l.tokens l.token-index

@@ -1,5 +1,0 @@
-use Rattle.sqlite_writer.proofs.NoLack.{no_lack}
-use Rattle.sqlite_writer.proofs.law.text_fields_lack_nothing.Goals as goal
-
-pub returns : goal.returns
-returns c = no_lack

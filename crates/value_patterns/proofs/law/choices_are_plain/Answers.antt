@@ -1,5 +1,0 @@
-use Rattle.value_patterns.proofs.Choosing.{choices_all_plain, choices_plain}
-use Rattle.value_patterns.proofs.law.choices_are_plain.Goals as goal
-
-pub returns : goal.returns
-returns c = record { tests = choices_all_plain; scalars = choices_plain }

@@ -1,8 +1,0 @@
-use Rattle.yaml_files.proofs.Files.{nodes_within_bytes, nodes_within_limit}
-use Rattle.yaml_files.proofs.bounds.nodes_are_few.Goals as goal
-
-pub returns-clause-bytes : goal.returns-clause-bytes
-returns-clause-bytes c = nodes_within_bytes
-
-pub returns-clause-limit : goal.returns-clause-limit
-returns-clause-limit c = nodes_within_limit

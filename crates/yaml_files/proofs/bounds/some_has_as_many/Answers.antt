@@ -1,5 +1,0 @@
-use Rattle.yaml_files.proofs.Examples.{some_has_as_many}
-use Rattle.yaml_files.proofs.bounds.some_has_as_many.Goals as goal
-
-pub returns : goal.returns
-returns c = some_has_as_many

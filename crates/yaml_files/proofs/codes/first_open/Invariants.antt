@@ -1,8 +1,0 @@
-use Rattle.std.proofs.Common.{◌≡◌, drop}
-use Rattle.yaml_lines.specs.View.{line_view, openings_view}
-use Rattle.yaml_blocks.specs.Documents.{first_open}
-use Rattle.yaml_blocks.specs.Views.{lines_view}
-use Rattle.yaml_files.proofs.codes.first_open.Given as goal
-
-abbrev pub invariant-loop-opening : goal.invariant-loop-opening
-invariant-loop-opening l = first_open (line_view l.line) (openings_view (drop l.opening-index l.openings)) (lines_view l.later) ≡ first_open (line_view l.line) (openings_view l.openings) (lines_view l.later)

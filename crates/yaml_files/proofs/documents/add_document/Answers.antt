@@ -1,8 +1,0 @@
-use Rattle.std.proofs.Common.{ap, ◌∙◌}
-use Rattle.yaml_files.specs.Views.{documents_view}
-use Rattle.yaml_files.proofs.Parts.{kept_whole}
-use Rattle.yaml_files.proofs.documents.add_document.Goals as goal
-
-pub returns-in_ok-push-in-Some-clause-added : goal.returns-in_ok-push-in-Some-clause-added
-returns-in_ok-push-in-Some-clause-added c =
-    ap documents_view c.in_ok-push-in-Some.ensures.items ∙ kept_whole c.args.documents.now.items c.args.document _ c.in-Some.ensures

@@ -1,8 +1,0 @@
-use Rattle.std.proofs.Common.{◌≡◌, drop}
-use Rattle.yaml_blocks.specs.Blocks.{skip_comments}
-use Rattle.yaml_blocks.specs.Views.{lines_view}
-use Rattle.yaml_files.specs.Views.{first_place}
-use Rattle.yaml_files.proofs.documents.first_content.Given as goal
-
-abbrev pub invariant-loop-line : goal.invariant-loop-line
-invariant-loop-line l = first_place (skip_comments (lines_view (drop l.line-index l.lines))) ≡ first_place (skip_comments (lines_view l.lines))

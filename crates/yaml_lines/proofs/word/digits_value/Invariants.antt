@@ -1,6 +1,0 @@
-use Rattle.std.proofs.Common.{◌≡◌, ◌≤◌, drop}
-use Rattle.yaml_lines.proofs.Digits.{value_from}
-use Rattle.yaml_lines.proofs.word.digits_value.Given as goal
-
-abbrev pub invariant-loop-c : goal.invariant-loop-c
-invariant-loop-c l = (l.value ≤ l.most) × (value_from l.value l.most (drop l.c-index l.chars) ≡ value_from 0 l.most l.chars)
