@@ -8,10 +8,8 @@ mod following;
 mod judges;
 mod laws;
 mod line;
-mod report_laws;
 mod report_lines;
 
 pub use following::follow_events;
-pub use laws::one_follower;
+pub use laws::{line_reads_back, one_follower};
 pub use line::write_report;
-pub use report_laws::line_reads_back;

@@ -6,7 +6,6 @@ mod event;
 mod field_values;
 mod json_values;
 mod laws;
-mod line_laws;
 mod moments;
 mod parts;
 mod path;
@@ -17,6 +16,5 @@ mod schemas;
 mod shapes;
 
 pub use event::read_event;
-pub use laws::schemas_are_kept;
-pub use line_laws::events_are_kept;
+pub use laws::{events_are_kept, schemas_are_kept};
 pub use schemas::read_schema;

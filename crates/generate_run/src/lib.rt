@@ -10,7 +10,6 @@ mod builder;
 mod comparisons;
 mod counting;
 mod counts;
-mod drawn_laws;
 mod draws;
 mod events;
 mod generating;
@@ -25,11 +24,12 @@ mod subject;
 mod words;
 
 pub use comparisons::compare;
-pub use drawn_laws::{events_go_on, generated_events, generated_rule};
 pub use draws::{after_events, after_three};
 pub use events::{make_events, make_schema};
 pub use generating::generate;
-pub use laws::{generated_lines, seeds_are_subjects};
+pub use laws::{
+    events_go_on, generated_events, generated_lines, generated_rule, seeds_are_subjects,
+};
 pub use making::tree_for;
 pub use readable::Readable;
 pub use rule::make_rule;

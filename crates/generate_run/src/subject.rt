@@ -13,9 +13,9 @@ ghost use Rattle.rule_model.specs.Plain.{rule_view};
 
 use crate::counting::count_set;
 use crate::counts::Counts;
-use crate::drawn_laws::{events_go_on, generated_events};
 use crate::draws::after_events;
 use crate::events::make_events;
+use crate::laws::{events_go_on, generated_events};
 use crate::matches::{select_by_query, select_by_rule};
 use backend_core::Tree;
 use detection_eval::Judge;

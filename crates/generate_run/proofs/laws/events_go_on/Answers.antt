@@ -1,5 +1,5 @@
 use Rattle.generate_run.proofs.Drawn.{events_on, state_on}
-use Rattle.generate_run.proofs.drawn_laws.events_go_on.Goals as goal
+use Rattle.generate_run.proofs.laws.events_go_on.Goals as goal
 
 pub returns-clause-events : goal.returns-clause-events
 returns-clause-events c = events_on
