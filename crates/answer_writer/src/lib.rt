@@ -1,6 +1,5 @@
-//! Answers that are written part by part, and what stands of them where they are cut off.
-//!
-//! Commands that select events: what a line of the events is answered, and the events that a query selects.
+//! Answers that are written part by part, and what stands of them where they are cut off; what a line
+//! of the events is answered, and the events that a query selects, written as they were read.
 #![tactic(auto)]
 
 mod events;

@@ -1,6 +1,4 @@
-//! The events that rules are correlated over: each line's reports.
-//!
-//! Reports of correlations as lines of JSON.
+//! The events that rules are correlated over: each line's reports, and a report as a line of JSON.
 #![tactic(auto)]
 
 mod brought_events;

@@ -1,8 +1,6 @@
-//! The generator: a seed's rule, its queries in SQL and in Lucene, and how many of the seed's events each of the three selects.
-//!
-//! A tree compared with its query: written by a backend, read back and asked of events.
-//!
-//! A rule and events that a seed makes, for comparing the rule with its queries.
+//! The generator: the rule and the events that a seed makes, the rule's queries in SQL and in Lucene,
+//! each written by its backend, read back and asked of the events, and how many of the seed's events
+//! each of the three selects.
 #![tactic(auto)]
 
 mod backends;

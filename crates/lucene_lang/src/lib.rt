@@ -1,10 +1,9 @@
-//! The Lucene fragment that queries are written in: groups of clauses over fields, after Lucene's classic query syntax, and
-//! the meaning of required, optional and prohibited clauses.
+//! The Lucene fragment that queries are written in: groups of clauses over fields, after Lucene's
+//! classic query syntax, and the meaning of required, optional and prohibited clauses.
 //!
-//! `specs/` says which text is which query, where a text stops being one, which refusal comes first, how a text is read
-//! token by token, and which events a query selects. The functions are the laws of the definitions.
-//!
-//! Lucene as a query language: what its queries are and mean.
+//! `specs/` says which text is which query, where a text stops being one, which refusal comes first,
+//! how a text is read token by token, and which events a query selects. `Lucene` is the language as
+//! writers see it, its queries and their meaning, without a reader. The other functions are laws.
 #![tactic(auto)]
 
 mod laws;

@@ -1,6 +1,5 @@
-//! The reader of Lucene queries: the query that bytes are under a schema, or their first refusal.
-//!
-//! Lucene as a language whose queries are read and asked of events.
+//! Lucene's queries as they are read: the query that bytes are under a schema, or their first refusal;
+//! and Lucene as a language whose queries are read and asked of events.
 #![tactic(auto)]
 
 mod asking;

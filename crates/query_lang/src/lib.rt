@@ -1,8 +1,6 @@
-//! Query languages, and builders of the regular expressions in their queries.
-//!
-//! Queries in files: what is said of a language whose queries stay the same with a line feed behind them.
-//!
-//! What the queries of a language are and mean, without a reader of them.
+//! Query languages: what their queries are and mean (`QueryLanguage`), what reading and asking them promises
+//! (`Language`), that a line feed behind a query changes nothing, and builders of the regular
+//! expressions in queries.
 #![tactic(auto)]
 
 mod builder;

@@ -1,15 +1,10 @@
 //! The SQL fragment that queries are written in: `SELECT * FROM table WHERE expression`, with the
 //! tests that SQLite's page on expressions has, and SQLite's three-valued meaning of them.
 //!
-//! `specs/` says which text is which query, where a text stops being one, which refusal comes first, how
-//! a text is read token by token, and what an expression says of a row. The functions are the laws of the
-//! definitions.
-//!
-//! SQL as a query language: what its queries are and mean.
-//!
-//! SQL queries as values: what a reader makes and an evaluator asks.
-//!
-//! `specs/View` says which expression of the language, as `sql_lang` defines it, a value is.
+//! `specs/` says which text is which query, where a text stops being one, which refusal comes first,
+//! how a text is read token by token, and what an expression says of a row. `Select` and its parts are
+//! queries as values, which a reader makes and an evaluator asks (`specs/View`); `Sql` is the language
+//! as writers see it, its queries and their meaning, without a reader. The other functions are laws.
 #![tactic(auto)]
 
 mod laws;

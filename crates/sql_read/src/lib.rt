@@ -1,6 +1,5 @@
-//! SQL queries as they are read: from bytes to the query, or its first refusal.
-//!
-//! SQL as a language whose queries are read and asked of events.
+//! SQL queries as they are read: from bytes to the query, or its first refusal; and SQL as a language
+//! whose queries are read and asked of events.
 #![tactic(auto)]
 
 mod end_places;

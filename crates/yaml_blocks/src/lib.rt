@@ -1,8 +1,5 @@
-//! Blocks of a YAML document: how a tree is laid out in lines, where a reading stops, the laws of
-//! both, and scalars that go on over lines.
-//!
-//! Block maps and sequences of a YAML document: the tree that a block of lines is, or why it has
-//! none.
+//! Blocks of a YAML document: how a tree of maps, sequences and scalars is laid out in lines, where a
+//! reading stops, the laws of both, and the readers of block maps, sequences and scalars over lines.
 #![tactic(auto)]
 
 pub mod content;

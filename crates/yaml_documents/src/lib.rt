@@ -1,9 +1,9 @@
-//! Whole files of YAML: the answer to each document, its tree or its refusal.
+//! Whole files of YAML: their characters, their lines, their documents, the answer to each document, and
+//! the codes that lines are refused with.
 //!
-//! Whole files of YAML: their characters, their lines, their documents, and the codes that lines are
-//! refused with; and how large the trees of a file are, by its bytes, and of what characters their texts
-//! are (`bounds`: laws of the definitions, for callers that reckon the work and the memory that a file
-//! may cost, and for those that write its texts).
+//! `bounds` has laws on how large the trees of a file are, by its bytes, and of what characters their
+//! texts are: for callers that reckon the work and the memory that a file may cost, and for those that
+//! write its texts.
 #![tactic(auto)]
 
 pub mod bounds;
