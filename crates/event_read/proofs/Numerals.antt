@@ -6,10 +6,10 @@ use Rattle.std.specs.Str.Parse.{AllDigits, IsNumeral, without_leading_sign, sign
 use Rattle.std.proofs.lemmas.Bool.{false≢true, and_parts, and_from, le-leb, eqb-true, leb-true, ltb-true}
 use Rattle.std.proofs.lemmas.Str.{digit_value_digit}
 use Rattle.std.proofs.lemmas.Int.{fits_signed_from_abs}
-use Rattle.event_schema.specs.Addresses.{is_digit}
+use Rattle.sig_base.specs.Digits.{is_digit, is_positive}
 use Rattle.event_read.specs.Answers.{Answers}
 use Rattle.sig_base.specs.Judged.{refusal}
-use Rattle.event_read.specs.Takes.{is_whole, is_positive, is_decimal, whole_of_text}
+use Rattle.event_read.specs.Takes.{is_whole, is_decimal, whole_of_text}
 use Rattle.sig_base.specs.declared.refusal.Fault.{Fault}
 use Rattle.sig_base.specs.declared.refusal.Fault.TheVariants.{Refused}
 use Rattle.sig_base.specs.declared.refusal.Place.{Place}

@@ -9,11 +9,12 @@ use Rattle.std.proofs.lemmas.Bool.{false≢true, and_parts, and_from, le-leb, le
 use Rattle.std.proofs.lemmas.Fmt.{decimal-digits_value}
 use Rattle.std.proofs.lemmas.Str.{digit_value_digit, encode_ascii, encodes-chars}
 use Rattle.std.proofs.lemmas.Str.Parse.{IsNumeralModel, numerals_by_value, tells_digits}
+use Rattle.sig_base.specs.Digits.{is_digit}
 use Rattle.sig_base.specs.Texts.{is_ascii}
 use Rattle.sig_base.proofs.TextLemmas.{ascii_chars}
 use Rattle.event_read.proofs.Numerals.{digits_below}
 use Rattle.event_read.specs.Quads.{is_within, is_octet, is_dot, are_octets, is_quad, begins_as_quad, is_address}
-use Rattle.event_schema.specs.Addresses.{IsQuad, IsAddress, is_digit}
+use Rattle.event_schema.specs.Addresses.{IsQuad, IsAddress}
 
 own : IsNumeralModel (AllDigits 10) (digits_value 10)
 own = numerals_by_value (AllDigits 10) tells_digits

@@ -1,7 +1,7 @@
 -- Texts that a field of addresses takes, by tests.
 use Rattle.std.specs.Prelude.{ℕ, zero, suc, Bool, false, not, nat_le, ◌==◌, ◌&&◌, ◌||◌, List, [], ◌∷◌, slice_index}
 use Rattle.std.specs.List.{prefix_len, before_first, after_first}
-use Rattle.event_schema.specs.Addresses.{is_digit}
+use Rattle.sig_base.specs.Digits.{is_digit}
 
 abbrev pub is_within : ℕ → ℕ → ℕ → Bool
 is_within low high c = nat_le low c && nat_le c high

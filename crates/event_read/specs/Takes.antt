@@ -1,13 +1,13 @@
 -- What a field takes of a JSON value: a line for each kind of value and of field.
-use Rattle.std.specs.Prelude.{ℕ, nat_lt, nat_le, ◌==◌, ℤ, pos, Bool, true, false, ◌&&◌, if◌then◌else◌, List, [], ◌∷◌, ◌++◌, codes, Option, Some, None, Result, Ok, Err}
+use Rattle.std.specs.Prelude.{ℕ, nat_lt, ◌==◌, ℤ, pos, Bool, true, false, if◌then◌else◌, List, [], ◌∷◌, ◌++◌, codes, Option, Some, None, Result, Ok, Err}
 use Rattle.std.specs.Fmt.{signed_decimal}
 use Rattle.std.specs.List.{list_all}
 use Rattle.std.specs.Str.{chars}
 use Rattle.std.specs.Str.Parse.{signed_digits_value}
 use Rattle.serde_json.specs.Data.{Num, unsigned, negative, float, Data, null, boolean, number, string, array, object, Items, no_items, item}
+use Rattle.sig_base.specs.Digits.{is_digit, is_positive}
 use Rattle.event_read.specs.Quads.{is_address}
 pub use Rattle.event_time.specs.Wholes.{is_whole}
-use Rattle.event_schema.specs.Addresses.{is_digit}
 use Rattle.event_schema.specs.declared.schema.FieldKind.{FieldKind}
 use Rattle.event_schema.specs.declared.schema.FieldKind.TheVariants as kinds
 use Rattle.event_schema.specs.declared.value.Value.{Value}
@@ -20,11 +20,6 @@ Taking = Result (Option Value) ℕ
 -- a list of values, or the code for which nothing is taken
 abbrev pub Takings : Type 0
 Takings = Result (List Value) ℕ
-
--- a digit 1 to 9 and any digits
-abbrev pub is_positive : List ℕ → Bool
-is_positive [] = false
-is_positive (d ∷ ds) = nat_le 49 d && nat_le d 57 && list_all is_digit ds
 
 -- `0`, or an optional `-`, a digit 1 to 9 and any digits
 abbrev pub is_decimal : List ℕ → Bool

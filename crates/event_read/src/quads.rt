@@ -4,7 +4,8 @@ ghost use Rattle.std.specs.Prelude.{◌≡◌, true};
 ghost use Rattle.std.specs.List.{before_first, after_first, position};
 ghost use Rattle.event_read.specs.Quads as spec;
 
-use event_time::{digits, is_digit};
+use event_time::digits;
+use sig_base::is_digit;
 
 fn is_within(low: u8, high: u8, byte: u8) -> bool
     ensures { result ≡ spec.is_within low high byte }

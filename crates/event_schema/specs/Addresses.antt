@@ -1,7 +1,8 @@
 -- Texts that are IPv4 addresses, and texts that don't look like the front of one.
-use Rattle.std.specs.Prelude.{◌≡◌, ℕ, ◌<◌, ◌≤◌, Bool, true, nat_le, ◌&&◌, ◌⊎◌, List, ◌∷◌, ◌++◌, length}
+use Rattle.std.specs.Prelude.{◌≡◌, ℕ, ◌<◌, ◌≤◌, true, ◌⊎◌, List, ◌∷◌, ◌++◌, length}
 use Rattle.std.specs.Fmt.{decimal}
 use Rattle.std.specs.List.{list_all}
+use Rattle.sig_base.specs.Digits.{is_digit}
 
 -- four decimals from 0 to 255, without needless zeros, joined by dots
 pub record IsQuad (text : List ℕ) : Type 0 where
@@ -11,9 +12,6 @@ pub record IsQuad (text : List ℕ) : Type 0 where
   pub fourth : ℕ
   pub bytes : (first < 256) × (second < 256) × (third < 256) × (fourth < 256)
   pub spelled : text ≡ decimal first ++ (46 ∷ (decimal second ++ (46 ∷ (decimal third ++ (46 ∷ decimal fourth)))))
-
-abbrev pub is_digit : ℕ → Bool
-is_digit c = nat_le 48 c && nat_le c 57
 
 -- one to three digits and a dot stand at the front
 pub record BeginsAsQuad (text : List ℕ) : Type 0 where

@@ -5,9 +5,9 @@ use Rattle.std.specs.List.{prefix_len}
 use Rattle.std.proofs.Math.Facts.{to_z_pos}
 use Rattle.std.proofs.lemmas.List.Sums.{prefix_len-le-length}
 use Rattle.jiff.proofs.SpanFacts.{signed_arith}
+use Rattle.sig_base.specs.Digits.{is_digit}
 use Rattle.event_time.specs.Moments.{moment_at}
 use Rattle.event_time.specs.Nearness.{IsNear}
-use Rattle.event_schema.specs.Addresses.{is_digit}
 
 -- as it is kept in 128 bits
 abbrev back : ℤ → ℤ

@@ -2,11 +2,11 @@
 use Rattle.std.specs.Prelude.{ℕ, ◌+◌, ◌-◌, ◌*◌, ◌/◌, Bool, ◌&&◌, ◌||◌, ◌==◌, nat_le, if◌then◌else◌, ℤ, pos, neg_ℤ, ◌+ℤ◌, ◌-ℤ◌, ◌*ℤ◌, List, [], ◌∷◌, length, take, drop, Option, Some, None, option_map, option_and_then}
 use Rattle.std.specs.List.{list_all, prefix_len}
 use Rattle.jiff.specs.Words.{days_in_month}
+use Rattle.sig_base.specs.Digits.{is_digit}
 use Rattle.jiff_core.specs.Calendar.{days_from_civil}
 use Rattle.serde_json.specs.Data.{Num, unsigned, negative, float, Data}
 use Rattle.serde_json.specs.Find.{as_number, as_str}
 use Rattle.event_time.specs.Wholes.{is_whole}
-use Rattle.event_schema.specs.Addresses.{is_digit}
 use Rattle.event_schema.specs.declared.schema.TimeForm.{TimeForm}
 use Rattle.event_schema.specs.declared.schema.TimeForm.TheVariants.{Text, Seconds, Millis}
 

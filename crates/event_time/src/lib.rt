@@ -2,7 +2,7 @@
 #![tactic(auto)]
 
 pub use moments::moment_in;
-pub use numerals::{are_digits, digits, is_digit, is_whole};
+pub use numerals::{digits, is_whole};
 
 mod moments;
 mod numerals;

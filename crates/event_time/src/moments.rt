@@ -7,10 +7,11 @@ ghost use Rattle.event_time.specs.Nearness.{IsNear};
 ghost use Rattle.jiff.specs.Words.{epoch_day, IsYmd};
 ghost use Rattle.serde_json.specs.View.{number_view, view};
 
-use crate::numerals::{are_digits, digits, is_digit, is_whole};
+use crate::numerals::{digits, is_whole};
 use event_schema::TimeForm;
 use jiff::civil::{Date, date};
 use serde_json::{Number, Value};
+use sig_base::{are_digits, is_digit};
 
 /// The day, where the calendar has it.
 fn date_of(year: u32, month: u32, day: u32) -> Option<Date>

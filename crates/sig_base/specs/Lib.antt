@@ -1,5 +1,6 @@
 pub mod Causes
 pub mod Codes
+pub mod Digits
 pub mod Files
 pub mod Folding
 pub mod Fronts
