@@ -6,16 +6,16 @@ use Rattle.std.specs.Str.{chars, all_scalars}
 use Rattle.std.proofs.lemmas.Bool.{and_parts, and_from, leb-true, lt-ltb, eqb-true, false≢true}
 use Rattle.std.proofs.lemmas.List.{drop_more}
 use Rattle.std.proofs.lemmas.Str.{chars-encodes}
+use Rattle.sig_base.specs.Digits.{is_digit, is_positive}
 use Rattle.sig_base.specs.Texts.{is_ascii}
 use Rattle.sig_base.proofs.TextLemmas.{ascii_encodes, ascii_chars}
-use Rattle.rule_head.specs.Heads.{is_digit}
 use Rattle.std.proofs.lemmas.Int.{ints}
 use Rattle.std.proofs.lemmas.Nat.{mul-le}
 use Rattle.yaml_tree.specs.Tree.{Tree}
 use Rattle.yaml_tree.specs.Nodes.{value_in, entries_in, text_in}
 use Rattle.correlation_read.specs.Checks.{span_in, span_at}
 use Rattle.correlation_read.specs.Correlations.{IsSpan}
-use Rattle.correlation_read.specs.Timespans.{digits_from, is_positive, count_of, seconds_of, seconds_in, front_of, last_of, nanoseconds, span_of}
+use Rattle.correlation_read.specs.Timespans.{digits_from, count_of, seconds_of, seconds_in, front_of, last_of, nanoseconds, span_of}
 
 grows : (n : ℕ) (ds : List ℕ) → n ≤ digits_from n ds
 grows n [] = omega arith

@@ -1,18 +1,12 @@
 -- Timespans (Sigma correlations specification 2.0, timespan): a number and a unit. This profile takes five units, whose lengths
 -- are fixed, and canonical decimals from 1 to 99999.
 use Rattle.std.specs.Prelude.{ℕ, ◌+◌, ◌-◌, ◌*◌, ℤ, pos, Bool, false, ◌&&◌, ◌==◌, nat_le, if◌then◌else◌, List, [], ◌∷◌, Option, Some, None}
-use Rattle.std.specs.List.{list_all}
-use Rattle.rule_head.specs.Heads.{is_digit}
+use Rattle.sig_base.specs.Digits.{is_positive}
 
 -- the number that digits make, behind those that make n
 abbrev pub digits_from : ℕ → List ℕ → ℕ
 digits_from n [] = n
 digits_from n (d ∷ ds) = digits_from (n * 10 + (d - 48)) ds
-
--- a canonical decimal that isn't 0: a digit 1 to 9, and any digits
-abbrev pub is_positive : List ℕ → Bool
-is_positive [] = false
-is_positive (d ∷ ds) = nat_le 49 d && nat_le d 57 && list_all is_digit ds
 
 -- the number from 1 to 99999 that a canonical decimal is
 abbrev pub count_of : List ℕ → Option ℕ

@@ -1,11 +1,9 @@
 //! Timespans.
 
 ghost use Rattle.std.specs.Prelude.{◌≡◌, ◌+◌, ◌-◌, ◌*◌, ◌≤◌, min};
-ghost use Rattle.std.specs.List.{list_all};
-ghost use Rattle.rule_head.specs.Heads.{is_digit};
 ghost use Rattle.correlation_read.specs.Timespans as spec;
 
-use sig_base::Text;
+use sig_base::{Text, is_positive};
 
 /// One more digit behind a number, where 100,000 stands for all that is larger.
 fn grown(value: u32, digit: u8) -> u32
@@ -28,22 +26,6 @@ fn number_of(digits: &[u8]) -> u32
         value = grown(value, *digit);
     }
     value
-}
-
-fn are_digits(bytes: &[u8]) -> bool
-    ensures { result ≡ list_all is_digit bytes.now }
-{
-    bytes.iter().all(|byte| 48 <= *byte && *byte <= 57)
-}
-
-/// Whether the bytes are a canonical decimal that isn't 0.
-fn is_positive(digits: &[u8]) -> bool
-    ensures { result ≡ spec.is_positive digits.now }
-{
-    let Some((first, rest)) = digits.split_first() else {
-        return false;
-    };
-    49 <= *first && *first <= 57 && are_digits(rest)
 }
 
 /// The number from 1 to 99,999 whose canonical decimal the bytes are.

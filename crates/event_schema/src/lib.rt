@@ -5,7 +5,7 @@ pub use event::Event;
 pub use fields::FieldList;
 pub use names::is_legal;
 pub use schema::{Field, FieldKind, Schema, Time, TimeForm};
-pub use value::{Value, decimal, decimal_in};
+pub use value::{Value, decimal, decimal_in, is_decimal};
 pub use values::FieldValues;
 
 mod event;

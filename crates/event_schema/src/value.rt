@@ -1,6 +1,6 @@
 //! The values of fields.
 
-ghost use Rattle.std.specs.Prelude.{◌≡◌, IfOk, IfErr};
+ghost use Rattle.std.specs.Prelude.{◌≡◌, ◌↔◌, IsTrue, IfOk, IfErr};
 ghost use Rattle.std.specs.Fmt.{signed_decimal};
 ghost use Rattle.std.specs.Str.{chars};
 ghost use Rattle.event_schema.specs.Rows.{value_text};
@@ -21,6 +21,14 @@ pub fn decimal_in(buffer: &mut Buffer, number: i64) -> &str
     ensures { chars result.now ≡ signed_decimal number }
 {
     buffer.format(number)
+}
+
+/// Whether a text is a number's decimal; takes no memory.
+pub fn is_decimal(text: &str, number: i64) -> bool
+    ensures { IsTrue result ↔ (chars text.now ≡ signed_decimal number) }
+{
+    let mut buffer = Buffer::new();
+    text == decimal_in(&mut buffer, number)
 }
 
 /// A number's decimal; only want of memory is answered.

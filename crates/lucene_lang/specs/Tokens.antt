@@ -2,6 +2,7 @@
 use Rattle.std.specs.Prelude.{ℕ, Bool, true, false, ◌&&◌, ◌||◌, ◌==◌, if◌then◌else◌, nat_le, List, [], ◌∷◌, ◌++◌, map, codes, Option, Some, None}
 use Rattle.std.specs.List.{list_all, list_any}
 use Rattle.std.specs.Str.{bytes_eq}
+use Rattle.sig_base.specs.Digits.{is_positive, unsigned}
 use Rattle.query_tokens.specs.Places.{At, origin, after}
 use Rattle.query_tokens.specs.Tokens as texts
 use Rattle.lucene_lang.specs.declared.query.Word.{Word}
@@ -45,19 +46,6 @@ is_bare (Escaped c) = false
 abbrev pub is_wildcard : Written → Bool
 is_wildcard (Bare c) = c == 42 || c == 63
 is_wildcard (Escaped c) = false
-
-abbrev pub is_digit : ℕ → Bool
-is_digit c = nat_le 48 c && nat_le c 57
-
--- a digit 1 to 9, and any digits
-abbrev pub is_positive : List ℕ → Bool
-is_positive [] = false
-is_positive (c ∷ cs) = (nat_le 49 c && nat_le c 57) && list_all is_digit cs
-
--- the characters behind an optional minus
-abbrev pub unsigned : List ℕ → List ℕ
-unsigned [] = []
-unsigned (c ∷ cs) = if c == 45 then cs else c ∷ cs
 
 -- a canonical decimal: 0, or an optional minus, a digit 1 to 9 and any digits
 unfoldable pub is_decimal : List ℕ → Bool

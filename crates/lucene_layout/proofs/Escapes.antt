@@ -6,6 +6,7 @@ use Rattle.std.specs.Str.{all_scalars, bytes_eq}
 use Rattle.std.proofs.Math.Utf8.{scalar}
 use Rattle.std.proofs.lemmas.Bool.Decides.{nat_tests}
 use Rattle.std.proofs.lemmas.Slice.Eq.{bytes_eq-Decides}
+use Rattle.sig_base.specs.Digits.{is_digit}
 use Rattle.query_tokens.specs.Places.{origin}
 use Rattle.query_tokens.specs.Tokens.{sorts}
 use Rattle.lucene_lang.specs.declared.query.Glyph.{Glyph}
@@ -13,7 +14,7 @@ use Rattle.lucene_lang.specs.declared.query.Glyph.TheVariants.{Char, One, Run}
 use Rattle.lucene_lang.specs.declared.query.Word.TheVariants.{And, Or}
 use Rattle.lucene_lang.specs.declared.written.Written.{Written}
 use Rattle.lucene_lang.specs.declared.written.Written.TheVariants.{Bare, Escaped}
-use Rattle.lucene_lang.specs.Tokens.{Sort, Joins, Not, Star, Wild, To, Decimal, Plain, Outside, character, is_bare, is_wildcard, run_sort, bare_sort, other_sort, is_decimal, is_digit, tokens, scan}
+use Rattle.lucene_lang.specs.Tokens.{Sort, Joins, Not, Star, Wild, To, Decimal, Plain, Outside, character, is_bare, is_wildcard, run_sort, bare_sort, other_sort, is_decimal, tokens, scan}
 use Rattle.lucene_lang.specs.Grammar.{Term, exact, spell_name, spell_term, sought, a_term}
 use Rattle.lucene_lang.specs.Query.{glyph, glyphs, name_text, term_glyphs}
 use Rattle.lucene_lang.specs.Faults.{is_left_out, is_plus_or_minus, begins_signed, begins_minus, is_outside}

@@ -5,6 +5,7 @@ use Rattle.std.specs.List.{list_all}
 use Rattle.std.specs.Str.{all_scalars}
 use Rattle.std.proofs.Math.Utf8.{scalar}
 use Rattle.std.proofs.lemmas.Bool.Decides.{nat_tests}
+use Rattle.sig_base.specs.Digits.{is_digit}
 use Rattle.event_schema.specs.declared.schema.Field.{Field}
 use Rattle.event_schema.specs.declared.schema.Schema.{Schema}
 use Rattle.query_tokens.specs.Places.{At, CodeAt}
@@ -13,7 +14,7 @@ use Rattle.lucene_lang.specs.declared.query.Word.{Word}
 use Rattle.lucene_lang.specs.declared.query.Word.TheVariants.{And, Or}
 use Rattle.lucene_lang.specs.declared.written.Written.{Written}
 use Rattle.lucene_lang.specs.declared.written.Written.TheVariants.{Bare, Escaped}
-use Rattle.lucene_lang.specs.Tokens.{Sort, Joins, Not, Star, Wild, To, Decimal, Plain, Phrase, Opening, Closing, Opens, Closes, Colon, Unclosed, Token, character, tokens, is_digit}
+use Rattle.lucene_lang.specs.Tokens.{Sort, Joins, Not, Star, Wild, To, Decimal, Plain, Phrase, Opening, Closing, Opens, Closes, Colon, Unclosed, Token, character, tokens}
 use Rattle.lucene_lang.specs.Grammar.{Name, to, decimal, plain, star, wild, exact, End, unbounded, bound, Value, a_term, a_phrase, a_range, Leaf, everything, sought, Group, last, joined, Clause, asked, forbidden, Atom, a_leaf, enclosed, spell_name, spell_term, spell_end, spell_value, spell_leaf, spell_group, spell_clause, spell_atom}
 use Rattle.lucene_lang.specs.Query.{group_of}
 use Rattle.lucene_lang.specs.Faults.{is_outside, ranged_behind, differs, first_word, group_mixed, clause_mixed, atom_mixed, group_faults, clause_faults, atom_faults}

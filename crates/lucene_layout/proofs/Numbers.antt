@@ -8,9 +8,10 @@ use Rattle.std.proofs.lemmas.List.Folds.{list_all-append}
 use Rattle.std.proofs.lemmas.Bool.Decides.{nat_tests}
 use Rattle.std.proofs.lemmas.Int.{ints}
 use Rattle.std.proofs.lemmas.Fmt.{decimal_by_steps}
+use Rattle.sig_base.specs.Digits.{is_digit, is_positive, unsigned}
 use Rattle.event_schema.specs.Events.{IsWholeNumber}
 use Rattle.lucene_lang.specs.declared.query.Glyph.TheVariants.{Run}
-use Rattle.lucene_lang.specs.Tokens.{is_digit, is_positive, unsigned, is_decimal, run_sort}
+use Rattle.lucene_lang.specs.Tokens.{is_decimal, run_sort}
 use Rattle.lucene_lang.specs.Grammar.{Term, a_term}
 use Rattle.lucene_lang.specs.Query.{digits_from}
 use Rattle.lucene_lang.specs.Faults.{is_ill, is_number}

@@ -4,9 +4,10 @@ use Rattle.std.specs.Prelude.{ℤ, pos, negsuc, ◌==◌, if◌then◌else◌, O
 use Rattle.std.specs.Fmt.{decimal, signed_decimal}
 use Rattle.std.specs.Str.{all_scalars}
 use Rattle.std.proofs.lemmas.Int.{ints}
+use Rattle.sig_base.specs.Digits.{unsigned}
 use Rattle.event_schema.specs.Events.{IsWholeNumber}
 use Rattle.event_schema.specs.declared.schema.Field.{Field}
-use Rattle.lucene_lang.specs.Tokens.{Sort, Colon, unsigned, is_decimal}
+use Rattle.lucene_lang.specs.Tokens.{Sort, Colon, is_decimal}
 use Rattle.lucene_lang.specs.Grammar.{Name, to, decimal as decimal_name, plain, a_range, sought, spell_name, spell_end, spell_value}
 use Rattle.lucene_lang.specs.Query.{FieldName, OfField, Sought, Range, digits_from, negative, number_of, end_number, found_in, leaf_of, field_atom, or_first, name_text, sought_of}
 use Rattle.lucene_lang.specs.Faults.{is_ill, is_whole_at, is_outside, is_number, in_bounds, end_in_bounds}

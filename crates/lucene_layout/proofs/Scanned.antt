@@ -5,13 +5,14 @@ use Rattle.std.specs.List.{list_all}
 use Rattle.std.specs.Str.{bytes_eq}
 use Rattle.std.proofs.lemmas.Bool.Decides.{nat_tests}
 use Rattle.std.proofs.lemmas.Slice.Eq.{bytes_eq-Decides}
+use Rattle.sig_base.specs.Digits.{is_digit, is_positive, unsigned}
 use Rattle.query_tokens.specs.Places.{At, origin, after}
 use Rattle.query_tokens.specs.Tokens.{sorts}
 use Rattle.lucene_lang.specs.declared.query.Word.{Word}
 use Rattle.lucene_lang.specs.declared.query.Word.TheVariants.{And, Or}
 use Rattle.lucene_lang.specs.declared.written.Written.{Written}
 use Rattle.lucene_lang.specs.declared.written.Written.TheVariants.{Bare, Escaped}
-use Rattle.lucene_lang.specs.Tokens.{Sort, Joins, Not, Star, Wild, To, Decimal, Plain, Phrase, Opening, Closing, Opens, Closes, Colon, Unclosed, Outside, InRun, InPhrase, goes_on, on_sign, start, ends_run, is_sign, sign_of, is_blank, scan, tokens, run_sort, is_decimal, character, is_digit, is_bare, bare_sort, is_positive, unsigned}
+use Rattle.lucene_lang.specs.Tokens.{Sort, Joins, Not, Star, Wild, To, Decimal, Plain, Phrase, Opening, Closing, Opens, Closes, Colon, Unclosed, Outside, InRun, InPhrase, goes_on, on_sign, start, ends_run, is_sign, sign_of, is_blank, scan, tokens, run_sort, is_decimal, character, is_bare, bare_sort}
 use Rattle.lucene_lang.specs.Grammar.{End, Value, a_term, a_phrase, a_range, Leaf, everything, sought, Group, last, joined, Clause, asked, forbidden, Atom, a_leaf, enclosed, spell_name, spell_term, spell_end, spell_value, spell_leaf, spell_group, spell_clause, spell_atom}
 use Rattle.lucene_layout.specs.Layout.{written, word_text, open_text, close_text, token_text, in_run, in_phrase, is_empty, IsRunOf, HasText, EachHasText, text_value, text_leaf, text_group, text_clause, text_atom}
 

@@ -4,7 +4,7 @@ use Rattle.std.specs.Prelude.{◌&&◌, ◌==◌, nat_le, if◌then◌else◌}
 use Rattle.std.specs.List.{list_all}
 use Rattle.std.specs.Str.{chars}
 use Rattle.std.proofs.lemmas.Str.{chars-nil}
-use Rattle.lucene_lang.specs.Tokens.{is_digit, is_positive, unsigned}
+use Rattle.sig_base.specs.Digits.{is_digit, is_positive, unsigned}
 use Rattle.lucene_lang.specs.Faults.{begins_minus}
 
 pub positive_none : (t : List ℕ) → t ≡ [] → false ≡ is_positive (chars t)

@@ -3,13 +3,14 @@
 ghost use Rattle.std.specs.Prelude.{◌≡◌, ◌&&◌, nat_le, map, IfOk, IfErr};
 ghost use Rattle.std.specs.List.{list_all, list_any};
 ghost use Rattle.std.specs.Str.{chars};
+ghost use Rattle.sig_base.specs.Digits as digits;
 ghost use Rattle.lucene_lang.specs.Tokens as tokens;
 ghost use Rattle.lucene_scan.specs.View.{sort_view};
 
 use crate::runs::Run;
 use crate::token::Sort;
 use lucene_lang::{Word, Written};
-use sig_base::{Fault, Text, first_char};
+use sig_base::{Fault, Text, first_char, is_digit_char};
 use std::alloc::Global;
 
 fn is_bare(c: &Written) -> bool
@@ -62,21 +63,15 @@ pub fn text_of(alloc: Global, run: &Run) -> Result<Text, Fault>
     Ok(text)
 }
 
-fn is_digit(c: char) -> bool
-    ensures { result ≡ tokens.is_digit c }
-{
-    '0' <= c && c <= '9'
-}
-
 fn are_digits(text: &str) -> bool
-    ensures { result ≡ list_all tokens.is_digit (chars text.now) }
+    ensures { result ≡ list_all digits.is_digit (chars text.now) }
 {
-    text.chars().all(|c| is_digit(c))
+    text.chars().all(|c| is_digit_char(c))
 }
 
 #[tactic(auto, using(crate::proofs::Decimals::unsigned_none, crate::proofs::Decimals::unsigned_more, crate::proofs::Decimals::unsigned_same))]
 fn unsigned(text: &str) -> &str
-    ensures { chars result.now ≡ tokens.unsigned (chars text.now) }
+    ensures { chars result.now ≡ digits.unsigned (chars text.now) }
 {
     let Some((first, rest)) = first_char(text) else {
         return text;
@@ -88,14 +83,14 @@ fn unsigned(text: &str) -> &str
 }
 
 fn begins_positive(first: char, rest: &str) -> bool
-    ensures { result ≡ ((nat_le 49 first && nat_le first 57) && list_all tokens.is_digit (chars rest.now)) }
+    ensures { result ≡ ((nat_le 49 first && nat_le first 57) && list_all digits.is_digit (chars rest.now)) }
 {
     ('1' <= first && first <= '9') && are_digits(rest)
 }
 
 #[tactic(auto, using(crate::proofs::Decimals::positive_none, crate::proofs::Decimals::positive_more))]
 fn is_positive(text: &str) -> bool
-    ensures { result ≡ tokens.is_positive (chars text.now) }
+    ensures { result ≡ digits.is_positive (chars text.now) }
 {
     let Some((first, rest)) = first_char(text) else {
         return false;

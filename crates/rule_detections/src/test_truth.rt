@@ -13,19 +13,12 @@ ghost use Rattle.rule_detections.specs.Holds.{AreSame, Holds, Stands, ValueStand
 ghost use Rattle.sig_strings.specs.Fits.{Fits};
 
 use crate::test::Test;
-use event_schema::{Event, Schema, Value, decimal_in};
+use event_schema::{Event, Schema, Value, decimal_in, is_decimal};
 use itoa::Buffer;
 use modifier_words::Op;
-use sig_base::{Text, first_char, fold};
+use sig_base::{Text, same_folded};
 use sig_encode::Network;
 use sig_strings::SharedPattern;
-
-fn is_decimal(text: &str, number: i64) -> bool
-    ensures { IsTrue result ↔ (chars text.now ≡ signed_decimal number) }
-{
-    let mut buffer = Buffer::new();
-    text == decimal_in(&mut buffer, number)
-}
 
 /// Whether a value is this number, or a text that is its decimal.
 fn is_number(value: &Value, number: &i64) -> bool
@@ -159,30 +152,6 @@ fn has_text(value: &Value, text: &str) -> bool
             let mut buffer = Buffer::new();
             same_folded(text, decimal_in(&mut buffer, *number))
         }
-    }
-}
-
-/// Whether two texts are one, where A to Z are taken for a to z.
-fn same_folded(a: &str, b: &str) -> bool
-    ensures { result ≡ bytes_eq (folded (chars a.now)) (folded (chars b.now)) }
-{
-    let mut left = a;
-    let mut right = b;
-    while let Some((c, rest)) = first_char(left) {
-        match first_char(right) {
-            Some((d, more)) => {
-                if fold(c) != fold(d) {
-                    return false;
-                }
-                left = rest;
-                right = more;
-            }
-            None => return false,
-        }
-    }
-    match first_char(right) {
-        Some(_) => false,
-        None => true,
     }
 }
 

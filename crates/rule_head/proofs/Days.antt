@@ -5,9 +5,10 @@ use Rattle.std.specs.List.{list_all}
 use Rattle.std.specs.Str.{chars, all_scalars}
 use Rattle.std.proofs.lemmas.Bool.{and_parts, and_from, leb-true, lt-ltb, eqb-true}
 use Rattle.std.proofs.lemmas.Str.{chars-encodes}
+use Rattle.sig_base.specs.Digits.{is_digit}
 use Rattle.sig_base.specs.Texts.{is_ascii}
 use Rattle.sig_base.proofs.TextLemmas.{ascii_encodes, ascii_chars}
-use Rattle.rule_head.specs.Heads.{is_digit, two_digits, is_calendar_day, is_day_text}
+use Rattle.rule_head.specs.Heads.{two_digits, is_calendar_day, is_day_text}
 
 abbrev at : List ℕ → ℕ → ℕ
 at bs k = get_or bs k 0

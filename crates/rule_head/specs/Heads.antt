@@ -5,6 +5,7 @@ use Rattle.std.specs.Str.{bytes_eq}
 use Rattle.std.specs.declared.option.Option.{Option}
 use Rattle.jiff.specs.Words.{days_in_month}
 use Rattle.sig_base.specs.declared.refusal.Refusal.{Refusal}
+use Rattle.sig_base.specs.Digits.{is_digit}
 use Rattle.sig_base.specs.Judged.{must}
 use Rattle.yaml_tree.specs.Nodes.{place_of}
 use Rattle.uuid.specs.Text.{parsed}
@@ -28,9 +29,6 @@ is_status t = is_one_of (codes "stable" ∷ codes "test" ∷ codes "experimental
 
 abbrev pub is_level : Tree → Bool
 is_level t = is_one_of (codes "informational" ∷ codes "low" ∷ codes "medium" ∷ codes "high" ∷ codes "critical" ∷ []) t
-
-abbrev pub is_digit : ℕ → Bool
-is_digit c = nat_le 48 c && nat_le c 57
 
 abbrev pub two_digits : ℕ → ℕ → ℕ
 two_digits a b = 10 * (a - 48) + (b - 48)

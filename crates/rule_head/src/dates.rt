@@ -1,16 +1,16 @@
 //! Dates of rules: days of the Gregorian calendar, as ISO 8601 writes them.
 
 ghost use Rattle.std.specs.Prelude.{◌≡◌, ◌≤◌, ◌<◌, true};
-ghost use Rattle.std.specs.List.{list_all};
+ghost use Rattle.sig_base.specs.Digits.{is_digit};
 ghost use Rattle.rule_head.specs.Heads as spec;
 
 use jiff::civil::Date;
-use sig_base::Text;
+use sig_base::{Text, are_digits};
 
 /// The number that two digits are.
 fn two_digits(tens: u8, ones: u8) -> u8
-    requires tens { spec.is_digit tens ≡ true }
-    requires ones { spec.is_digit ones ≡ true }
+    requires tens { is_digit tens ≡ true }
+    requires ones { is_digit ones ≡ true }
     ensures value { result ≡ spec.two_digits tens ones }
     ensures small { result ≤ 99 }
 {
@@ -25,12 +25,6 @@ fn is_calendar_day(year: u16, month: u8, day: u8) -> bool
     ensures { result ≡ spec.is_calendar_day year month day }
 {
     Date::new(year as i16, month as i8, day as i8).is_ok()
-}
-
-fn are_digits(bytes: &[u8]) -> bool
-    ensures { result ≡ list_all spec.is_digit bytes.now }
-{
-    bytes.iter().all(|byte| 48 <= *byte && *byte <= 57)
 }
 
 /// Whether the bytes are `YYYY-MM-DD` with a day of the calendar.

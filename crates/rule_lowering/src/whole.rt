@@ -1,19 +1,10 @@
 //! The numbers that fields of whole numbers have.
 
-ghost use Rattle.std.specs.Prelude.{◌≡◌, ◌↔◌, IsTrue};
-ghost use Rattle.std.specs.Fmt.{signed_decimal};
+ghost use Rattle.std.specs.Prelude.{◌≡◌};
 ghost use Rattle.std.specs.Str.{chars};
 ghost use Rattle.rule_lowering.specs.WholeNumbers.{if_whole, written_number};
 
-use event_schema::decimal_in;
-use itoa::Buffer;
-
-fn is_decimal(text: &str, number: i64) -> bool
-    ensures { IsTrue result ↔ (chars text.now ≡ signed_decimal number) }
-{
-    let mut buffer = Buffer::new();
-    text == decimal_in(&mut buffer, number)
-}
+use event_schema::is_decimal;
 
 /// The number, unless it's -2^63, which no field has.
 pub fn whole_number(number: i64) -> Option<i64>

@@ -2,6 +2,7 @@
 use Rattle.std.specs.Prelude.{◌≡◌, ℕ, ◌+◌, ◌-◌, ◌*◌, ◌^◌, ◌<◌, Bool, false, ◌&&◌, ◌||◌, nat_le, nat_lt, if◌then◌else◌, List, [], ◌∷◌, length, map, codes, Option, Some, None, option_map, option_and_then, encode_utf8_all}
 use Rattle.std.specs.List.{list_all}
 use Rattle.std.specs.Str.{bytes_eq, chars}
+use Rattle.sig_base.specs.Digits.{is_positive}
 use Rattle.command_line.specs.Computed.{given}
 use Rattle.command_line.specs.Given.{Item, value_of, names_of}
 use Rattle.command_line.specs.Table.{row_of, backend, schema, pipeline, seed, events, IsGiven}
@@ -51,14 +52,6 @@ only (name ∷ []) = Some name
 only (name ∷ other ∷ others) = None
 
 -- ---- numbers
-
-abbrev pub is_digit : ℕ → Bool
-is_digit c = nat_le 48 c && nat_le c 57
-
--- a digit 1 to 9, and any digits
-abbrev pub is_positive : List ℕ → Bool
-is_positive [] = false
-is_positive (c ∷ cs) = nat_le 49 c && nat_le c 57 && list_all is_digit cs
 
 -- a canonical decimal without a sign: 0, or a digit 1 to 9 and any digits
 abbrev pub is_canonical : List ℕ → Bool

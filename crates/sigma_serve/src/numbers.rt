@@ -1,8 +1,9 @@
 //! Numbers on the command line.
 
 ghost use Rattle.std.specs.Prelude.{◌≡◌, ◌+◌, ◌-◌, ◌*◌, ◌≤◌, min, option_map, option_and_then};
-ghost use Rattle.std.specs.List.{list_all};
 ghost use Rattle.sigma_serve.specs.Words as accepted_words;
+
+use sig_base::is_positive;
 
 /// One more digit behind a number, where 2^32 stands for all that is larger.
 fn grown(value: u64, digit: u8) -> u64
@@ -25,22 +26,6 @@ fn number_of(digits: &[u8]) -> u64
         value = grown(value, *digit);
     }
     value
-}
-
-fn are_digits(bytes: &[u8]) -> bool
-    ensures { result ≡ list_all accepted_words.is_digit bytes.now }
-{
-    bytes.iter().all(|byte| 48 <= *byte && *byte <= 57)
-}
-
-/// Whether the bytes are a digit from 1 on, and any digits.
-fn is_positive(bytes: &[u8]) -> bool
-    ensures { result ≡ accepted_words.is_positive bytes.now }
-{
-    let Some((first, rest)) = bytes.split_first() else {
-        return false;
-    };
-    49 <= *first && *first <= 57 && are_digits(rest)
 }
 
 /// Whether the bytes are a canonical decimal without a sign.

@@ -1,6 +1,5 @@
 mod Folds
 mod Columned
-mod Named
 mod Patterned
 mod Judged
 mod Deep

@@ -1,5 +1,4 @@
 mod Columns
 mod Passed
-mod Same
 mod Truths
 mod Valued

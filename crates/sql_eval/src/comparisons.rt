@@ -2,39 +2,14 @@
 
 ghost use Rattle.std.specs.Prelude.{◌≡◌};
 ghost use Rattle.std.specs.Str.{chars, bytes_eq};
-ghost use Rattle.sig_base.specs.Folding.{folded};
 ghost use Rattle.sql_lang.specs.Meaning as meaning;
 ghost use Rattle.sql_lang.specs.View.{collate_view, op_view};
 ghost use Rattle.sql_eval.specs.View.{truth_view, seen_view, seen_option_view};
 
 use crate::seen::Seen;
 use crate::truth::{Truth, truth_of};
-use sig_base::{first_char, fold};
+use sig_base::same_folded;
 use sql_lang::{Collate, SqlOp};
-
-/// Whether two texts are equal after folding.
-fn same_folded(a: &str, b: &str) -> bool
-    ensures { result ≡ bytes_eq (folded (chars a.now)) (folded (chars b.now)) }
-{
-    let mut left = a;
-    let mut right = b;
-    while let Some((c, rest)) = first_char(left) {
-        match first_char(right) {
-            Some((d, more)) => {
-                if fold(c) != fold(d) {
-                    return false;
-                }
-                left = rest;
-                right = more;
-            }
-            None => return false,
-        }
-    }
-    match first_char(right) {
-        Some(_) => false,
-        None => true,
-    }
-}
 
 fn same_text(a: &str, b: &str) -> bool
     ensures { result ≡ bytes_eq (chars a.now) (chars b.now) }

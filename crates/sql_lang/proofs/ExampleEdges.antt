@@ -5,9 +5,10 @@ use Rattle.std.specs.Prelude.{Option, Some, None, Ok, pos}
 use Rattle.std.specs.Str.{chars, is_utf8, IsUtf8, IsValidUpTo}
 use Rattle.std.proofs.lemmas.List.{take_all}
 use Rattle.std.proofs.lemmas.Str.{IsUtf8-from_is_utf8, is_utf8-from_IsUtf8}
+use Rattle.sig_base.specs.Digits.{unsigned}
 use Rattle.query_tokens.specs.Places.{At, code_at, IsText, IsBadAt, nth}
 use Rattle.query_tokens.specs.Tokens.{places}
-use Rattle.sql_lang.specs.Tokens.{Eq, Ne, Lt, scan, tokens, is_number, run_sort, text_sort, unsigned, number_of}
+use Rattle.sql_lang.specs.Tokens.{Eq, Ne, Lt, scan, tokens, is_number, run_sort, text_sort, number_of}
 use Rattle.sql_lang.specs.Grammar.{Collate, Unsaid, NoCase, Binary, a_name, a_literal, a_text, a_number, constant}
 use Rattle.sql_lang.specs.Expression.{Or, no_exprs, or_zero, escape_of, depth}
 use Rattle.sql_lang.specs.Names.{column_of}

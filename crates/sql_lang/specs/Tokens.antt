@@ -4,6 +4,7 @@ use Rattle.std.specs.Prelude.{ℕ, zero, suc, ◌+◌, ◌-◌, ◌*◌, ◌^◌
 use Rattle.std.specs.Char.{is_ascii_alphanumeric}
 use Rattle.std.specs.List.{list_all}
 use Rattle.std.specs.Str.{bytes_eq}
+use Rattle.sig_base.specs.Digits.{is_digit, unsigned}
 use Rattle.sig_base.specs.Folding.{folded}
 use Rattle.query_tokens.specs.Places.{At, origin, after}
 use Rattle.query_tokens.specs.Tokens as texts
@@ -70,9 +71,6 @@ abbrev pub keyword_in : List (List ℕ × Keyword) → List ℕ → Option Keywo
 keyword_in [] w = None
 keyword_in (row ∷ rows) w = if bytes_eq w row.0 then Some row.1 else keyword_in rows w
 
-abbrev pub is_digit : ℕ → Bool
-is_digit c = nat_le 48 c && nat_le c 57
-
 -- the number that these digits write behind n
 abbrev pub digits_from : ℕ → List ℕ → ℕ
 digits_from n [] = n
@@ -82,11 +80,6 @@ digits_from n (c ∷ cs) = digits_from (10 * n + (c - 48)) cs
 abbrev pub are_digits : List ℕ → Bool
 are_digits [] = false
 are_digits (c ∷ cs) = list_all is_digit (c ∷ cs)
-
--- the characters behind an optional minus
-abbrev pub unsigned : List ℕ → List ℕ
-unsigned [] = []
-unsigned (c ∷ cs) = if c == 45 then cs else c ∷ cs
 
 -- digits with an optional minus, from -(2^63 - 1) to 2^63 - 1
 unfoldable pub is_number : List ℕ → Bool

@@ -7,9 +7,10 @@ use Rattle.std.proofs.lemmas.List.Folds.{list_all-append}
 use Rattle.std.proofs.lemmas.Bool.Decides.{nat_tests}
 use Rattle.std.proofs.lemmas.Int.{ints}
 use Rattle.std.proofs.lemmas.Fmt.{decimal_by_steps}
+use Rattle.sig_base.specs.Digits.{is_digit, unsigned}
 use Rattle.event_schema.specs.Events.{IsWholeNumber}
 use Rattle.sql_lang.proofs.Both.{both_true}
-use Rattle.sql_lang.specs.Tokens.{is_digit, digits_from, are_digits, unsigned, is_number, negative, number_of}
+use Rattle.sql_lang.specs.Tokens.{digits_from, are_digits, is_number, negative, number_of}
 
 record Writes (n : ℕ) (ds : List ℕ) : Type 0 where
   digits : are_digits ds ≡ true

@@ -5,8 +5,9 @@ use Rattle.std.specs.List.{list_all}
 use Rattle.std.specs.Str.{all_scalars}
 use Rattle.std.proofs.lemmas.List.Folds.{list_all-append}
 use Rattle.std.proofs.lemmas.Bool.Decides.{eqb_tells, nat_tests}
+use Rattle.sig_base.specs.Digits.{is_digit, unsigned}
 use Rattle.query_tokens.specs.Places.{At, after, origin}
-use Rattle.sql_lang.specs.Tokens.{Keyword, SELECT, FROM, WHERE, OR, AND, NOT, IS, NULL, LIKE, ESCAPE, GLOB, REGEXP, IN, BETWEEN, COLLATE, NOCASE, BINARY, Op, Eq, Ne, Lt, Lte, Gt, Gte, Sort, Word, Name, Text, Number, Opening, Closing, Comma, Star, Semicolon, Compares, Unclosed, Other, Mode, Outside, Whole, InRun, InQuotes, AfterQuotes, start, scan, tokens, run_sort, text_sort, quoted_sort, is_run_char, is_digit, is_number, are_digits, unsigned, is_plain}
+use Rattle.sql_lang.specs.Tokens.{Keyword, SELECT, FROM, WHERE, OR, AND, NOT, IS, NULL, LIKE, ESCAPE, GLOB, REGEXP, IN, BETWEEN, COLLATE, NOCASE, BINARY, Op, Eq, Ne, Lt, Lte, Gt, Gte, Sort, Word, Name, Text, Number, Opening, Closing, Comma, Star, Semicolon, Compares, Unclosed, Other, Mode, Outside, Whole, InRun, InQuotes, AfterQuotes, start, scan, tokens, run_sort, text_sort, quoted_sort, is_run_char, is_number, are_digits, is_plain}
 use Rattle.query_tokens.specs.Tokens.{sorts}
 use Rattle.sql_lang.specs.Grammar.{Ors, last_and, and_or, Ands, last_not, not_and, Nots, not_not, a_test, enclosed, Query, spell_test, spell_or, spell_and, spell_nots, spell_head, spell_end, spell_query}
 use Rattle.sql_lang.proofs.Both.{both_true}

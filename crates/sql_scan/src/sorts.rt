@@ -2,13 +2,14 @@
 
 ghost use Rattle.std.specs.Prelude.{◌≡◌, ◌++◌, ◌∷◌, [], IfOk, IfErr, OnOk, ◌<◌, ◌^◌, true};
 ghost use Rattle.std.specs.List.{list_all};
+ghost use Rattle.sig_base.specs.Digits.{is_digit, unsigned};
 ghost use Rattle.sig_base.specs.Folding.{folded};
 ghost use Rattle.sql_lang.specs.Tokens as tokens;
 ghost use Rattle.sql_scan.specs.Numerals.{IsSmall, IsNumber, begins_minus, signed};
 ghost use Rattle.sql_scan.specs.View.{sort_view, keyword_option_view};
 
 use crate::token::{Keyword, Numeral, Sort};
-use sig_base::{Fault, Text, fold};
+use sig_base::{Fault, Text, fold, is_digit_char};
 use std::alloc::Global;
 
 /// The keyword that a folded word is.
@@ -119,7 +120,7 @@ pub(crate) fn quoted_sort(alloc: Global, quote: char, word: &[char]) -> Result<S
 
 /// The characters behind an optional minus.
 fn unsigned(word: &[char]) -> &[char]
-    ensures { result.now ≡ tokens.unsigned word.now }
+    ensures { result.now ≡ unsigned word.now }
 {
     match word {
         [first, rest @ ..] => { if *first == '-' { rest } else { word } }
@@ -128,9 +129,9 @@ fn unsigned(word: &[char]) -> &[char]
 }
 
 fn all_digits(word: &[char]) -> bool
-    ensures { result ≡ list_all tokens.is_digit word.now }
+    ensures { result ≡ list_all is_digit word.now }
 {
-    word.iter().all(|c| '0' <= *c && *c <= '9')
+    word.iter().all(|c| is_digit_char(*c))
 }
 
 fn are_digits(word: &[char]) -> bool

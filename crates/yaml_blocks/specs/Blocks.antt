@@ -1,8 +1,9 @@
 -- Blocks of lines: how they divide, keys, and the scalars that go on over lines.
 use Rattle.std.specs.Prelude.{ℕ, suc, Bool, true, false, not, ◌&&◌, ◌||◌, ◌==◌, nat_lt, nat_le, if◌then◌else◌, List, [], ◌∷◌, ◌++◌, drop, map as list_map, Option, Some, None, is_some, Ok, Err}
+use Rattle.sig_base.specs.Digits.{is_digit}
 use Rattle.yaml_inline.specs.File.{Line, is_empty, begins, ends_line}
 use Rattle.yaml_inline.specs.Line.{spot, refused, syntax, Read, ◌>>=◌, indent, body, is_comment, is_empty_line, bad_start, unexpected, plain_front, plain_rest, is_dash}
-use Rattle.yaml_inline.specs.Scalar.{Chomping, clip, strip, keep, block_text, is_digit, plain_joint}
+use Rattle.yaml_inline.specs.Scalar.{Chomping, clip, strip, keep, block_text, plain_joint}
 
 -- the lines at the front that pass a test, and the lines behind them
 abbrev pub front_while : (Line → Bool) → List Line → List Line

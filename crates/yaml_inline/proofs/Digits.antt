@@ -3,8 +3,9 @@ use Rattle.std.proofs.Common.{◌≡◌, ℕ, ◌+◌, ◌-◌, ◌*◌, ◌<◌
 use Rattle.std.specs.List.{list_all}
 use Rattle.std.proofs.lemmas.List.{drop_more, at_drop_all}
 use Rattle.std.proofs.lemmas.Bool.Decides.{nat_tests}
+use Rattle.sig_base.specs.Digits.{is_digit}
 use Rattle.yaml_inline.specs.File.{is_empty}
-use Rattle.yaml_inline.specs.Scalar.{is_digit, digits_from, value_within}
+use Rattle.yaml_inline.specs.Scalar.{digits_from, value_within}
 
 -- the number of digits behind n, if it is at most this large
 abbrev pub value_from : ℕ → ℕ → List ℕ → Option ℕ

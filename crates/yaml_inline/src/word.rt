@@ -6,7 +6,7 @@ ghost use Rattle.yaml_tree.specs.Tree.{At, scalar};
 ghost use Rattle.yaml_tree.specs.View.{kind_view};
 ghost use Rattle.yaml_inline.specs.Scalar as spec;
 
-use sig_base::Text;
+use sig_base::{Text, is_digit_char};
 use std::alloc::{AllocError, Global};
 use yaml_tree::Kind;
 
@@ -111,7 +111,7 @@ fn digits_value(most: u64, chars: &[char]) -> Option<u64>
     }
     let mut value: u128 = 0;
     for c in chars {
-        if !is_digit(*c) {
+        if !is_digit_char(*c) {
             return None;
         }
         value = 10 * value + u128::from(*c as u32 - 48);
@@ -120,10 +120,4 @@ fn digits_value(most: u64, chars: &[char]) -> Option<u64>
         }
     }
     Some(value as u64)
-}
-
-fn is_digit(c: char) -> bool
-    ensures { result ≡ spec.is_digit c }
-{
-    '0' <= c && c <= '9'
 }

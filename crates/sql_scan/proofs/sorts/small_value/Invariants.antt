@@ -1,6 +1,7 @@
 use Rattle.std.proofs.Common.{◌≡◌, ◌<◌, ◌^◌, true, drop}
 use Rattle.std.specs.List.{list_all}
-use Rattle.sql_lang.specs.Tokens.{digits_from, is_digit}
+use Rattle.sig_base.specs.Digits.{is_digit}
+use Rattle.sql_lang.specs.Tokens.{digits_from}
 use Rattle.sql_scan.proofs.sorts.small_value.Given as goal
 
 abbrev pub invariant-loop-c : goal.invariant-loop-c

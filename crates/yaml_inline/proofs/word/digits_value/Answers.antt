@@ -12,5 +12,5 @@ returns-then-value-from-clause-value c =
     let n = 10 * l.value + (c.c-item.result - 48) in
     sym (value_start c.args.most xs some
     ∙ (sym l.invariant.1
-    ∙ (value_turn l.value c.args.most xs l.c-index c.c-item.result (omega arith) c.c-item.is (sym c.is_digit.ensures ∙ c.if-not-is_digit.false)
+    ∙ (value_turn l.value c.args.most xs l.c-index c.c-item.result (omega arith) c.c-item.is (sym c.is_digit_char.ensures ∙ c.if-not-is_digit_char.false)
     ∙ value_past n c.args.most (drop (l.c-index + 1) xs) (omega arith))))

@@ -4,7 +4,7 @@ use Rattle.std.specs.Fmt.{signed_decimal}
 use Rattle.std.specs.Str.{chars, bytes_eq, IsUtf8}
 use Rattle.std.proofs.lemmas.Slice.Eq.{bytes_eq-Decides}
 use Rattle.sig_base.proofs.TextLemmas.{bytes_eq-chars}
-use Rattle.rule_detections.proofs.test_truth.is_decimal.Goals as goal
+use Rattle.event_schema.proofs.value.is_decimal.Goals as goal
 
 -- two texts have the same bytes exactly where they have the same characters
 same_text : (r : Bool) (text own wanted : List ℕ) → IsUtf8 text → IsUtf8 own → r ≡ bytes_eq text own → chars own ≡ wanted
