@@ -1,8 +1,5 @@
-pub mod Adding
-pub mod Distinct
 pub mod Grouping
-pub mod Placing
-pub mod Reaching
+pub mod Spanning
 pub mod Standing
 pub mod Stepping
 pub mod Timely

@@ -17,6 +17,7 @@ use Rattle.correlation_engine.specs.Engines.{plain, bounds_of, queues_of, IsNew,
 use Rattle.correlation_engine.specs.Limits.{IsWithinLimits}
 use Rattle.correlation_engine.specs.Steps.{Each, IsTimely, IsGrown, IsAdvanced, reports_each}
 use Rattle.correlation_engine.specs.declared.watch.Watch.{Watch}
+use Rattle.correlation_engine.proofs.Timely.{fit_grown}
 
 plain_queue : (es : Entries) (g : List (List ℕ)) → queue_of (plain es) g ≡ held es g
 plain_queue [] g = refl
@@ -40,7 +41,7 @@ new_holds (w ∷ ws) all = (holds_out w.queues.entries (kept w.bound []) all.0.e
 pub new_watches : (ws : List Watch) → AllByRecursion IsNew ws → AllByRecursion (IsWatch None) ws
 new_watches [] all = tt
 new_watches (w ∷ ws) all = (
-  record { limits = all.0.limits; in_time = λ g. subst IsInTime (sym (all.0.empty g)) tt; until = λ t behind g. subst (IsUntil t) (sym (all.0.empty g)) tt },
+  record { limits = all.0.limits; fit = all.0.fit; in_time = λ g. subst IsInTime (sym (all.0.empty g)) tt; until = λ t behind g. subst (IsUntil t) (sym (all.0.empty g)) tt },
   new_watches ws all.1,
 )
 
@@ -67,6 +68,7 @@ grown_watches last (x ∷ xs) [] each all = absurd each
 grown_watches last (x ∷ xs) (y ∷ ys) each all = (
   record {
     limits = subst IsWithinLimits (sym each.0.bound) all.0.limits;
+    fit = fit_grown x y each.0 all.0.fit;
     in_time = λ g. subst IsInTime (sym (each.0.same g)) (all.0.in_time g);
     until = λ t behind g. subst (IsUntil t) (sym (each.0.same g)) (all.0.until t behind g);
   },
@@ -96,7 +98,7 @@ advanced_watches e last [] [] each all = tt
 advanced_watches e last [] (y ∷ ys) each all = absurd each
 advanced_watches e last (x ∷ xs) [] each all = absurd each
 advanced_watches e last (x ∷ xs) (y ∷ ys) each all =
-    (record { limits = subst IsWithinLimits (sym each.0.bound) all.0.limits; in_time = each.0.in_time; until = each.0.until }, advanced_watches e last xs ys each.1 all.1)
+    (record { limits = subst IsWithinLimits (sym each.0.bound) all.0.limits; fit = each.0.fit; in_time = each.0.in_time; until = each.0.until }, advanced_watches e last xs ys each.1 all.1)
 
 pub last_more : (history : List Taken) (e : Taken) → last_moment (history ++ e ∷ []) ≡ Some e.moment
 last_more [] e = refl
@@ -113,7 +115,7 @@ each_reports e history n (w ∷ ws) behind so =
 -- each can take an event that isn't earlier
 pub timely_all : (last : Option ℤ) (t : ℤ) (ws : List Watch) → IsBehind last t → AllByRecursion (IsWatch last) ws → AllByRecursion (IsTimely t) ws
 timely_all last t [] behind all = tt
-timely_all last t (w ∷ ws) behind all = (record { limits = all.0.limits; in_time = all.0.in_time; until = all.0.until t behind }, timely_all last t ws behind all.1)
+timely_all last t (w ∷ ws) behind all = (record { limits = all.0.limits; fit = all.0.fit; in_time = all.0.in_time; until = all.0.until t behind }, timely_all last t ws behind all.1)
 
 pub each_length : (R : Watch → Watch → Type 0) (xs ys : List Watch) → Each R xs ys → length ys ≡ length xs
 each_length R [] [] each = refl

@@ -1,48 +1,23 @@
 -- Matches on their way into queues, and one correlation after the other.
-use Rattle.std.proofs.Common.{◌≡◌, ℕ, suc, ◌+◌, ◌<◌, List, [], ◌∷◌, ◌++◌, refl, ap, sym, subst, ◌∙◌, arith, length}
+use Rattle.std.proofs.Common.{◌≡◌, ℕ, ◌+◌, ◌<◌, ◌≤◌, append-nil, List, [], ◌∷◌, ◌++◌, refl, ap, sym, subst, ◌∙◌, arith, length}
 use Rattle.std.proofs.Math.ListN.{set}
-use Rattle.std.proofs.lemmas.List.{append_assoc, map-append, drop_more}
+use Rattle.std.proofs.lemmas.List.{append_assoc, drop_more, drop_all}
 use Rattle.std.proofs.lemmas.Int.{ints}
 use Rattle.std.specs.Prelude.{ℤ, ◌≤ℤ◌, get_or, drop}
 use Rattle.std.specs.declared.alloc.Global.{Global}
 use Rattle.std.specs.declared.vec.Vec.{Vec}
 use Rattle.correlation_windows.specs.Heaps.{IsUntil}
-use Rattle.correlation_windows.specs.History.{Taken, Grouped, event_matches}
+use Rattle.correlation_windows.specs.History.{Taken, event_matches}
 use Rattle.correlation_windows.specs.Over.{reports_over}
 use Rattle.correlation_windows.specs.Queues.{held}
-use Rattle.correlation_windows.specs.Ready.{AllAt, AllFresh, IsFresh, grouped}
+use Rattle.correlation_windows.specs.Ready.{AllAt, grouped}
 use Rattle.correlation_windows.specs.declared.bound.Bound.{Bound}
 use Rattle.correlation_windows.specs.declared.found.Found.{Found}
 use Rattle.correlation_windows.specs.declared.matches.Match.{Match}
 use Rattle.correlation_windows.specs.declared.report.Report.{Report}
 use Rattle.correlation_windows.proofs.Windowing as windowing
-use Rattle.correlation_engine.specs.Steps.{IsPrepared, ArePrepared, IsGrown, reports_each}
+use Rattle.correlation_engine.specs.Steps.{IsPrepared, ArePrepared, IsGrown, reports_each, total_founds}
 use Rattle.correlation_engine.specs.declared.watch.Watch.{Watch}
-use Rattle.correlation_engine.proofs.Walking.{all_push}
-
--- one match more has its empty queue
-pub queued_more : (old new : List Found) (f : Found) (own : Grouped) (before rest all : List Grouped) → before ≡ own ∷ rest → f.group ≡ own.0 → f.found ≡ own.1 → new ≡ old ++ f ∷ []
-    → grouped old ++ before ≡ all → grouped new ++ rest ≡ all
-queued_more old new f own before rest all next group found is so =
-    ap (λ fs. grouped fs ++ rest) is
-    ∙ (ap (λ ms. ms ++ rest) (map-append (λ f. (f.group, f.found)) old (f ∷ []))
-    ∙ (append_assoc (grouped old) (grouped (f ∷ [])) rest
-    ∙ (ap (λ ms. grouped old ++ ms) (first own group found)
-    ∙ (ap (λ ms. grouped old ++ ms) (sym next) ∙ so))))
-  where
-    first : (own : Grouped) → f.group ≡ own.0 → f.found ≡ own.1 → (f.group, f.found) ∷ rest ≡ own ∷ rest
-    first (g, m) p q = ap (λ (x : List (List ℕ)). (x, f.found) ∷ rest) p ∙ ap (λ (x : Match). (g, x) ∷ rest) q
-
-pub fresh_more : (n : ℕ) (old new : List Found) (f : Found) → AllFresh n old → IsFresh n f → new ≡ old ++ f ∷ [] → AllFresh n new
-fresh_more n old new f all fresh is = subst (AllFresh n) (sym is) (all_push (IsFresh n) old f all fresh)
-
--- as many matches as there were
-pub fresh_all : (n : ℕ) (founds : List Found) (ms : List Grouped) → grouped founds ≡ ms → n ≡ length ms → AllFresh n founds → AllFresh (length founds) founds
-fresh_all n founds ms is count all = subst (λ (k : ℕ). AllFresh k founds) (count ∙ (ap length (sym is) ∙ length-grouped founds)) all
-  where
-    length-grouped : (fs : List Found) → length (grouped fs) ≡ length fs
-    length-grouped [] = refl
-    length-grouped (f ∷ fs) = ap suc (length-grouped fs)
 
 -- the matches of an event have its moment
 pub found_at : (b : Bound) (e : Taken) (founds : List Found) → grouped founds ≡ event_matches b e → AllAt e.moment founds
@@ -57,7 +32,7 @@ until_later s t le [] all = tt
 until_later s t le (m ∷ ms) all = (let first : m.moment ≤ℤ s = all.0 in omega (arith, ints, first, le), until_later s t le ms all.1)
 
 pub grown_self : (w : Watch) → IsGrown w w
-grown_self w = record { bound = refl; same = λ g. refl }
+grown_self w = record { bound = refl; kind = refl; rules = refl; same = λ g. refl }
 
 -- one correlation more is prepared
 prepared_suc : (e : Taken) (ws : List Watch) (fs : List (Vec Found Global)) (w : Watch) (f : Vec Found Global) → ArePrepared e ws fs → length fs < length ws → IsPrepared e w f.items → ArePrepared e (set ws (length fs) w) (fs ++ f ∷ [])
@@ -84,3 +59,23 @@ each_reported e ws n w p old new lt at same is =
     ap (λ r. r ++ reports_each e (n + 1) (drop (n + 1) ws)) (is ∙ ap (λ (k : ℕ). old ++ reports_over k w.bound (held w.queues.entries) [] (event_matches w.bound e)) same)
     ∙ (append_assoc old (reports_over n w.bound (held w.queues.entries) [] (event_matches w.bound e)) (reports_each e (n + 1) (drop (n + 1) ws))
     ∙ ap (λ vs. old ++ reports_each e n vs) (ap (λ v. v ∷ drop (n + 1) ws) at ∙ sym (drop_more ws n w lt)))
+
+-- the matches of one correlation more
+founds_suc : (all : List (Vec Found Global)) (i : ℕ) (d : Vec Found Global) → i < length all → total_founds (drop i all) ≡ length (get_or all i d).items + total_founds (drop (i + 1) all)
+founds_suc all i d lt = ap total_founds (drop_more all i d lt)
+
+pub founds_step : (all : List (Vec Found Global)) (i : ℕ) (f : Vec Found Global) → i < length all → f ≡ get_or all i f → total_founds (drop i all) ≡ length f.items + total_founds (drop (i + 1) all)
+founds_step all i f lt is = founds_suc all i f lt ∙ ap (λ (v : Vec Found Global). length v.items + total_founds (drop (i + 1) all)) (sym is)
+
+pub founds_end : (all : List (Vec Found Global)) (i : ℕ) → length all ≤ i → total_founds (drop i all) ≡ 0
+founds_end all i le = ap total_founds (drop_all i all le)
+
+pub founds_first : (f : Vec Found Global) (before rest : List (Vec Found Global)) (reports capacity : ℕ) → before ≡ f ∷ rest → reports + total_founds before ≤ capacity → reports + length f.items ≤ capacity
+founds_first f before rest reports capacity e le = let is : total_founds before ≡ length f.items + total_founds rest = ap total_founds e in omega (arith, is, le)
+
+pub founds_rest : (f : Vec Found Global) (before rest : List (Vec Found Global)) (old new was is : ℕ) → before ≡ f ∷ rest → old + total_founds before ≤ was → new ≤ old + length f.items → is ≡ was → new + total_founds rest ≤ is
+founds_rest f before rest old new was is e le few same = let sum : total_founds before ≡ length f.items + total_founds rest = ap total_founds e in omega (arith, sum, le, few, same)
+
+-- all reports are there
+pub all_reported : (e : Taken) (ws : List Watch) (n : ℕ) (told start : List Report) (whole : List Report) → length ws ≤ n → told ++ reports_each e n (drop n ws) ≡ start ++ whole → told ≡ start ++ whole
+all_reported e ws n told start whole le so = sym (ap (λ vs. told ++ reports_each e n vs) (drop_all n ws le) ∙ append-nil told) ∙ so

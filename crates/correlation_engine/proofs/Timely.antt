@@ -1,11 +1,10 @@
 -- Queues in the order of time, from event to event.
-use Rattle.std.proofs.Common.{◌≡◌, ℕ, Bool, true, false, List, [], ◌∷◌, ◌++◌, sym, subst, arith}
+use Rattle.std.proofs.Common.{◌≡◌, ℕ, Bool, true, false, List, [], ◌∷◌, ◌++◌, ap, sym, subst, ◌∙◌, arith, length}
 use Rattle.std.proofs.lemmas.Int.{ints}
 use Rattle.std.specs.Prelude.{ℤ, ◌≤ℤ◌, int_lt, if◌then◌else◌}
 use Rattle.std.specs.List.{AllByRecursion}
 use Rattle.correlation_windows.specs.Groups.{same_group}
 use Rattle.correlation_windows.specs.Heaps.{IsInTime, IsUntil}
-use Rattle.correlation_windows.specs.History.{Taken, Grouped, event_matches}
 use Rattle.correlation_windows.specs.Laws.{recent}
 use Rattle.correlation_windows.specs.Queues.{Entries, held}
 use Rattle.correlation_windows.specs.Ready.{AllAt, UntilEach, grouped}
@@ -13,9 +12,8 @@ use Rattle.correlation_windows.specs.Windows.{of_group}
 use Rattle.correlation_windows.specs.declared.bound.Bound.{Bound}
 use Rattle.correlation_windows.specs.declared.found.Found.{Found}
 use Rattle.correlation_windows.specs.declared.matches.Match.{Match}
-use Rattle.correlation_windows.proofs.Windowing as windowing
 use Rattle.correlation_engine.specs.Limits.{IsWithinLimits}
-use Rattle.correlation_engine.specs.Steps.{IsTimely, IsGrown}
+use Rattle.correlation_engine.specs.Steps.{IsTimely, IsGrown, IsFitting}
 use Rattle.correlation_engine.specs.declared.watch.Watch.{Watch}
 
 -- all are of this moment
@@ -75,18 +73,14 @@ pub in_time_advanced : (t after : ℤ) (old new : Entries) (founds : List Found)
 in_time_advanced t after old new founds is all until in_time g =
     subst IsInTime (sym (is g)) (in_time_recent after (held old g ++ of_group g (grouped founds)) (in_time_append t (held old g) (of_group g (grouped founds)) (in_time g) (until g) (same_group_of t founds g all)))
 
+pub fit_grown : (x y : Watch) → IsGrown x y → IsFitting x → IsFitting y
+fit_grown x y grown so = record { kind = grown.kind ∙ (so.kind ∙ ap (λ (b : Bound). b.kind) (sym grown.bound)); rules = grown.rules ∙ (so.rules ∙ ap (λ (b : Bound). length b.rules) (sym grown.bound)) }
+
 -- growth changes nothing of it
 pub timely_grown : (t : ℤ) (x y : Watch) → IsGrown x y → IsTimely t x → IsTimely t y
 timely_grown t x y grown so = record {
   limits = subst IsWithinLimits (sym grown.bound) so.limits;
+  fit = fit_grown x y grown so.fit;
   in_time = λ g. subst IsInTime (sym (grown.same g)) (so.in_time g);
   until = λ g. subst (IsUntil t) (sym (grown.same g)) (so.until g);
 }
-
--- the matches of an event aren't earlier than those that are held
-until_all : (t : ℤ) (entries : Entries) → UntilEach t entries → (ms : List Grouped) → windowing.AllAt t ms → AllByRecursion (λ m. UntilEach m.1.moment entries) ms
-until_all t entries until [] all = tt
-until_all t entries until (m ∷ ms) all = (subst (λ (a : ℤ). UntilEach a entries) (sym all.0) until, until_all t entries until ms all.1)
-
-pub until_matches : (b : Bound) (e : Taken) (entries : Entries) (ms : List Grouped) → UntilEach e.moment entries → ms ≡ event_matches b e → AllByRecursion (λ m. UntilEach m.1.moment entries) ms
-until_matches b e entries ms until is = subst (AllByRecursion (λ m. UntilEach m.1.moment entries)) (sym is) (until_all e.moment entries until (event_matches b e) (windowing.event_matches_at b e))

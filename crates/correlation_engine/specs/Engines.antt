@@ -10,6 +10,7 @@ use Rattle.correlation_windows.specs.Ready.{UntilEach}
 use Rattle.correlation_windows.specs.declared.bound.Bound.{Bound}
 use Rattle.correlation_windows.specs.declared.matches.Match.{Match}
 use Rattle.correlation_engine.specs.Limits.{IsWithinLimits}
+use Rattle.correlation_engine.specs.Steps.{IsFitting}
 use Rattle.correlation_engine.specs.declared.fault.TakeFault.{TakeFault}
 use Rattle.correlation_engine.specs.declared.fault.TakeFault.TheVariants.{Memory, OutOfOrder}
 use Rattle.correlation_engine.specs.declared.watch.Watch.{Watch}
@@ -27,11 +28,13 @@ queues_of ws = map (λ w. plain w.queues.entries) ws
 -- a correlation for which no match is held
 pub record IsNew (w : Watch) : Type 0 where
   pub limits : IsWithinLimits w.bound
+  pub fit : IsFitting w
   pub empty : (g : List (List ℕ)) → held w.queues.entries g ≡ []
 
 -- the matches of each group are in the order of time, and none is later than a moment that isn't before the last one
 pub record IsWatch (last : Option ℤ) (w : Watch) : Type 0 where
   pub limits : IsWithinLimits w.bound
+  pub fit : IsFitting w
   pub in_time : (g : List (List ℕ)) → IsInTime (held w.queues.entries g)
   pub until : (t : ℤ) → IsBehind last t → UntilEach t w.queues.entries
 

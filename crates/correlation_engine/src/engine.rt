@@ -68,7 +68,7 @@ fn watches_of(alloc: Global, bounds: Vec<Bound>) -> Result<Vec<Watch>, Fault>
 {
     let mut watches = Vec::with_capacity(alloc, bounds.len())?;
     for bound in bounds {
-        let queues = Queues::new(alloc);
+        let queues = Queues::new(alloc, bound.kind, bound.rules.as_slice().len());
         watches.push(Watch { bound, queues })?;
     }
     Ok(watches)
@@ -104,12 +104,12 @@ fn take_in(
     ensures fault { IfErr result (λ fault. IsFaultOf last arrival.now.moment fault) }
 {
     in_order(last, arrival)?;
-    let mut all = Vec::new(alloc);
-    let Ok(founds) = prepare_all(alloc, watches, arrival, &mut all) else {
+    let mut reports = Vec::new(alloc);
+    let Ok(founds) = prepare_all(alloc, watches, arrival, &mut reports) else {
         return Err(TakeFault::Memory);
     };
-    advance_all(watches, founds, arrival);
-    Ok(all)
+    advance_all(watches, founds, arrival, &mut reports);
+    Ok(reports)
 }
 
 impl Engine {

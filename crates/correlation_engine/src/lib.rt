@@ -7,14 +7,8 @@ pub use event_matches::matches_in;
 pub use fault::TakeFault;
 
 mod arrival;
-mod conditions;
-mod distinct_texts;
 mod engine;
 mod event_matches;
-mod event_reports;
-mod extents;
 mod fault;
-mod places;
 mod steps;
 mod watch;
-mod windows;

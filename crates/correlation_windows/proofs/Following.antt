@@ -21,7 +21,7 @@ until_append : (t : ℤ) (xs ys : List Match) → IsUntil t xs → IsUntil t ys 
 until_append t [] ys p q = q
 until_append t (x ∷ xs) ys p q = (p.0, until_append t xs ys p.1 q)
 
-until_recent : (t after : ℤ) (ms : List Match) → IsUntil t ms → IsUntil t (recent after ms)
+pub until_recent : (t after : ℤ) (ms : List Match) → IsUntil t ms → IsUntil t (recent after ms)
 until_recent t after [] all = tt
 until_recent t after (m ∷ ms) all = by (int_lt after m.moment) (until_recent t after ms all.1)
   where

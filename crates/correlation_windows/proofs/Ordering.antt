@@ -5,16 +5,16 @@ use Rattle.std.specs.List.{AllByRecursion, IsDistinct}
 use Rattle.std.specs.Map.{lookup, keys_of, set_value}
 use Rattle.std.proofs.lemmas.List.{get_or_append_left, length-append}
 use Rattle.std.proofs.Math.Seq.{get_or-append_seam}
-use Rattle.std.specs.declared.collections.VecDeque.{VecDeque}
-use Rattle.std.specs.declared.alloc.Global.{Global}
+use Rattle.correlation_windows.specs.Noted.{Queued}
 use Rattle.correlation_windows.specs.Groups.{same_group}
 use Rattle.correlation_windows.specs.Heaps.{at, fronts, first_moment, IsHeap, IsUntil, IsInTime, AllUntil, AllInTime, AllFilled, IsOrderly}
-use Rattle.correlation_windows.specs.Queues.{Entries, held, items_of}
+use Rattle.correlation_windows.specs.Queues.{Entries, held, items_of, IsFor, AllFor}
+use Rattle.correlation_windows.specs.declared.bound.CorrelationKind.{CorrelationKind}
 use Rattle.correlation_windows.specs.declared.matches.Match.{Match}
 use Rattle.correlation_windows.proofs.Pushing.{group_is, group_refl}
 
 abbrev Queue : Type 0
-Queue = VecDeque Match Global
+Queue = Queued
 
 abbrev the : Queue → Option Queue → Queue
 the q None = q
@@ -61,6 +61,18 @@ orderly_room test es fs q w is unique found same o =
     orderly_set test es fs q w is unique found (ap first_moment same)
     (subst IsInTime (sym same) (found_has (λ v. IsInTime v.items) test es q o.in_time found))
     (subst (λ (ms : List Match). 0 < length ms) (sym same) (found_has (λ v. 0 < length v.items) test es q o.filled found)) o
+
+-- a queue that notes the same
+pub fit_room : (kind : CorrelationKind) (rules : ℕ) (test : List (List ℕ) → Bool) (es fs : Entries) (q w : Queue) → fs ≡ set_value test es w → lookup test es ≡ Some q → w.kind ≡ q.kind → w.rules ≡ q.rules → AllFor kind rules es → AllFor kind rules fs
+fit_room kind rules test es fs q w is found kinds counts all =
+    let has = found_has (λ v. IsFor kind rules v) test es q all found in
+    subst (AllFor kind rules) (sym is) (set_has (λ v. IsFor kind rules v) test es w (record { kind = kinds ∙ has.kind; rules = counts ∙ has.rules }) all)
+
+pub fit_found : (kind : CorrelationKind) (rules : ℕ) (test : List (List ℕ) → Bool) (es : Entries) (q : Queue) → lookup test es ≡ Some q → AllFor kind rules es → IsFor kind rules q
+fit_found kind rules test es q found all = found_has (λ v. IsFor kind rules v) test es q all found
+
+pub fit_set : (kind : CorrelationKind) (rules : ℕ) (test : List (List ℕ) → Bool) (es fs : Entries) (w : Queue) → fs ≡ set_value test es w → IsFor kind rules w → AllFor kind rules es → AllFor kind rules fs
+fit_set kind rules test es fs w is has all = subst (AllFor kind rules) (sym is) (set_has (λ v. IsFor kind rules v) test es w has all)
 
 all_push : {X : Type 0} (P : X → Type 0) (xs : List X) (y : X) → AllByRecursion P xs → P y → AllByRecursion P (xs ++ y ∷ [])
 all_push P [] y all has = (has, tt)
@@ -127,6 +139,9 @@ fronts_until : (t : ℤ) (es : Entries) → AllFilled es → AllUntil t es → (
 fronts_until t [] filled until k lt = absurd (omega (arith, lt))
 fronts_until t (e ∷ es) filled until zero lt = first_until t e.1.items filled.0 until.0
 fronts_until t (e ∷ es) filled until (suc k) lt = fronts_until t es filled.1 until.1 k (omega (arith, lt))
+
+pub fit_new : (kind : CorrelationKind) (rules : ℕ) (es fs : Entries) (g : List (List ℕ)) (w : Queue) → fs ≡ es ++ (g, w) ∷ [] → IsFor kind rules w → AllFor kind rules es → AllFor kind rules fs
+fit_new kind rules es fs g w is has all = subst (AllFor kind rules) (sym is) (all_push (λ e. IsFor kind rules e.1) es (g, w) all has)
 
 -- a group that came with the newest match
 pub orderly_new : (es fs : Entries) (g : List (List ℕ)) (w : Queue) (m : Match) → fs ≡ es ++ (g, w) ∷ [] → IsDistinct same_group (keys_of fs) → w.items ≡ m ∷ [] → AllUntil m.moment es → IsOrderly es → IsOrderly fs

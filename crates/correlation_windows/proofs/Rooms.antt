@@ -1,16 +1,11 @@
 -- The loop that makes room in the queues of matches.
 use Rattle.std.proofs.Common.{◌≡◌, ℕ, zero, suc, ◌+◌, ◌<◌, ◌≤◌, List, [], ◌∷◌, subst, arith}
 use Rattle.std.specs.Prelude.{length, take, slice_index_or}
-use Rattle.std.specs.List.{AllByRecursion}
 use Rattle.std.specs.Map.{lookup}
 use Rattle.correlation_windows.specs.Groups.{same_group}
 use Rattle.correlation_windows.specs.Queues.{Entries, HasPlaces}
-use Rattle.correlation_windows.specs.Ready.{AllReady, AllFresh}
+use Rattle.correlation_windows.specs.Ready.{AllPlaced}
 use Rattle.correlation_windows.specs.declared.found.Found.{Found}
-
--- the queues of these matches take n more
-abbrev pub AllPlaced : ℕ → Entries → List Found → Type 0
-AllPlaced n now fs = AllByRecursion (λ f. HasPlaces n (lookup (same_group f.group) now)) fs
 
 placed_still : (n : ℕ) (old new : Entries) → ((m : ℕ) (g : List (List ℕ)) → HasPlaces m (lookup (same_group g) old) → HasPlaces m (lookup (same_group g) new)) → (fs : List Found) → AllPlaced n old fs → AllPlaced n new fs
 placed_still n old new others [] all = tt
@@ -28,10 +23,6 @@ pub placed_more : (n : ℕ) (old new : Entries) → ((m : ℕ) (g : List (List �
 placed_more n old new others fs i f lt is has all =
     let e : suc i ≡ i + 1 = omega arith in
     subst (λ (j : ℕ). AllPlaced n new (take j fs)) e (more n old new others fs i f lt is has all)
-
-pub ready_of : (n : ℕ) (now : Entries) (fs : List Found) → AllPlaced n now fs → AllFresh n fs → AllReady n now fs
-ready_of n now [] placed fresh = tt
-ready_of n now (f ∷ fs) placed fresh = ((placed.0, fresh.0), ready_of n now fs placed.1 fresh.1)
 
 pub placed_all : (n : ℕ) (now : Entries) (fs : List Found) (i : ℕ) → length fs ≤ i → AllPlaced n now (take i fs) → AllPlaced n now fs
 placed_all n now [] i le all = tt

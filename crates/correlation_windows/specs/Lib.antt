@@ -3,8 +3,11 @@ pub mod Heaps
 pub mod History
 pub mod Kept
 pub mod Laws
+pub mod Noted
 pub mod Over
 pub mod Queues
+pub mod Reaches
 pub mod Ready
 pub mod Reports
+pub mod Tallies
 pub mod Windows

@@ -13,3 +13,8 @@ abbrev pub reports_over : ℕ → Bound → (List (List ℕ) → List Match) →
 reports_over number b queue done [] = []
 reports_over number b queue done (m ∷ ms) =
     report_of number b (filter (is_within b.span m.1.moment) (queue m.0 ++ of_group m.0 (done ++ m ∷ []))) m ++ reports_over number b queue (done ++ m ∷ []) ms
+
+-- the same where the queues have no match that the timespan doesn't reach: a queue is the window once the match has come
+abbrev pub reports_on : ℕ → Bound → (List (List ℕ) → List Match) → List Grouped → List Grouped → List Report
+reports_on number b queue done [] = []
+reports_on number b queue done (m ∷ ms) = report_of number b (queue m.0 ++ of_group m.0 (done ++ m ∷ [])) m ++ reports_on number b queue (done ++ m ∷ []) ms

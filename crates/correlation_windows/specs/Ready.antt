@@ -1,35 +1,61 @@
 -- Matches that can go into their queues without memory.
-use Rattle.std.specs.Prelude.{◌≡◌, ℕ, ◌≤◌, ℤ, ◌≤ℤ◌, List, [], length, map}
+use Rattle.std.specs.Prelude.{◌≡◌, ℕ, ◌≤◌, ℤ, ◌≤ℤ◌, List, [], Option, Some, None, length, map}
 use Rattle.std.specs.List.{AllByRecursion}
 use Rattle.std.specs.Map.{lookup}
-use Rattle.std.specs.VecDeque.{deque_capacity}
 use Rattle.correlation_windows.specs.Groups.{same_group}
 use Rattle.correlation_windows.specs.Heaps.{IsUntil, IsInTime, AllUntil}
 use Rattle.correlation_windows.specs.History.{Grouped}
-use Rattle.correlation_windows.specs.Queues.{Entries, Stored, HasPlaces, held}
+use Rattle.correlation_windows.specs.Laws.{recent}
+use Rattle.correlation_windows.specs.Noted.{Queued}
+use Rattle.correlation_windows.specs.Queues.{Entries, Stored, HasPlaces, IsFor, held}
+use Rattle.correlation_windows.specs.declared.bound.CorrelationKind.{CorrelationKind}
 use Rattle.correlation_windows.specs.declared.found.Found.{Found}
+use Rattle.correlation_windows.specs.declared.found.Fresh.{Fresh}
 
 abbrev pub grouped : List Found → List Grouped
 grouped founds = map (λ f. (f.group, f.found)) founds
 
--- a match that has a queue of its own, for the case that its group has none yet, with room for n matches
-pub record IsFresh (n : ℕ) (f : Found) : Type 0 where
-  pub empty : f.fresh.items ≡ []
-  pub capacity : n ≤ deque_capacity f.fresh
+-- an empty queue of a correlation with room for n matches, and the group's texts once more
+pub record IsFresh (n : ℕ) (kind : CorrelationKind) (rules : ℕ) (group : List (List ℕ)) (fresh : Fresh) : Type 0 where
+  pub empty : fresh.queue.items ≡ []
+  pub fit : IsFor kind rules fresh.queue
+  pub room : n ≤ fresh.queue.room
+  pub texts : fresh.texts ≡ group
 
-abbrev pub AllFresh : ℕ → List Found → Type 0
-AllFresh n founds = AllByRecursion (IsFresh n) founds
+abbrev pub HasFresh : ℕ → CorrelationKind → ℕ → List (List ℕ) → Option Fresh → Type 0
+HasFresh n kind rules group None = ⊥
+HasFresh n kind rules group (Some fresh) = IsFresh n kind rules group fresh
+
+-- a match with a copy of its counted text, and with such a queue if its group has no match later than this moment
+pub record IsProvided (after : ℤ) (n : ℕ) (stored : Stored) (f : Found) : Type 0 where
+  pub text : f.text ≡ f.found.counted
+  pub fresh : recent after (held stored.entries f.group) ≡ [] → HasFresh n stored.kind stored.rules f.group f.fresh
+
+abbrev pub AllProvided : ℤ → ℕ → Stored → List Found → Type 0
+AllProvided after n stored founds = AllByRecursion (IsProvided after n stored) founds
 
 -- the queue of its group takes n more
-abbrev pub IsReady : ℕ → Entries → Found → Type 0
-IsReady n entries f = HasPlaces n (lookup (same_group f.group) entries) × IsFresh n f
+abbrev pub AllPlaced : ℕ → Entries → List Found → Type 0
+AllPlaced n entries founds = AllByRecursion (λ f. HasPlaces n (lookup (same_group f.group) entries)) founds
 
-abbrev pub AllReady : ℕ → Entries → List Found → Type 0
-AllReady n entries founds = AllByRecursion (IsReady n entries) founds
+-- once all matches have gone that aren't later than this moment, these can go into the queues, and their groups into the map
+pub record HasRoom (after : ℤ) (stored : Stored) (founds : List Found) : Type 0 where
+  pub room : length founds ≤ stored.spare
+  pub placed : AllPlaced (length founds) stored.entries founds
+  pub provided : AllProvided after (length founds) stored founds
 
--- these matches can go into the queues, and their groups into the map
-abbrev pub HasRoom : Stored → List Found → Type 0
-HasRoom stored founds = (length founds ≤ stored.spare) × AllReady (length founds) stored.entries founds
+-- a group's queue takes n more, or there's one for it that does
+abbrev pub IsPlaced : ℕ → CorrelationKind → ℕ → List (List ℕ) → Option Fresh → Option Queued → Type 0
+IsPlaced n kind rules group fresh None = HasFresh n kind rules group fresh
+IsPlaced n kind rules group fresh (Some q) = n ≤ q.room
+
+-- a match can go into its queue, and n in all
+pub record IsReady (n : ℕ) (kind : CorrelationKind) (rules : ℕ) (entries : Entries) (f : Found) : Type 0 where
+  pub text : f.text ≡ f.found.counted
+  pub place : IsPlaced n kind rules f.group f.fresh (lookup (same_group f.group) entries)
+
+abbrev pub AllReady : ℕ → CorrelationKind → ℕ → Entries → List Found → Type 0
+AllReady n kind rules entries founds = AllByRecursion (IsReady n kind rules entries) founds
 
 -- each is at least as late as those before it
 abbrev pub AreInTime : List Found → Type 0

@@ -4,12 +4,11 @@ ghost use Rattle.std.specs.Prelude.{◌≡◌, ◌-◌, ◌^◌, ◌<◌, min, l
 ghost use Rattle.correlation_windows.specs.Queues.{count_held, lengths};
 
 use crate::group::Group;
-use crate::matches::Match;
+use crate::queue::Queue;
 use indexmap::IndexMap;
-use std::collections::VecDeque;
 
 /// How many matches the queue at this place of the map has.
-fn length_at(map: &IndexMap<Group, VecDeque<Match>>, place: usize) -> u64
+fn length_at(map: &IndexMap<Group, Queue>, place: usize) -> u64
     ensures { place < length map.now.entries → result ≡ get_or (lengths map.now.entries) place 0 }
 {
     match map.get_index(place) {
@@ -19,7 +18,7 @@ fn length_at(map: &IndexMap<Group, VecDeque<Match>>, place: usize) -> u64
 }
 
 /// How many matches all queues have, or 2^64 - 1 where they're more.
-pub(crate) fn count_held(map: &IndexMap<Group, VecDeque<Match>>) -> u64
+pub(crate) fn count_held(map: &IndexMap<Group, Queue>) -> u64
     ensures { result ≡ min (count_held map.now.entries) (2 ^ 64 - 1) }
 {
     let mut sum: u64 = 0;

@@ -1,13 +1,14 @@
 //! Groups of matches: the texts of the fields that matches are grouped by.
 
-ghost use Rattle.std.specs.Prelude.{◌≡◌, true, encode_utf8_all};
+ghost use Rattle.std.specs.Prelude.{◌≡◌, true, encode_utf8_all, IfOk, IfErr};
 ghost use Rattle.std.specs.List.{flat_map};
 ghost use Rattle.std.specs.Cmp.Lexicographic.{pointwise, lists_equiv, lists_per, nat_list_eq_equiv};
 ghost use Rattle.std.specs.Cmp.{partial_equiv_from_equiv};
 ghost use Rattle.std.specs.Str.{bytes_eq};
 ghost use Rattle.correlation_windows.specs.Groups.{same_group, group_writes, group_writes_same};
 
-use sig_base::{Text, Texts};
+use sig_base::{Fault, Text, Texts, TryCopy};
+use std::alloc::Global;
 use std::hash::{Hash, Hasher};
 use std::marker::Model;
 
@@ -31,6 +32,21 @@ impl Group {
         ensures { result ≡ texts }
     {
         Group { texts }
+    }
+
+    /// The texts, without a copy.
+    pub fn into_texts(self) -> Texts
+        ensures { result ≡ self }
+    {
+        self.texts
+    }
+
+    /// The texts once more; only want of memory is answered.
+    pub fn texts(&self, alloc: Global) -> Result<Texts, Fault>
+        ensures ok { IfOk result (λ texts. texts ≡ self.now) }
+        ensures err { IfErr result (λ e. e ≡ Fault.Memory) }
+    {
+        self.texts.try_copy(alloc)
     }
 
     /// Lends the texts.

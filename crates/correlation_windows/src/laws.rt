@@ -3,12 +3,12 @@
 ghost use Rattle.correlation_windows.specs.Laws.{Suffices, Goes};
 ghost use Rattle.correlation_windows.specs.Ready.{Follows};
 
-/// The reports of an event can be told from what is kept.
+/// The reports of an event follow from what is kept.
 pub fn kept_suffices()
     ensures { Suffices }
 {}
 
-/// What is kept can be told from what was kept and the next event's matches.
+/// What is kept follows from what was kept and the next event's matches.
 pub fn kept_goes()
     ensures { Goes }
 {}

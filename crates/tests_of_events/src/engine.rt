@@ -23,7 +23,7 @@ fn numbers(alloc: Global, count: u32) -> Result<Sequence<u32>, Fail>
 }
 
 /// A correlation of so many rules within a minute, grouped by the only field.
-fn within_a_minute(alloc: Global, kind: CorrelationKind, rules: u32) -> Result<Bound, Fail>
+pub fn within_a_minute(alloc: Global, kind: CorrelationKind, rules: u32) -> Result<Bound, Fail>
     requires { rules ≤ 2 }
     ensures { IfOk result IsWithinLimits }
 {
@@ -57,7 +57,7 @@ fn moment_of(second: u8) -> i128
     second as i128 * 1_000_000_000
 }
 
-fn event(alloc: Global, user: &str) -> Result<Event, Fail> {
+pub fn event(alloc: Global, user: &str) -> Result<Event, Fail> {
     let mut values = Vec::new(alloc);
     values.push(FieldValues::one(Value::Text(Text::copy(alloc, user)?)))?;
     Ok(Event::new(values, None))

@@ -1,6 +1,7 @@
 use Rattle.std.proofs.Common.{◌++◌, List, ap, sym, subst, ◌∙◌}
 use Rattle.std.specs.Prelude.{ℤ, Option}
 use Rattle.correlation_windows.specs.Laws.{IsBehind}
+use Rattle.correlation_windows.specs.Reports.{reports_from}
 use Rattle.correlation_windows.specs.declared.report.Report.{Report}
 use Rattle.correlation_engine.specs.Arrivals.{taken}
 use Rattle.correlation_engine.specs.Steps.{IsGrown, reports_each}
@@ -28,18 +29,20 @@ pub advance_all-requires-clause-each : goal.advance_all-requires-clause-each
 advance_all-requires-clause-each c = c.in-Ok.ensures.each ∙ sym (each_length IsGrown c.args.watches.now.items c.prepare_all.new.watches.items c.prepare_all.ensures.grown)
 
 pub returns-clause-taken : goal.returns-clause-taken
-returns-clause-taken c = engine_advanced c.args.last c.args.watches.now.items c.prepare_all.new.watches.items c.prepare_all.ensures.grown c.requires.engine (taken c.args.arrival.now) c.advance_all.new.watches.items c.advance_all.ensures
+returns-clause-taken c = engine_advanced c.args.last c.args.watches.now.items c.prepare_all.new.watches.items c.prepare_all.ensures.grown c.requires.engine (taken c.args.arrival.now) c.advance_all.new.watches.items c.advance_all.ensures.advanced
 
 pub returns-clause-reports : goal.returns-clause-reports
 returns-clause-reports c = λ history is so.
-    c.in-Ok.ensures.reports
-    ∙ (ap (λ (r : List Report). r ++ reports_each (taken c.args.arrival.now) 0 c.args.watches.now.items) c.new-all.ensures.items
-    ∙ each_reports (taken c.args.arrival.now) history 0 c.args.watches.now.items (subst (λ (l : Option ℤ). IsBehind l c.args.arrival.now.moment) is c.in_ok-in_order.ensures.ok) so)
+    let grown = grown_holds history c.args.watches.now.items c.prepare_all.new.watches.items c.prepare_all.ensures.grown so in
+    c.advance_all.ensures.reports
+    ∙ (ap (λ (r : List Report). r ++ reports_each (taken c.args.arrival.now) 0 c.prepare_all.new.watches.items) (c.prepare_all.ensures.reports ∙ c.new-reports.ensures.items)
+    ∙ (each_reports (taken c.args.arrival.now) history 0 c.prepare_all.new.watches.items (subst (λ (l : Option ℤ). IsBehind l c.args.arrival.now.moment) is c.in_ok-in_order.ensures.ok) grown
+    ∙ ap (λ bs. reports_from 0 bs history (taken c.args.arrival.now)) (grown_bounds c.args.watches.now.items c.prepare_all.new.watches.items c.prepare_all.ensures.grown)))
 
 pub returns-clause-stands : goal.returns-clause-stands
 returns-clause-stands c = λ history is so.
-    advanced_holds (taken c.args.arrival.now) history c.prepare_all.new.watches.items c.advance_all.new.watches.items (subst (λ (l : Option ℤ). IsBehind l c.args.arrival.now.moment) is c.in_ok-in_order.ensures.ok) c.advance_all.ensures
+    advanced_holds (taken c.args.arrival.now) history c.prepare_all.new.watches.items c.advance_all.new.watches.items (subst (λ (l : Option ℤ). IsBehind l c.args.arrival.now.moment) is c.in_ok-in_order.ensures.ok) c.advance_all.ensures.advanced
     (grown_holds history c.args.watches.now.items c.prepare_all.new.watches.items c.prepare_all.ensures.grown so)
 
 pub returns-clause-bounds : goal.returns-clause-bounds
-returns-clause-bounds c = advanced_bounds (taken c.args.arrival.now) c.prepare_all.new.watches.items c.advance_all.new.watches.items c.advance_all.ensures ∙ grown_bounds c.args.watches.now.items c.prepare_all.new.watches.items c.prepare_all.ensures.grown
+returns-clause-bounds c = advanced_bounds (taken c.args.arrival.now) c.prepare_all.new.watches.items c.advance_all.new.watches.items c.advance_all.ensures.advanced ∙ grown_bounds c.args.watches.now.items c.prepare_all.new.watches.items c.prepare_all.ensures.grown

@@ -1,6 +1,7 @@
-use Rattle.std.proofs.Common.{rules, ◌≡◌, ◌<◌, ◌≤◌, length, ◌∙◌, arith}
+use Rattle.std.proofs.Common.{rules, ◌≡◌, ◌<◌, ◌≤◌, length, ◌∙◌, sym, subst, arith}
+use Rattle.correlation_windows.specs.Queues.{AllFor}
 use Rattle.indexmap.specs.IndexMap.{spare}
-use Rattle.correlation_windows.proofs.Rooms.{placed_more, placed_all, ready_of}
+use Rattle.correlation_windows.proofs.Rooms.{placed_more, placed_all}
 use Rattle.correlation_windows.proofs.growth.make_places_for_all.Goals as goal
 
 pub loop-found-preserved : goal.loop-found-preserved
@@ -14,9 +15,16 @@ loop-found-preserved c =
       (λ g. made.held g ∙ so.1 g),
       omega (arith, left, room),
       placed_more (length c.args.founds.now) c.loop-found.map.entries c.make_places.new.map.entries made.others c.args.founds.now c.loop-found.found-index c.found-item.result within c.found-item.is made.places so.3,
+      (λ kind count all. made.fit kind count (so.4 kind count all)),
     )
 
-pub returns-clause-ready : goal.returns-clause-ready
-returns-clause-ready c =
+pub returns-clause-placed : goal.returns-clause-placed
+returns-clause-placed c =
     let beyond : length c.args.founds.now ≤ c.loop-found.found-index = search (rules, arith, c.loop-found-test.false) in
-    ready_of (length c.args.founds.now) c.loop-found.map.entries c.args.founds.now (placed_all (length c.args.founds.now) c.loop-found.map.entries c.args.founds.now c.loop-found.found-index beyond c.loop-found.invariant.3) c.requires.fresh
+    placed_all (length c.args.founds.now) c.loop-found.map.entries c.args.founds.now c.loop-found.found-index beyond c.loop-found.invariant.3
+
+pub returns-clause-fit : goal.returns-clause-fit
+returns-clause-fit c = λ kind count all. c.loop-found.invariant.4 kind count (subst (AllFor kind count) (sym c.reserve.ensures.entries) all)
+
+pub returns-in_err-make_places-clause-fit : goal.returns-in_err-make_places-clause-fit
+returns-in_err-make_places-clause-fit c = λ kind count all. c.make_places.ensures.fit kind count (c.loop-found.invariant.4 kind count (subst (AllFor kind count) (sym c.reserve.ensures.entries) all))

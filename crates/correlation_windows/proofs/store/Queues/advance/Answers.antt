@@ -1,30 +1,46 @@
-use Rattle.std.proofs.Common.{◌≡◌, ℕ, ◌++◌, List, ap, subst, ◌∙◌, to_z, of_z, FitsSigned}
+use Rattle.std.proofs.Common.{◌≡◌, ◌∙◌, ◌++◌, ℕ, ap, sym, subst, length, to_z, of_z}
 use Rattle.std.proofs.lemmas.Int.{to_z-of_z}
 use Rattle.std.specs.Int.{w128}
 use Rattle.std.specs.Prelude.{ℤ}
-use Rattle.correlation_windows.specs.History.{Grouped, event_matches}
 use Rattle.correlation_windows.specs.Laws.{recent}
-use Rattle.correlation_windows.specs.Queues.{Entries, held}
-use Rattle.correlation_windows.specs.Ready.{grouped}
-use Rattle.correlation_windows.specs.Windows.{of_group}
-use Rattle.correlation_windows.specs.declared.found.Found.{Found}
-use Rattle.correlation_windows.proofs.Windowing.{goes}
-use Rattle.correlation_windows.proofs.Following.{until_advanced}
+use Rattle.correlation_windows.specs.Queues.{Stored, AllFor, held}
+use Rattle.correlation_windows.specs.Ready.{HasRoom}
+use Rattle.correlation_windows.specs.declared.bound.CorrelationKind.{CorrelationKind}
+use Rattle.correlation_windows.proofs.Advancing.{held_advanced, ready_now, still_next, on_over}
 use Rattle.correlation_windows.proofs.store.Queues.advance.Goals as goal
 
--- what is held after both steps
-both : (after : ℤ) (old mid new : Entries) (founds : List Found) → FitsSigned w128 after → ((g : List (List ℕ)) → held mid g ≡ held old g ++ of_group g (grouped founds))
-    → ((g : List (List ℕ)) → held new g ≡ recent (to_z w128 (of_z w128 after)) (held mid g)) → (g : List (List ℕ)) → held new g ≡ recent after (held old g ++ of_group g (grouped founds))
-both after old mid new founds fits gain loss g = subst (λ (a : ℤ). held new g ≡ recent a (held mid g)) (to_z-of_z w128 after fits) (loss g) ∙ ap (recent after) (gain g)
+pub put_all-requires-clause-fit : goal.put_all-requires-clause-fit
+put_all-requires-clause-fit c =
+    let kinds = ap (λ (s : Stored). s.kind) c.self.view_is ∙ c.requires.kind in
+    let counts = ap (λ (s : Stored). s.rules) c.self.view_is ∙ c.requires.rules in
+    subst (λ (k : CorrelationKind). AllFor k (length c.args.bound.now.rules) c.drop_old.new.map.entries) kinds
+    (subst (λ (n : ℕ). AllFor c.self.inside.kind n c.drop_old.new.map.entries) counts (c.drop_old.ensures.fit c.self.inside.kind c.self.inside.rules c.self.invariant.1))
 
-pub returns-clause-kept : goal.returns-clause-kept
-returns-clause-kept c = λ b history next behind matches after holds.
-    goes b history next (held c.args.self.now.entries) (held c.drop_old.new.self.entries) behind holds
-    (λ g. subst (λ (a : ℤ). held c.drop_old.new.self.entries g ≡ recent a (held c.args.self.now.entries g ++ of_group g (event_matches b next))) after
-    (subst (λ (ms : List Grouped). held c.drop_old.new.self.entries g ≡ recent c.args.after (held c.args.self.now.entries g ++ of_group g ms)) matches
-    (both c.args.after c.args.self.now.entries c.commit.new.self.entries c.drop_old.new.self.entries c.args.founds.items c.ranges.after c.commit.ensures c.drop_old.ensures g)))
+pub put_all-requires-clause-next : goal.put_all-requires-clause-next
+put_all-requires-clause-next c =
+    still_next c.args.after c.args.self.now c.drop_old.new.map.entries
+    (λ g. subst (λ (a : ℤ). held c.drop_old.new.map.entries g ≡ recent a (held c.args.self.now.entries g)) (to_z-of_z w128 c.args.after c.ranges.after)
+    (subst (λ (s : Stored). held c.drop_old.new.map.entries g ≡ recent (to_z w128 (of_z w128 c.args.after)) (held s.entries g)) c.self.view_is (c.drop_old.ensures.held g)))
+    c.drop_old.ensures.orderly.unique c.args.founds.items c.requires.next
 
-pub returns-clause-until : goal.returns-clause-until
-returns-clause-until c = λ last t at until le.
-    until_advanced t last c.args.after c.args.self.now.entries c.drop_old.new.self.entries c.args.founds.items
-    (both c.args.after c.args.self.now.entries c.commit.new.self.entries c.drop_old.new.self.entries c.args.founds.items c.ranges.after c.commit.ensures c.drop_old.ensures) at until le
+pub put_all-requires-clause-ready : goal.put_all-requires-clause-ready
+put_all-requires-clause-ready c =
+    let room : HasRoom c.args.after (record { entries = c.self.inside.map.entries; kind = c.self.inside.kind; rules = c.self.inside.rules; spare = _ }) c.args.founds.items = subst (λ (s : Stored). HasRoom c.args.after s c.args.founds.items) (sym c.self.view_is) c.requires.room in
+    ready_now c.args.after _ c.drop_old.new.map.entries
+    (λ g. subst (λ (a : ℤ). held c.drop_old.new.map.entries g ≡ recent a (held c.self.inside.map.entries g)) (to_z-of_z w128 c.args.after c.ranges.after) (c.drop_old.ensures.held g))
+    c.args.bound.now.kind (length c.args.bound.now.rules) (ap (λ (s : Stored). s.kind) c.self.view_is ∙ c.requires.kind) (ap (λ (s : Stored). s.rules) c.self.view_is ∙ c.requires.rules) c.drop_old.ensures.places (length c.args.founds.items) c.args.founds.items room.placed room.provided
+
+pub returns-clause-held : goal.returns-clause-held
+returns-clause-held c = λ t at lt.
+    held_advanced c.args.after t c.args.self.now.entries c.drop_old.new.map.entries c.put_all.new.map.entries c.args.founds.items lt at
+    (λ g. subst (λ (a : ℤ). held c.drop_old.new.map.entries g ≡ recent a (held c.args.self.now.entries g)) (to_z-of_z w128 c.args.after c.ranges.after)
+    (subst (λ (s : Stored). held c.drop_old.new.map.entries g ≡ recent (to_z w128 (of_z w128 c.args.after)) (held s.entries g)) c.self.view_is (c.drop_old.ensures.held g)))
+    c.put_all.ensures.held
+
+pub returns-clause-reports : goal.returns-clause-reports
+returns-clause-reports c = λ t at until is lt.
+    c.put_all.ensures.added ∙ ap (λ rs. c.args.reports.now.items ++ rs)
+    (on_over c.args.number c.args.bound.now c.args.after t (held c.args.self.now.entries) (held c.drop_old.new.map.entries) is lt until
+    (λ g. subst (λ (a : ℤ). held c.drop_old.new.map.entries g ≡ recent a (held c.args.self.now.entries g)) (to_z-of_z w128 c.args.after c.ranges.after)
+    (subst (λ (s : Stored). held c.drop_old.new.map.entries g ≡ recent (to_z w128 (of_z w128 c.args.after)) (held s.entries g)) c.self.view_is (c.drop_old.ensures.held g)))
+    c.args.founds.items at)
