@@ -11,9 +11,10 @@ use Rattle.std.proofs.lemmas.List.Folds.{list_all-append}
 use Rattle.std.proofs.lemmas.Nat.{pow-add, shr_below, mul-le}
 use Rattle.event_schema.specs.Addresses.{IsAddress}
 use Rattle.event_schema.specs.Lists.{EachOf}
-use Rattle.sig_encode.specs.Networks.{Net, IsNetwork, InNetwork, SomeFits, told_octets, front_text, front_pattern, counted, patterns_of}
+use Rattle.sig_encode.specs.Networks.{Net, IsNetwork, InNetwork, told_octets, front_text, front_pattern, counted, patterns_of}
 use Rattle.sig_encode.proofs.Fronts.{AreDigits, decimal_digits}
 use Rattle.sig_encode.proofs.NetworkLemmas.{patterns_sound, patterns_complete}
+use Rattle.sig_strings.specs.Fits.{SomeFits}
 use Rattle.sig_strings.specs.Edits.{is_written}
 use Rattle.sig_strings.specs.declared.part.Part.{Part}
 use Rattle.sig_strings.specs.declared.part.Part.TheVariants.{Char, Run}

@@ -5,10 +5,9 @@ use Rattle.std.proofs.lemmas.Bool.{eqb-true, le-leb, lt-leb, cases_lt}
 use Rattle.matching.specs.Suffixes.{SuffixHolds, CharThen}
 use Rattle.matching.specs.Steps.{is_dash}
 use Rattle.sig_base.specs.Folding.{fold}
-use Rattle.sig_strings.specs.Fits.{Fits, same_char}
+use Rattle.sig_strings.specs.Fits.{Fits, same_char, SomeFits}
 use Rattle.sig_strings.specs.declared.part.Part.{Part}
 use Rattle.sig_strings.specs.declared.part.Part.TheVariants.{Char, One, Run, Dash, Hole}
-use Rattle.sig_encode.specs.Networks.{SomeFits}
 use Rattle.modifier_windash.specs.Choices.{choices, before_each, dash_signs}
 
 -- a character before each of some patterns

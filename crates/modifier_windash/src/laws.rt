@@ -3,9 +3,8 @@
 
 ghost use Rattle.std.specs.Prelude.{◌≡◌, ◌↔◌, ◌^◌, ◌||◌, ◌==◌, ℕ, Bool, List, true, length};
 ghost use Rattle.std.specs.List.{list_all};
-ghost use Rattle.sig_encode.specs.Networks.{SomeFits};
 ghost use Rattle.sig_strings.specs.Edits.{is_written, all_written};
-ghost use Rattle.sig_strings.specs.Fits.{Fits};
+ghost use Rattle.sig_strings.specs.Fits.{Fits, SomeFits};
 ghost use Rattle.sig_strings.specs.declared.part.Part.{Part};
 ghost use Rattle.modifier_windash.specs.Choices.{choices, dash_count, is_dash_place};
 

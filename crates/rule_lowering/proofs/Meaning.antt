@@ -33,9 +33,9 @@ use Rattle.modifier_words.specs.declared.modifier.Joined.TheVariants.{All, Any}
 use Rattle.rule_detections.specs.declared.test.Test.{Test}
 use Rattle.rule_detections.specs.declared.test.Test.TheVariants as tests
 use Rattle.modifier_windash.specs.Choices.{choices}
-use Rattle.sig_encode.specs.Networks.{Net, InNetwork, SomeFits, patterns_of}
+use Rattle.sig_encode.specs.Networks.{Net, InNetwork, patterns_of}
 use Rattle.sig_strings.specs.Edits.{has_wildcard, plain_text}
-use Rattle.sig_strings.specs.Fits.{Fits}
+use Rattle.sig_strings.specs.Fits.{Fits, SomeFits}
 use Rattle.sig_strings.specs.declared.part.Part.{Part}
 use Rattle.rule_lowering.specs.Joining.{join}
 use Rattle.rule_lowering.specs.TreeOf.{leaf_test, written_tree, written_tests, test_tree, value_tree, keyword_tree, number_tree, fields_tree, item_tree, alternative_tree, detection_tree, numbered_tree, form_tree, form_trees, tree_of}

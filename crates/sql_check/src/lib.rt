@@ -9,9 +9,11 @@ mod kinds;
 mod like;
 mod names;
 mod test_faults;
+mod token_places;
 
 pub use asked_tests::{ReadTest, test_of};
 pub use columns::Columns;
 pub use depth::is_too_deep;
 pub use names::is_named;
 pub use test_faults::judge;
+pub use token_places::{collate_count, not_count, place_at};

@@ -5,7 +5,6 @@ ghost use Rattle.std.specs.List.{list_any};
 ghost use Rattle.query_tokens.specs.Places.{nth, code_at, code_at_if};
 ghost use Rattle.sql_lang.specs.Faults as faults;
 ghost use Rattle.sql_lang.specs.Grammar as grammar;
-ghost use Rattle.sql_lang.specs.Grammar.{spell_not, spell_collate};
 ghost use Rattle.sql_lang.specs.Names as names;
 ghost use Rattle.sql_parse.specs.View.{leaf_view, literal_view, literals_view, right_view};
 ghost use Rattle.sql_lang.specs.View.{collate_view, op_view};
@@ -19,20 +18,11 @@ use crate::kinds::{
     is_ill_collate, is_ill_column, is_ill_literal, is_ill_value, is_not_whole, is_order, some_ill,
 };
 use crate::like::{is_bad_like, one_character};
+use crate::token_places::{collate_count, not_count, place_at};
 use event_schema::FieldKind;
 use sig_base::{Code, Detail, Place, Refusal, Text};
 use sql_lang::{Collate, SqlOp};
 use sql_parse::{Leaf, Literal, Right};
-
-/// The place of a token, or 1:1 behind the last one.
-fn place_at(places: &[Place], index: usize) -> Place
-    ensures { place_view result ≡ nth (places_view places.now) index }
-{
-    match places.get(index) {
-        Some(place) => *place,
-        None => Place { line: 1, column: 1 },
-    }
-}
 
 fn refusal(code: Code, place: Place) -> Refusal
     ensures { result ≡ refusal_of (code_at code (place_view place)) }
@@ -41,23 +31,6 @@ fn refusal(code: Code, place: Place) -> Refusal
         code,
         place,
         detail: Detail::None,
-    }
-}
-
-/// How many words NOT stand in a test.
-fn not_count(negated: bool) -> usize
-    ensures { result ≡ length (spell_not negated) }
-{
-    if negated { 1 } else { 0 }
-}
-
-/// How many words COLLATE makes.
-fn collate_count(collate: Collate) -> usize
-    ensures { result ≡ length (spell_collate (collate_view collate)) }
-{
-    match collate {
-        Collate::Unsaid => 0,
-        Collate::NoCase | Collate::Binary => 2,
     }
 }
 

@@ -2,21 +2,11 @@
 use Rattle.std.proofs.Common.{ℕ, zero, suc, ◌≡◌, ◌+◌, ◌<◌, ◌≤◌, Bool, List, [], ◌∷◌, ◌++◌, length, drop, map, get_or, refl, sym, ◌∙◌, ap, arith, length-append}
 use Rattle.std.proofs.lemmas.List.{drop-drop}
 use Rattle.sig_base.specs.declared.refusal.Place.{Place}
-use Rattle.query_tokens.specs.Places.{At, origin, nth}
+use Rattle.query_tokens.specs.Places.{At}
 use Rattle.sql_lang.specs.Tokens.{Word, Opening, Closing, IN}
 use Rattle.sql_lang.specs.Grammar.{Collate, Literal, Leaf, one_of, spell_not, spell_collate, spell_literal, spell_before, spell_test}
 use Rattle.sql_scan.specs.View.{place_view}
 use Rattle.sql_read.specs.Answers.{place_or}
-
-pub nth_get : (ps : List Place) (k : ℕ) (p : Place) → k < length ps → p ≡ get_or ps k p → place_view p ≡ nth (map place_view ps) k
-nth_get [] k p h e = absurd (omega arith)
-nth_get (x ∷ xs) zero p h e = ap place_view e
-nth_get (x ∷ xs) (suc k) p h e = nth_get xs k p (omega arith) e
-
-pub nth_past : (ps : List Place) (k : ℕ) → length ps ≤ k → origin ≡ nth (map place_view ps) k
-nth_past [] k h = refl
-nth_past (x ∷ xs) zero h = absurd (omega arith)
-nth_past (x ∷ xs) (suc k) h = nth_past xs k (omega arith)
 
 before_length : (ls : List Literal) → length (spell_before ls) ≡ length ls + length ls
 before_length [] = refl

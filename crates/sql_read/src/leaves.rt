@@ -11,10 +11,10 @@ ghost use Rattle.sql_read.specs.Checks.{pattern_place, test_checks};
 ghost use Rattle.sql_read.specs.Walks.{BuiltAnswers, WalkAnswers};
 
 use crate::expressions::Walked;
-use crate::token_places::{behind_test, not_count, place_at};
+use crate::token_places::behind_test;
 use query_lang::{Builder, Search};
 use sig_base::{Fault, Place};
-use sql_check::{Columns, ReadTest, judge, test_of};
+use sql_check::{Columns, ReadTest, judge, not_count, place_at, test_of};
 use sql_lang::{Expr, SqlTest};
 use sql_parse::Leaf;
 use std::alloc::Global;

@@ -18,11 +18,11 @@ ghost use Rattle.sql_read.specs.Checks.{query_checks};
 
 use crate::end_places::place_behind;
 use crate::expressions::walk_ors;
-use crate::token_places::{behind, place_at};
+use crate::token_places::behind;
 use event_schema::Schema;
 use query_lang::Builder;
 use sig_base::{Code, Fault, Limits, Place, refused};
-use sql_check::{Columns, is_named, is_too_deep};
+use sql_check::{Columns, is_named, is_too_deep, place_at};
 use sql_lang::Select;
 use sql_parse::{Outcome, Query, read_query};
 use sql_scan::{Sort, Token, first_other, nests_too_far, scan};

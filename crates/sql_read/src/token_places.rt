@@ -1,14 +1,12 @@
 //! The places of a query's tokens, which are passed as it's read.
 
 ghost use Rattle.std.specs.Prelude.{◌≡◌, ◌+◌, drop, length};
-ghost use Rattle.query_tokens.specs.Places.{nth};
-ghost use Rattle.sql_lang.specs.Grammar.{spell_not, spell_collate, spell_escape, spell_test};
-ghost use Rattle.sql_lang.specs.View.{collate_view};
-ghost use Rattle.sql_scan.specs.View.{place_view, places_view};
+ghost use Rattle.sql_lang.specs.Grammar.{spell_escape, spell_test};
+ghost use Rattle.sql_scan.specs.View.{places_view};
 ghost use Rattle.sql_parse.specs.View.{leaf_view};
 
 use sig_base::{Place, Text};
-use sql_lang::Collate;
+use sql_check::{collate_count, not_count};
 use sql_parse::Leaf;
 
 /// The places behind so many.
@@ -19,34 +17,6 @@ pub fn behind(places: &[Place], count: usize) -> &[Place]
         return places.split_at(count).1;
     }
     &[]
-}
-
-/// The place of a token, or 1:1 behind the last one.
-pub fn place_at(places: &[Place], index: usize) -> Place
-    ensures { place_view result ≡ nth (places_view places.now) index }
-{
-    match places.get(index) {
-        Some(place) => *place,
-        None => Place { line: 1, column: 1 },
-    }
-}
-
-/// How many words NOT stand in a test.
-pub fn not_count(negated: bool) -> usize
-    ensures { result ≡ length (spell_not negated) }
-{
-    if negated { 1 } else { 0 }
-}
-
-/// How many words COLLATE makes.
-fn collate_count(collate: Collate) -> usize
-    ensures { result ≡ length (spell_collate (collate_view collate)) }
-{
-    match collate {
-        Collate::Unsaid => 0,
-        Collate::NoCase => 2,
-        Collate::Binary => 2,
-    }
 }
 
 /// How many tokens ESCAPE makes.

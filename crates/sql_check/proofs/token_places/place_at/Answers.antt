@@ -1,5 +1,5 @@
 use Rattle.sql_check.proofs.Judged.{nth_here, nth_past}
-use Rattle.sql_check.proofs.test_faults.place_at.Goals as goal
+use Rattle.sql_check.proofs.token_places.place_at.Goals as goal
 
 pub returns-in-Some : goal.returns-in-Some
 returns-in-Some c = nth_here c.args.places.now c.args.index c.in-Some.place.now c.in-Some.ensures.lookup.3.0 c.in-Some.ensures.lookup.1
