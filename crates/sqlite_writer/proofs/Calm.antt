@@ -1,5 +1,5 @@
 -- The tests that are written open no parentheses and have one word NOT at most.
-use Rattle.std.proofs.Common.{ℕ, ◌≡◌, ◌≤◌, refl, Bool, true, false, List}
+use Rattle.std.proofs.Common.{ℕ, ◌≡◌, ◌≤◌, refl, Bool, true, false, if◌then◌else◌, List}
 use Rattle.std.specs.Prelude.{ℤ, Option, Some, None}
 use Rattle.std.specs.List.{list_all}
 use Rattle.event_schema.specs.declared.schema.Field.{Field}
@@ -15,7 +15,7 @@ use Rattle.sql_lang.specs.Reading.{opens_too_far, nots_too_many}
 use Rattle.sql_layout.specs.Trees.{IsSound as IsSoundLeaf, EachLeaf, EachOfTrees}
 use Rattle.backend_core.specs.declared.tree.LeafTest.{LeafTest}
 use Rattle.backend_core.specs.declared.tree.LeafTest.TheVariants as tests
-use Rattle.sqlite_writer.specs.Guarded.{name_at, sign_of, same_test, finds_test, written_test, other_of, behind_other, guarded_test}
+use Rattle.sqlite_writer.specs.Guarded.{name_at, sign_of, wildcard_test, plain_test, same_test, finds_test, counts_case, written_test, other_of, behind_other, guarded_test}
 use Rattle.sqlite_writer.proofs.Nested.{IsCalm, not_below}
 
 module _ (limit : ℕ) (some : 1 ≤ limit) where
@@ -67,27 +67,28 @@ module _ (limit : ℕ) (some : 1 ≤ limit) where
   calm_never texts = record { opens = λ opened closed rest. refl; nots = λ n rest. refl; texts = texts }
 
   module _ (fields : List Field) where
-    calm_test : (name : List ℕ) (test : LeafTest) → list_all has_text (spell_test (written_test fields name test)) ≡ true → IsCalm limit (written_test fields name test)
-    calm_test name tests.Has texts = calm_value name texts
-    calm_test name tests.Absent texts = calm_no_value name texts
-    calm_test name (tests.Fits parts cased) texts = by cased (has_wildcard parts) refl texts where
-      by : (cased : Bool) (wild : Bool) → has_wildcard parts ≡ wild → list_all has_text (spell_test (written_test fields name (tests.Fits parts cased))) ≡ true
-          → IsCalm limit (written_test fields name (tests.Fits parts cased))
-      by true true is texts = let t = rw is at texts in rw is (calm_glob name _ t)
-      by false true is texts = let t = rw is at texts in rw is (calm_like name _ t)
-      by true false is texts = let t = rw is at texts in rw is (calm_text name _ Unsaid t)
-      by false false is texts = let t = rw is at texts in rw is (calm_text name _ NoCase t)
-    calm_test name (tests.Equals n) texts = calm_number name Eq n texts
-    calm_test name (tests.Compare op n) texts = calm_number name (sign_of op) n texts
-    calm_test name (tests.SameAs other) texts = calm_same (kind_at fields other) name (name_at fields other) texts
-    calm_test name (tests.Finds expression) texts = calm_finds name expression texts
+    calm_test : (kind : FieldKind) (name : List ℕ) (test : LeafTest) → list_all has_text (spell_test (written_test fields kind name test)) ≡ true
+        → IsCalm limit (written_test fields kind name test)
+    calm_test kind name tests.Has texts = calm_value name texts
+    calm_test kind name tests.Absent texts = calm_no_value name texts
+    calm_test kind name (tests.Fits parts cased) texts = by (counts_case kind cased) cased (has_wildcard parts) texts where
+      by : (counts cased wild : Bool) → list_all has_text (spell_test (if wild then wildcard_test name counts parts else plain_test name cased parts)) ≡ true
+          → IsCalm limit (if wild then wildcard_test name counts parts else plain_test name cased parts)
+      by true cased true texts = calm_glob name _ texts
+      by false cased true texts = calm_like name _ texts
+      by counts true false texts = calm_text name _ Unsaid texts
+      by counts false false texts = calm_text name _ NoCase texts
+    calm_test kind name (tests.Equals n) texts = calm_number name Eq n texts
+    calm_test kind name (tests.Compare op n) texts = calm_number name (sign_of op) n texts
+    calm_test kind name (tests.SameAs other) texts = calm_same (kind_at fields other) name (name_at fields other) texts
+    calm_test kind name (tests.Finds expression) texts = calm_finds name expression texts
 
     calm_behind : (o : Option ℕ) (l : Leaf) → (list_all has_text (spell_test l) ≡ true → IsCalm limit l)
         → EachOfTrees (IsSoundLeaf fields) (behind_other fields o l) → EachOfTrees (IsCalm limit) (behind_other fields o l)
     calm_behind None l calm sound = (calm sound.0.writable, tt)
     calm_behind (Some other) l calm sound = (calm_value (name_at fields other) sound.0.writable, (calm sound.1.0.writable, tt))
 
-    pub calm_guarded : (guarded : Bool) (name : List ℕ) (test : LeafTest) → EachLeaf (IsSoundLeaf fields) (guarded_test fields guarded name test)
-        → EachLeaf (IsCalm limit) (guarded_test fields guarded name test)
-    calm_guarded true name test sound = (calm_value name sound.0.writable, calm_behind (other_of test) (written_test fields name test) (calm_test name test) sound.1)
-    calm_guarded false name test sound = calm_test name test sound.writable
+    pub calm_guarded : (guarded : Bool) (kind : FieldKind) (name : List ℕ) (test : LeafTest) → EachLeaf (IsSoundLeaf fields) (guarded_test fields guarded kind name test)
+        → EachLeaf (IsCalm limit) (guarded_test fields guarded kind name test)
+    calm_guarded true kind name test sound = (calm_value name sound.0.writable, calm_behind (other_of test) (written_test fields kind name test) (calm_test kind name test) sound.1)
+    calm_guarded false kind name test sound = calm_test kind name test sound.writable

@@ -1,5 +1,5 @@
 -- The depth of a tree with its guards is the depth of the layout's expression.
-use Rattle.std.proofs.Common.{ℕ, ◌+◌, ◌≡◌, ◌≤◌, refl, ◌∙◌, ap, Bool, true, false, List, map, max, min, arith}
+use Rattle.std.proofs.Common.{ℕ, ◌+◌, ◌≡◌, ◌≤◌, refl, ◌∙◌, ap, Bool, true, false, if◌then◌else◌, List, map, max, min, arith}
 use Rattle.std.specs.Prelude.{Some}
 use Rattle.event_schema.specs.declared.schema.Field.{Field}
 use Rattle.event_schema.specs.declared.schema.FieldKind.{FieldKind}
@@ -15,30 +15,29 @@ use Rattle.backend_core.specs.declared.tree.LeafTest.{LeafTest}
 use Rattle.backend_core.specs.declared.tree.LeafTest.TheVariants as tests
 use Rattle.backend_core.specs.Trees.{Plain}
 use Rattle.backend_core.specs.Sound.{IsSound, kind_at}
-use Rattle.sqlite_writer.specs.Guarded.{name_at, same_test, written_test, sql_tree}
+use Rattle.sqlite_writer.specs.Guarded.{name_at, wildcard_test, plain_test, same_test, counts_case, written_test, sql_tree}
 use Rattle.sqlite_writer.specs.Joined.{guarded}
 use Rattle.sqlite_writer.specs.Depths.{one_more, two_depths, text_depth, same_depth, written_depth, or_zero, row_behind, row_depth, halved_depth, tree_depth, parts_depth}
 use Rattle.sqlite_writer.proofs.Laid.{IsReckoned, reckoned}
 
 module _ (fields : List Field) where
-  test_is : (name : List ℕ) (test : LeafTest) → written_depth fields test ≡ test_depth (test_of fields (written_test fields name test))
-  test_is name tests.Has = refl
-  test_is name tests.Absent = refl
-  test_is name (tests.Fits parts cased) = by cased (has_wildcard parts) refl where
-    by : (cased : Bool) (wild : Bool) → has_wildcard parts ≡ wild
-        → text_depth (has_wildcard parts) cased ≡ test_depth (test_of fields (written_test fields name (tests.Fits parts cased)))
-    by true true is = rw is refl
-    by false true is = rw is refl
-    by true false is = rw is refl
-    by false false is = rw is refl
-  test_is name (tests.Equals n) = refl
-  test_is name (tests.Compare op n) = refl
-  test_is name (tests.SameAs other) = by (kind_at fields other) where
+  test_is : (kind : FieldKind) (name : List ℕ) (test : LeafTest) → written_depth fields test ≡ test_depth (test_of fields (written_test fields kind name test))
+  test_is kind name tests.Has = refl
+  test_is kind name tests.Absent = refl
+  test_is kind name (tests.Fits parts cased) = by (counts_case kind cased) cased (has_wildcard parts) where
+    by : (counts cased wild : Bool) → text_depth wild cased ≡ test_depth (test_of fields (if wild then wildcard_test name counts parts else plain_test name cased parts))
+    by true cased true = refl
+    by false cased true = refl
+    by counts true false = refl
+    by counts false false = refl
+  test_is kind name (tests.Equals n) = refl
+  test_is kind name (tests.Compare op n) = refl
+  test_is kind name (tests.SameAs other) = by (kind_at fields other) where
     by : (kind : FieldKind) → same_depth kind ≡ test_depth (test_of fields (same_test kind name (name_at fields other)))
     by kinds.Text = refl
     by kinds.Whole = refl
     by kinds.Address = refl
-  test_is name (tests.Finds expression) = refl
+  test_is kind name (tests.Finds expression) = refl
 
   few_texts : (wild cased : Bool) → text_depth wild cased ≤ 3
   few_texts true cased = omega arith
@@ -70,8 +69,8 @@ module _ (fields : List Field) where
     not_depth : Nots → ℕ
     not_depth n = min (depth (not_expr fields n)) most
 
-    leaf_is : (name : List ℕ) (test : LeafTest) → min (test_depth (test_of fields (written_test fields name test))) most ≡ written_depth fields test
-    leaf_is name test = let same = test_is name test in let few = few_written test in omega (arith, same, few, some)
+    leaf_is : (kind : FieldKind) (name : List ℕ) (test : LeafTest) → min (test_depth (test_of fields (written_test fields kind name test))) most ≡ written_depth fields test
+    leaf_is kind name test = let same = test_is kind name test in let few = few_written test in omega (arith, same, few, some)
 
     not_is : (d e : ℕ) → min d most ≡ e → min (1 + d) most ≡ one_more most e
     not_is d e is = omega (arith, is)
@@ -123,9 +122,9 @@ module _ (fields : List Field) where
     depths_reckoned = record {
       none = λ at. refl;
       more = λ at t ts. refl;
-      leaf_or = λ l. leaf_is (name_at fields l.field) l.test;
-      leaf_and = λ l. leaf_is (name_at fields l.field) l.test;
-      leaf_not = λ l. leaf_is (name_at fields l.field) l.test;
+      leaf_or = λ l. leaf_is (kind_at fields l.field) (name_at fields l.field) l.test;
+      leaf_and = λ l. leaf_is (kind_at fields l.field) (name_at fields l.field) l.test;
+      leaf_not = λ l. leaf_is (kind_at fields l.field) (name_at fields l.field) l.test;
       never_or = omega (arith, some);
       never_and = omega (arith, some);
       never_not = omega (arith, some);

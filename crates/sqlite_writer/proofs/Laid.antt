@@ -9,7 +9,7 @@ use Rattle.sql_layout.specs.HalvedTrees.{Form, form, form_of_not, form_of_or, fo
 use Rattle.sql_layout.proofs.Chains.{or_parts, and_parts, or_parts_joined, and_parts_joined}
 use Rattle.backend_core.specs.declared.tree.Leaf.{Leaf}
 use Rattle.backend_core.specs.Trees.{Plain, Plains, no_parts, a_part, all, any, negated, leaf, never}
-use Rattle.backend_core.specs.Sound.{IsSound, AreSound}
+use Rattle.backend_core.specs.Sound.{kind_at, IsSound, AreSound}
 use Rattle.sqlite_writer.specs.declared.place.Kind.TheVariants.{All, Any}
 use Rattle.sqlite_writer.specs.declared.place.Standing.{Standing}
 use Rattle.sqlite_writer.specs.declared.place.Standing.TheVariants.{InOr, InAnd, BehindNot}
@@ -22,7 +22,7 @@ use Rattle.sqlite_writer.proofs.Guards.{append_none}
 
 module _ (fields : List Field) where
   abbrev pub test_of_leaf : Leaf → Nots
-  test_of_leaf l = a_test (written_test fields (name_at fields l.field) l.test)
+  test_of_leaf l = a_test (written_test fields (kind_at fields l.field) (name_at fields l.field) l.test)
 
 -- 0
 abbrev pub test_of_never : Nots
@@ -118,7 +118,7 @@ module _ (fields : List Field) {B : Type 0} (whole : Ors → B) (in_or : Ands �
 
     -- a leaf behind its guards
     agrees_guarded : (o : Option ℕ) (l : Leaf)
-        → Agrees (form (sql.all (sql.leaf (has_value (name_at fields l.field))) (behind_other fields o (written_test fields (name_at fields l.field) l.test))))
+        → Agrees (form (sql.all (sql.leaf (has_value (name_at fields l.field))) (behind_other fields o (written_test fields (kind_at fields l.field) (name_at fields l.field) l.test))))
         (all (a_part (leaf (guard_of l.field l)) (parts_behind o l)))
     agrees_guarded None l =
         let g = guard_of l.field l in
@@ -137,7 +137,7 @@ module _ (fields : List Field) {B : Type 0} (whole : Ors → B) (in_or : Ands �
         (join_and (last_not (test_of_leaf fields h)) (last_not (test_of_leaf fields l)) (a_part (leaf h) no_parts) (a_part (leaf l) no_parts)
         (agrees_test h).and (agrees_test l).and))
 
-    agrees_leaf : (so : Bool) (l : Leaf) → Agrees (form (guarded_test fields so (name_at fields l.field) l.test)) (guarded_leaf so l)
+    agrees_leaf : (so : Bool) (l : Leaf) → Agrees (form (guarded_test fields so (kind_at fields l.field) (name_at fields l.field) l.test)) (guarded_leaf so l)
     agrees_leaf true l = agrees_guarded (other_of l.test) l
     agrees_leaf false l = agrees_test l
 

@@ -38,9 +38,10 @@ use Rattle.backend_core.specs.declared.tree.LeafTest.TheVariants as tests
 use Rattle.backend_core.specs.declared.tree.Leaf.{Leaf}
 use Rattle.backend_core.specs.Trees.{leaf}
 use Rattle.backend_core.specs.Sound.{kind_at, IsSoundTest, IsSound}
-use Rattle.sqlite_writer.specs.Guarded.{name_at, sign_of, same_test, written_test, is_unsure, other_of, guarded_test, sql_tree}
+use Rattle.sqlite_writer.specs.Guarded.{name_at, sign_of, wildcard_test, plain_test, same_test, counts_case, written_test, is_unsure, other_of, guarded_test, sql_tree}
 use Rattle.sqlite_writer.specs.Lacking.{is_many, is_many_if_any, sqlite_lacks}
 use Rattle.sqlite_writer.proofs.FieldKinds.{IsOfKindIfAny, event_kinds, no_number}
+use Rattle.sqlite_writer.proofs.Caseless.{caseless_is_whole, no_case_unasked, number_is_low, case_of_none}
 use Rattle.sqlite_writer.proofs.Numbers.{same_number, same_folded, stands}
 use Rattle.sqlite_writer.proofs.PolarityLemmas.{EvenIs, OddIs}
 
@@ -220,6 +221,16 @@ module _
     like_says parts (Some (values.Whole n)) ok =
         (like_fits (like_text (sql_parts parts)) (Some 92) (signed_decimal n), refl, like_is parts (signed_decimal n) (writable parts ok))
 
+    -- in whole numbers no letter stands
+    digits_say : (parts : List Part) (v : Option Value) → all_written parts ≡ true → IsOfKindIfAny kinds.Whole v
+        → Says (FitsIt parts true) v (on_text (like_fits (like_text (sql_parts parts)) (Some 92)) v)
+    digits_say parts None ok whole = refl
+    digits_say parts (Some (values.Text t)) ok whole = absurd whole
+    digits_say parts (Some (values.Whole n)) ok whole =
+        let like = like_is parts (signed_decimal n) (writable parts ok) in
+        let same = case_of_none parts (signed_decimal n) (number_is_low n whole) in
+        (like_fits (like_text (sql_parts parts)) (Some 92) (signed_decimal n), refl, ((λ h. same.0 (like.0 h)), (λ h. like.1 (same.1 h))))
+
     module _ (kind : FieldKind) (other : kind ≡ kinds.Whole → ⊥) where
       equals_says : (parts : List Part) (v : Option Value) → has_wildcard parts ≡ false → IsOfKindIfAny kind v
           → Says (FitsIt parts true) v (compared Unsaid Eq v (Some (values.Text (plain_text parts))))
@@ -242,17 +253,20 @@ module _
     module _ (fields : List Field) (row : List (Option Value)) (name : List ℕ) (k : ℕ) (kind : FieldKind) (named : column_of fields name ≡ Some k)
         (of_kind : IsOfKindIfAny kind (value_at row k)) where
       fits_says : (cased : Bool) (parts : List Part) → all_written parts ≡ true → (kind ≡ kinds.Whole → has_wildcard parts ≡ true)
-          → Says (FitsIt parts cased) (value_at row k) (test_value (test_of fields (written_test fields name (tests.Fits parts cased))) row)
-      fits_says cased parts ok fit = by cased (has_wildcard parts) refl where
+          → Says (FitsIt parts cased) (value_at row k) (test_value (test_of fields (written_test fields kind name (tests.Fits parts cased))) row)
+      fits_says cased parts ok fit = by cased (counts_case kind cased) (has_wildcard parts) refl refl where
         other : has_wildcard parts ≡ false → kind ≡ kinds.Whole → ⊥
         other plain is = let wild : has_wildcard parts ≡ true = fit is in absurd cc
 
-        by : (cased : Bool) (wild : Bool) → has_wildcard parts ≡ wild
-            → Says (FitsIt parts cased) (value_at row k) (test_value (test_of fields (written_test fields name (tests.Fits parts cased))) row)
-        by true true is = rw (is, named) (glob_says parts (value_at row k) ok)
-        by false true is = rw (is, named) (like_says parts (value_at row k) ok)
-        by true false is = rw (is, named) (equals_says kind (other is) parts (value_at row k) is of_kind)
-        by false false is = rw (is, named) (folds_says kind (other is) parts (value_at row k) is of_kind)
+        by : (cased counts wild : Bool) → counts_case kind cased ≡ counts → has_wildcard parts ≡ wild
+            → Says (FitsIt parts cased) (value_at row k) (test_value (test_of fields (if wild then wildcard_test name counts parts else plain_test name cased parts)) row)
+        by true true true so is = rw named (glob_says parts (value_at row k) ok)
+        by true false true so is =
+            rw named (digits_say parts (value_at row k) ok (subst (λ (x : FieldKind). IsOfKindIfAny x (value_at row k)) (caseless_is_whole kind so) of_kind))
+        by false true true so is = absurd (no_case_unasked kind so)
+        by false false true so is = rw named (like_says parts (value_at row k) ok)
+        by true counts false so is = rw named (equals_says kind (other is) parts (value_at row k) is of_kind)
+        by false counts false so is = rw named (folds_says kind (other is) parts (value_at row k) is of_kind)
 
       equal_says : (n : ℤ) → kind ≡ kinds.Whole → IsWholeNumber n
           → Says (IsIt n) (value_at row k) (test_value (test_of fields (compares_number name Eq n)) row)
@@ -286,13 +300,13 @@ module _
           (order_says op n (value_at row k) (subst (λ (x : FieldKind). IsOfKindIfAny x (value_at row k)) is of_kind))
 
       found_says : (expression : List ℕ)
-          → Says (IsFoundIn expression) (value_at row k) (test_value (test_of fields (written_test fields name (tests.Finds expression))) row)
+          → Says (IsFoundIn expression) (value_at row k) (test_value (test_of fields (written_test fields kind name (tests.Finds expression))) row)
       found_says expression = rw named (finds_says expression (value_at row k))
 
       -- of a further field, whose column is found by its name and has a value of its kind, or none
       module _ (m : ℕ) (there : column_of fields (name_at fields m) ≡ Some m) (that_kind : IsOfKindIfAny (kind_at fields m) (value_at row m)) where
         same_says : (kind ≡ kinds.Whole) ↔ (kind_at fields m ≡ kinds.Whole)
-            → TwoSay AreSame (value_at row k) (value_at row m) (test_value (test_of fields (written_test fields name (tests.SameAs m))) row)
+            → TwoSay AreSame (value_at row k) (value_at row m) (test_value (test_of fields (written_test fields kind name (tests.SameAs m))) row)
         same_says together = by (kind_at fields m) refl where
           texts : (kind_at fields m ≡ kinds.Whole → ⊥) → TwoSay AreSame (value_at row k) (value_at row m) (test_value (test_of fields (equals_field name (name_at fields m) NoCase)) row)
           texts none = rw (named, there) (texts_say kind (kind_at fields m) (λ is. none (together.0 is)) none (value_at row k) (value_at row m) of_kind that_kind)
@@ -306,16 +320,16 @@ module _
           by kinds.Address is = texts (λ e. let bad : kinds.Address ≡ kinds.Whole = sym is ∙ e in absurd cc)
 
         same_even : (kind ≡ kinds.Whole) ↔ (kind_at fields m ≡ kinds.Whole)
-            → EvenIs (test_value (test_of fields (written_test fields name (tests.SameAs m))) row) (TwoAre AreSame (value_at row k) (value_at row m))
+            → EvenIs (test_value (test_of fields (written_test fields kind name (tests.SameAs m))) row) (TwoAre AreSame (value_at row k) (value_at row m))
         same_even together =
-            two_even AreSame (value_at row k) (value_at row m) (test_value (test_of fields (written_test fields name (tests.SameAs m))) row) (same_says together)
+            two_even AreSame (value_at row k) (value_at row m) (test_value (test_of fields (written_test fields kind name (tests.SameAs m))) row) (same_says together)
 
         same_odd : (kind ≡ kinds.Whole) ↔ (kind_at fields m ≡ kinds.Whole)
             → OddIs (both (test_value (test_of fields (has_value name)) row) (both (test_value (test_of fields (has_value (name_at fields m))) row)
-            (both (test_value (test_of fields (written_test fields name (tests.SameAs m))) row) Yes)))
+            (both (test_value (test_of fields (written_test fields kind name (tests.SameAs m))) row) Yes)))
             (TwoAre AreSame (value_at row k) (value_at row m))
         same_odd together =
-            let value = test_value (test_of fields (written_test fields name (tests.SameAs m))) row in
+            let value = test_value (test_of fields (written_test fields kind name (tests.SameAs m))) row in
             let second : test_value (test_of fields (has_value (name_at fields m))) row ≡ negation (truth (is_absent (value_at row m))) = rw there refl in
             subst (λ (x : Truth). OddIs (both x (both (test_value (test_of fields (has_value (name_at fields m))) row) (both value Yes))) (TwoAre AreSame (value_at row k) (value_at row m)))
             (sym has_is)
@@ -342,40 +356,40 @@ module _
       -- over the row that the cells are of
       module _ (whole : List (List Value)) where
         test_even : (test : LeafTest) → IsSoundTest fields kind test → IsColumnIfAny whole (other_of test)
-            → EvenIs (tree_value fields row (guarded_test fields false name test)) (TestHolds whole test (one_value (value_at row k)))
+            → EvenIs (tree_value fields row (guarded_test fields false kind name test)) (TestHolds whole test (one_value (value_at row k)))
         test_even tests.Has sound other = rw named (has_even (value_at row k))
         test_even tests.Absent sound other = rw named (absent_even (value_at row k))
         test_even (tests.Fits parts cased) sound other =
-            says_even (FitsIt parts cased) (value_at row k) (test_value (test_of fields (written_test fields name (tests.Fits parts cased))) row)
+            says_even (FitsIt parts cased) (value_at row k) (test_value (test_of fields (written_test fields kind name (tests.Fits parts cased))) row)
             (fits_says cased parts sound.0.written sound.1)
         test_even (tests.Equals n) sound other =
             says_even (IsIt n) (value_at row k) (test_value (test_of fields (compares_number name Eq n)) row) (equal_says n sound.0 sound.1)
         test_even (tests.Compare op n) sound other =
             says_even (ValueStands op n) (value_at row k) (test_value (test_of fields (compares_number name (sign_of op) n)) row) (compare_says op n sound.0 sound.1)
         test_even (tests.SameAs m) sound other =
-            subst (λ (all : List Value). EvenIs (tree_value fields row (guarded_test fields false name (tests.SameAs m)))
+            subst (λ (all : List Value). EvenIs (tree_value fields row (guarded_test fields false kind name (tests.SameAs m)))
             (SomeOf (λ v. SomeOf (AreSame v) all) (one_value (value_at row k)))) (sym other.one)
             (same_even m other.there other.that_kind sound.1)
         test_even (tests.Finds expression) sound other =
-            says_even (IsFoundIn expression) (value_at row k) (test_value (test_of fields (written_test fields name (tests.Finds expression))) row) (found_says expression)
+            says_even (IsFoundIn expression) (value_at row k) (test_value (test_of fields (written_test fields kind name (tests.Finds expression))) row) (found_says expression)
 
         test_odd : (test : LeafTest) → IsSoundTest fields kind test → IsColumnIfAny whole (other_of test)
-            → OddIs (tree_value fields row (guarded_test fields (is_unsure test) name test)) (TestHolds whole test (one_value (value_at row k)))
+            → OddIs (tree_value fields row (guarded_test fields (is_unsure test) kind name test)) (TestHolds whole test (one_value (value_at row k)))
         test_odd tests.Has sound other = rw named (has_odd (value_at row k))
         test_odd tests.Absent sound other = rw named (absent_odd (value_at row k))
         test_odd (tests.Fits parts cased) sound other =
-            guarded_odd (FitsIt parts cased) (test_value (test_of fields (written_test fields name (tests.Fits parts cased))) row)
+            guarded_odd (FitsIt parts cased) (test_value (test_of fields (written_test fields kind name (tests.Fits parts cased))) row)
             (fits_says cased parts sound.0.written sound.1)
         test_odd (tests.Equals n) sound other =
             guarded_odd (IsIt n) (test_value (test_of fields (compares_number name Eq n)) row) (equal_says n sound.0 sound.1)
         test_odd (tests.Compare op n) sound other =
             guarded_odd (ValueStands op n) (test_value (test_of fields (compares_number name (sign_of op) n)) row) (compare_says op n sound.0 sound.1)
         test_odd (tests.SameAs m) sound other =
-            subst (λ (all : List Value). OddIs (tree_value fields row (guarded_test fields true name (tests.SameAs m)))
+            subst (λ (all : List Value). OddIs (tree_value fields row (guarded_test fields true kind name (tests.SameAs m)))
             (SomeOf (λ v. SomeOf (AreSame v) all) (one_value (value_at row k)))) (sym other.one)
             (same_odd m other.there other.that_kind sound.1)
         test_odd (tests.Finds expression) sound other =
-            guarded_odd (IsFoundIn expression) (test_value (test_of fields (written_test fields name (tests.Finds expression))) row) (found_says expression)
+            guarded_odd (IsFoundIn expression) (test_value (test_of fields (written_test fields kind name (tests.Finds expression))) row) (found_says expression)
 
     module _ (fields : List Field) (row : List (List Value)) (event : IsEvent fields row)
         (found : (k : ℕ) → k < length fields → column_of fields (name_at fields k) ≡ Some k) where

@@ -1,6 +1,7 @@
 mod Answered
 mod Apart
 mod Calm
+mod Caseless
 mod DepthLemmas
 mod DepthRows
 mod Doubled

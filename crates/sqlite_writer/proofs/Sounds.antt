@@ -1,5 +1,5 @@
 -- The tests of a sound tree can be written and have no faults.
-use Rattle.std.proofs.Common.{ℕ, ◌≡◌, ◌<◌, refl, sym, ◌∙◌, ap, Bool, true, false, not, List, length, subst}
+use Rattle.std.proofs.Common.{ℕ, ◌≡◌, ◌<◌, refl, sym, ◌∙◌, ap, Bool, true, false, not, if◌then◌else◌, List, length, subst}
 use Rattle.std.specs.Prelude.{ℤ, Some, ◌↔◌}
 use Rattle.std.specs.Str.{all_scalars}
 use Rattle.event_schema.specs.declared.schema.Field.{Field}
@@ -22,7 +22,7 @@ use Rattle.backend_core.specs.declared.tree.LeafTest.{LeafTest}
 use Rattle.backend_core.specs.declared.tree.LeafTest.TheVariants as tests
 use Rattle.backend_core.specs.Trees.{Plain, Plains, no_parts, a_part, all, any, negated, leaf, never}
 use Rattle.backend_core.specs.Sound.{IsSoundPattern, kind_at, IsSoundTest, IsSound, AreSound}
-use Rattle.sqlite_writer.specs.Guarded.{name_at, sign_of, same_test, finds_test, written_test, is_unsure, other_of, behind_other, guarded_test, sql_tree, sql_trees}
+use Rattle.sqlite_writer.specs.Guarded.{name_at, sign_of, wildcard_test, plain_test, same_test, finds_test, counts_case, written_test, is_unsure, other_of, behind_other, guarded_test, sql_tree, sql_trees}
 use Rattle.sqlite_writer.specs.Schemas.{AreScalars}
 use Rattle.sqlite_writer.proofs.FieldKinds.{name_scalars, kind_found, not_a_number}
 use Rattle.sqlite_writer.proofs.LeafMeans.{same_characters}
@@ -87,30 +87,31 @@ module _ (fields : List Field)
               (numbers (name_at fields other) (kind_at fields other) letters there is)
           by kinds.Address is = both_texts (λ e. let bad : kinds.Address ≡ kinds.Whole = sym is ∙ e in absurd cc)
 
-        sound_test : (test : LeafTest) → IsSoundTest fields kind test → IsSoundLeaf fields (written_test fields name test)
+        sound_test : (test : LeafTest) → IsSoundTest fields kind test → IsSoundLeaf fields (written_test fields kind name test)
         sound_test tests.Has sound = sound_value name scalars (known name kind scalars of_kind)
         sound_test tests.Absent sound = sound_no_value name scalars (known name kind scalars of_kind)
-        sound_test (tests.Fits parts cased) sound = by cased (has_wildcard parts) refl where
+        sound_test (tests.Fits parts cased) sound = by (counts_case kind cased) cased (has_wildcard parts) refl where
           other : has_wildcard parts ≡ false → kind ≡ kinds.Whole → ⊥
           other plain is = let wild : has_wildcard parts ≡ true = sound.1 is in absurd cc
 
           is_known : unknown fields name ≡ false
           is_known = known name kind scalars of_kind
 
-          by : (cased : Bool) (wild : Bool) → has_wildcard parts ≡ wild → IsSoundLeaf fields (written_test fields name (tests.Fits parts cased))
-          by true true is =
-              rw is (sound_glob name (glob_text (sql_parts parts)) scalars (glob_plain (sql_parts parts) (plain_characters parts sound.0)) is_known (glob_is_good (sql_parts parts)))
-          by false true is =
-              rw is (sound_like name (like_text (sql_parts parts)) scalars (like_plain (sql_parts parts) (plain_characters parts sound.0)) is_known (like_is_good (sql_parts parts)))
-          by true false is = rw is (sound_text name (plain_text parts) Unsaid scalars sound.0.plain (texts name kind scalars of_kind (other is)))
-          by false false is = rw is (sound_text name (plain_text parts) NoCase scalars sound.0.plain (texts name kind scalars of_kind (other is)))
+          by : (counts cased wild : Bool) → has_wildcard parts ≡ wild
+              → IsSoundLeaf fields (if wild then wildcard_test name counts parts else plain_test name cased parts)
+          by true cased true is =
+              sound_glob name (glob_text (sql_parts parts)) scalars (glob_plain (sql_parts parts) (plain_characters parts sound.0)) is_known (glob_is_good (sql_parts parts))
+          by false cased true is =
+              sound_like name (like_text (sql_parts parts)) scalars (like_plain (sql_parts parts) (plain_characters parts sound.0)) is_known (like_is_good (sql_parts parts))
+          by counts true false is = sound_text name (plain_text parts) Unsaid scalars sound.0.plain (texts name kind scalars of_kind (other is))
+          by counts false false is = sound_text name (plain_text parts) NoCase scalars sound.0.plain (texts name kind scalars of_kind (other is))
         sound_test (tests.Equals n) sound = sound_number name Eq n scalars sound.1 (numbers name kind scalars of_kind sound.0)
         sound_test (tests.Compare op n) sound = sound_number name (sign_of op) n scalars sound.1 (numbers name kind scalars of_kind sound.0)
         sound_test (tests.SameAs other) sound = same_sound other sound.0 sound.1
         sound_test (tests.Finds expression) sound = sound_finds fields name expression scalars sound.1 (known name kind scalars of_kind)
 
         -- behind the guard of a further field
-        sound_behind : (test : LeafTest) → IsSoundTest fields kind test → EachOfTrees (IsSoundLeaf fields) (behind_other fields (other_of test) (written_test fields name test))
+        sound_behind : (test : LeafTest) → IsSoundTest fields kind test → EachOfTrees (IsSoundLeaf fields) (behind_other fields (other_of test) (written_test fields kind name test))
         sound_behind tests.Has sound = (sound_test tests.Has sound, tt)
         sound_behind tests.Absent sound = (sound_test tests.Absent sound, tt)
         sound_behind (tests.Fits parts cased) sound = (sound_test (tests.Fits parts cased) sound, tt)
@@ -122,19 +123,19 @@ module _ (fields : List Field)
             (sound_value (name_at fields other) letters (known (name_at fields other) (kind_at fields other) letters there), (sound_test (tests.SameAs other) sound, tt))
         sound_behind (tests.Finds expression) sound = (sound_test (tests.Finds expression) sound, tt)
 
-        sound_guarded : (guarded : Bool) (test : LeafTest) → IsSoundTest fields kind test → EachLeaf (IsSoundLeaf fields) (guarded_test fields guarded name test)
+        sound_guarded : (guarded : Bool) (test : LeafTest) → IsSoundTest fields kind test → EachLeaf (IsSoundLeaf fields) (guarded_test fields guarded kind name test)
         sound_guarded true test sound = (sound_value name scalars (known name kind scalars of_kind), sound_behind test sound)
         sound_guarded false test sound = sound_test test sound
 
       pub named_sound : (guarded : Bool) (k : ℕ) (test : LeafTest) → k < length fields → IsSoundTest fields (kind_at fields k) test
-          → EachLeaf (IsSoundLeaf fields) (guarded_test fields guarded (name_at fields k) test)
+          → EachLeaf (IsSoundLeaf fields) (guarded_test fields guarded (kind_at fields k) (name_at fields k) test)
       named_sound guarded k test in_range sound =
           sound_guarded (name_at fields k) (kind_at fields k) (name_scalars fields k names) (kind_found fields (name_at fields k) k (found k in_range)) guarded test sound
 
 -- what each written test is and 0 is, each test of a tree is
 module _ (fields : List Field) (P : Leaf → Type 0) (nothing : P (constant false))
     (each : (guarded : Bool) (k : ℕ) (test : LeafTest) → k < length fields → IsSoundTest fields (kind_at fields k) test
-    → EachLeaf P (guarded_test fields guarded (name_at fields k) test))
+    → EachLeaf P (guarded_test fields guarded (kind_at fields k) (name_at fields k) test))
   where
     mutual
       pub tree_each : (odd : Bool) (t : Plain) → IsSound fields t → EachLeaf P (sql_tree fields odd t)

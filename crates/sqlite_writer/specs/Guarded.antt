@@ -28,6 +28,12 @@ name_at [] k = []
 name_at (field ∷ fields) zero = field.name
 name_at (field ∷ fields) (suc k) = name_at fields k
 
+-- whether case counts in a field of this kind where a test asks for it: in whole numbers stands no letter
+abbrev pub counts_case : FieldKind → Bool → Bool
+counts_case kinds.Text cased = cased
+counts_case kinds.Whole cased = false
+counts_case kinds.Address cased = cased
+
 -- "field" GLOB 'pattern' by case, and "field" LIKE 'pattern' ESCAPE '\' in any case
 abbrev pub wildcard_test : List ℕ → Bool → List Part → Leaf
 wildcard_test field true parts = fits_glob field (glob_text (sql_parts parts))
@@ -55,16 +61,16 @@ same_test kinds.Address field other = equals_field field other NoCase
 abbrev pub finds_test : List ℕ → List ℕ → Leaf
 finds_test field expression = regexp field false expression
 
--- a test of a field of this name, and of others of these fields
-abbrev pub written_test : List Field → List ℕ → LeafTest → Leaf
-written_test fields field tests.Has = has_value field
-written_test fields field tests.Absent = has_no_value field
-written_test fields field (tests.Fits pattern cased) =
-    if has_wildcard pattern then wildcard_test field cased pattern else plain_test field cased pattern
-written_test fields field (tests.Equals n) = compares_number field Eq n
-written_test fields field (tests.Compare op n) = compares_number field (sign_of op) n
-written_test fields field (tests.SameAs other) = same_test (kind_at fields other) field (name_at fields other)
-written_test fields field (tests.Finds expression) = finds_test field expression
+-- a test of a field of this kind and name, and of others of these fields
+abbrev pub written_test : List Field → FieldKind → List ℕ → LeafTest → Leaf
+written_test fields kind field tests.Has = has_value field
+written_test fields kind field tests.Absent = has_no_value field
+written_test fields kind field (tests.Fits pattern cased) =
+    if has_wildcard pattern then wildcard_test field (counts_case kind cased) pattern else plain_test field cased pattern
+written_test fields kind field (tests.Equals n) = compares_number field Eq n
+written_test fields kind field (tests.Compare op n) = compares_number field (sign_of op) n
+written_test fields kind field (tests.SameAs other) = same_test (kind_at fields other) field (name_at fields other)
+written_test fields kind field (tests.Finds expression) = finds_test field expression
 
 -- a test that is unknown where there is no value
 abbrev pub is_unsure : LeafTest → Bool
@@ -91,10 +97,10 @@ abbrev pub behind_other : List Field → Option ℕ → Leaf → Trees
 behind_other fields None l = a_tree (leaf l) no_trees
 behind_other fields (Some other) l = a_tree (leaf (has_value (name_at fields other))) (a_tree (leaf l) no_trees)
 
-abbrev pub guarded_test : List Field → Bool → List ℕ → LeafTest → Tree
-guarded_test fields guarded field test =
-    if guarded then all (leaf (has_value field)) (behind_other fields (other_of test) (written_test fields field test))
-    else leaf (written_test fields field test)
+abbrev pub guarded_test : List Field → Bool → FieldKind → List ℕ → LeafTest → Tree
+guarded_test fields guarded kind field test =
+    if guarded then all (leaf (has_value field)) (behind_other fields (other_of test) (written_test fields kind field test))
+    else leaf (written_test fields kind field test)
 
 -- the tests of a tree that stands below an odd number of words NOT, or below an even one; an all of no parts is 1, and an any
 -- of none and what never holds are 0
@@ -106,7 +112,7 @@ module _ (fields : List Field) where
     sql_tree odd (trees.any no_parts) = leaf (constant false)
     sql_tree odd (trees.any (a_part t ts)) = any (sql_tree odd t) (sql_trees odd ts)
     sql_tree odd (trees.negated t) = negated (sql_tree (not odd) t)
-    sql_tree odd (trees.leaf l) = guarded_test fields (odd && is_unsure l.test) (name_at fields l.field) l.test
+    sql_tree odd (trees.leaf l) = guarded_test fields (odd && is_unsure l.test) (kind_at fields l.field) (name_at fields l.field) l.test
     sql_tree odd trees.never = leaf (constant false)
 
     pub sql_trees : Bool → Plains → Trees

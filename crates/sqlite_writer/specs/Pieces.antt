@@ -1,6 +1,7 @@
 -- The text of a tree whose guards are tests of their own, part by part, where it stands.
 use Rattle.std.specs.Prelude.{Bool, true, false, List, [], ◌∷◌, ◌++◌, codes, ℕ, map}
 use Rattle.event_schema.specs.declared.schema.Field.{Field}
+use Rattle.event_schema.specs.declared.schema.FieldKind.{FieldKind}
 use Rattle.event_schema.specs.declared.schema.Schema.{Schema}
 use Rattle.sql_lang.specs.Grammar.{spell_test}
 use Rattle.sql_layout.specs.Leaves.{has_value}
@@ -8,6 +9,7 @@ use Rattle.sql_layout.specs.Layout.{spaced, in_quotes}
 use Rattle.backend_core.specs.declared.tree.LeafTest.{LeafTest}
 use Rattle.backend_core.specs.declared.tree.Tree.{Tree}
 use Rattle.backend_core.specs.Trees.{Plain, Plains, no_parts, a_part, all, any, negated, leaf, never}
+use Rattle.backend_core.specs.Sound.{kind_at}
 use Rattle.backend_core.specs.View.{tree_view}
 use Rattle.sqlite_writer.specs.declared.place.Kind.{Kind}
 use Rattle.sqlite_writer.specs.declared.place.Kind.TheVariants.{All, Any}
@@ -54,8 +56,8 @@ two_texts word first second = first ++ (word ++ (codes "(" ++ (second ++ codes "
 abbrev pub halved_text : Kind → List (List ℕ) → List ℕ
 halved_text kind texts = halved (row_text (word_of kind) false) (two_texts (word_of kind)) texts
 
-abbrev pub test_text : List Field → List ℕ → LeafTest → List ℕ
-test_text fields field test = spaced (spell_test (written_test fields field test))
+abbrev pub test_text : List Field → FieldKind → List ℕ → LeafTest → List ℕ
+test_text fields kind field test = spaced (spell_test (written_test fields kind field test))
 
 abbrev pub has_text : List ℕ → List ℕ
 has_text field = spaced (spell_test (has_value field))
@@ -66,7 +68,7 @@ module _ (fields : List Field) where
     tree_text at (all ts) = enclosed_if (is_enclosed All at) (halved_text All (parts_text InAnd ts))
     tree_text at (any ts) = enclosed_if (is_enclosed Any at) (halved_text Any (parts_text InOr ts))
     tree_text at (negated t) = codes "NOT " ++ tree_text BehindNot t
-    tree_text at (leaf l) = test_text fields (name_at fields l.field) l.test
+    tree_text at (leaf l) = test_text fields (kind_at fields l.field) (name_at fields l.field) l.test
     tree_text at never = codes "0"
 
     pub parts_text : Standing → Plains → List (List ℕ)

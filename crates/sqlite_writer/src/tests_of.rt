@@ -7,6 +7,7 @@ ghost use Rattle.sql_lang.specs.Grammar.{spell_test};
 ghost use Rattle.sql_lang.specs.Tokens.{Eq};
 ghost use Rattle.sql_layout.specs.Layout.{op_text, spaced};
 ghost use Rattle.sql_layout.specs.Leaves.{compares_number, has_no_value};
+ghost use Rattle.sqlite_writer.specs.Guarded as guards;
 ghost use Rattle.sqlite_writer.specs.Guarded.{wildcard_test, plain_test, same_test, finds_test, sign_of};
 ghost use Rattle.sqlite_writer.specs.Pieces.{has_text, test_text};
 
@@ -69,14 +70,31 @@ fn put_plain(out: &mut Text, field: &str, cased: bool, parts: &[Part]) -> Result
     Ok(())
 }
 
-fn put_fits(out: &mut Text, field: &str, cased: bool, pattern: &SharedPattern) -> Result<(), Fault>
-    ensures ok { OnOk result (out.new ≡ out.old ++ spaced (spell_test (if has_wildcard pattern.now then wildcard_test (chars field.now) cased pattern.now
+/// Whether case counts in a field of this kind where a test asks for it.
+fn counts_case(kind: FieldKind, cased: bool) -> bool
+    ensures { result ≡ guards.counts_case kind cased }
+{
+    match kind {
+        FieldKind::Text | FieldKind::Address => cased,
+        FieldKind::Whole => false,
+    }
+}
+
+fn put_fits(
+    out: &mut Text,
+    field: &str,
+    kind: FieldKind,
+    cased: bool,
+    pattern: &SharedPattern,
+) -> Result<(), Fault>
+    ensures ok { OnOk result (out.new ≡ out.old ++ spaced (spell_test (if has_wildcard pattern.now
+        then wildcard_test (chars field.now) (guards.counts_case kind cased) pattern.now
         else plain_test (chars field.now) cased pattern.now))) }
     ensures err { IfErr result (λ e. e ≡ Fault.Memory) }
 {
     let parts = pattern.parts();
     if pattern.has_wildcard() {
-        return put_wildcard(out, field, cased, parts);
+        return put_wildcard(out, field, counts_case(kind, cased), parts);
     }
     put_plain(out, field, cased, parts)
 }
@@ -145,20 +163,21 @@ fn put_finds(out: &mut Text, field: &str, expression: &str) -> Result<(), Fault>
     put(out, "'")
 }
 
-/// Adds a test of a field of this name.
+/// Adds a test of a field of this kind and name.
 pub(crate) fn put_test(
     out: &mut Text,
     fields: &[Field],
+    kind: FieldKind,
     field: &str,
     test: &LeafTest,
 ) -> Result<(), Fault>
-    ensures ok { OnOk result (out.new ≡ out.old ++ test_text fields.now (chars field.now) test.now) }
+    ensures ok { OnOk result (out.new ≡ out.old ++ test_text fields.now kind (chars field.now) test.now) }
     ensures err { IfErr result (λ e. e ≡ Fault.Memory) }
 {
     match test {
         LeafTest::Has => put_has(out, field),
         LeafTest::Absent => put_absent(out, field),
-        LeafTest::Fits { pattern, cased } => put_fits(out, field, *cased, pattern),
+        LeafTest::Fits { pattern, cased } => put_fits(out, field, kind, *cased, pattern),
         LeafTest::Equals(number) => put_equals(out, field, number),
         LeafTest::Compare { op, number } => put_compare(out, field, *op, number),
         LeafTest::SameAs(other) => {

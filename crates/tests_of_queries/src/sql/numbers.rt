@@ -13,7 +13,9 @@ const CONDITIONS: &str = r#""EventID" = 4624~=:1:4624
 "Code" = 0~=:2:0
 "Code" = -9223372036854775807~=:2:-9223372036854775807
 "EventID" LIKE '46%' ESCAPE '\'~fits:1:46*
-"EventID" GLOB '-?6*'~cased:1:-?6*
+"EventID" LIKE '46%' ESCAPE '\'~cased:1:46*
+"EventID" LIKE '-_6%' ESCAPE '\'~cased:1:-?6*
+NOT ("EventID" IS NOT NULL AND "EventID" LIKE '%\%A' ESCAPE '\')~cased:1:*%A not
 NOT ("Code" IS NOT NULL AND "Code" = 5)~=:2:5 not
 NOT NOT "Code" = 5~=:2:5 not not
 0~never

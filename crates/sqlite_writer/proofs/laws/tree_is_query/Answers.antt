@@ -5,6 +5,7 @@ use Rattle.sql_lang.specs.Grammar.{Query}
 use Rattle.event_schema.specs.Rows.{first_values}
 use Rattle.sql_layout.specs.Trees.{IsSound as IsSoundLeaf}
 use Rattle.sql_layout.specs.HalvedTrees.{layout_query, fine_or}
+use Rattle.backend_core.specs.Sound.{kind_at}
 use Rattle.sqlite_writer.specs.Guarded.{name_at}
 use Rattle.sqlite_writer.specs.Queries.{query_tree, query_text, query_bytes, query_expr}
 use Rattle.sqlite_writer.proofs.Nested.{IsCalm}
@@ -22,7 +23,7 @@ returns c = λ limit schema t found sound none some deep.
     found.names found.found in
     let each_sound = tree_each fields (IsSoundLeaf fields) (leaves.never fields) sound_named false t sound in
     let each_calm = tree_each fields (IsCalm limit) (calm_never limit some (leaves.never fields).writable)
-    (λ guarded k test in_range fit. calm_guarded limit some fields guarded (name_at fields k) test (sound_named guarded k test in_range fit)) false t sound in
+    (λ guarded k test in_range fit. calm_guarded limit some fields guarded (kind_at fields k) (name_at fields k) test (sound_named guarded k test in_range fit)) false t sound in
     let tree = query_tree schema t in
     let writable = writable_layout limit fields schema.table tree found.table each_calm in
     let scanned = c.spelling_is_scanned.ensures (layout_query schema.table tree) writable in
