@@ -3,7 +3,7 @@
 
 pub use nodes::{
     all_entries, elements_of, entries_of, find_value, has_key, is_empty, is_map, is_null,
-    is_scalar, parts_of, place_of, text_of, value_at,
+    is_scalar, is_truth, parts_of, place_of, text_of, value_at,
 };
 pub use tree::{Document, Entry, Kind, Node};
 
