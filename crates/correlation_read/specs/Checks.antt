@@ -9,24 +9,13 @@ use Rattle.sig_base.specs.declared.refusal.Place.{Place}
 use Rattle.sig_base.specs.declared.refusal.Refusal.{Refusal}
 use Rattle.sig_base.specs.Judged.{refusal, must, first}
 use Rattle.yaml_tree.specs.Tree.{Scalar, null, truth, whole, text, Tree, scalar, list, map, Member}
-use Rattle.yaml_tree.specs.Nodes.{place_of, key_place, is_map, is_text, text_in, entries_in, parts_in, value_in, has_key, required, refused_at}
+use Rattle.yaml_tree.specs.Nodes.{place_of, key_place, is_map, is_text, is_truth, text_in, entries_in, parts_in, value_in, has_key, required, refused_at}
 use Rattle.rule_head.specs.Heads.{head_checks}
 use Rattle.correlation_windows.specs.declared.bound.CorrelationKind.{CorrelationKind}
 use Rattle.correlation_read.specs.Timespans.{span_of}
 use Rattle.correlation_read.specs.Words.{kind_of, op_of, counts, counts_values}
 
 -- ---- scalars
-
-abbrev pub is_truth_scalar : Scalar → Bool
-is_truth_scalar null = false
-is_truth_scalar (truth b) = true
-is_truth_scalar (whole n) = false
-is_truth_scalar (text t) = false
-
-abbrev pub is_truth : Tree → Bool
-is_truth (scalar at s) = is_truth_scalar s
-is_truth (list at es) = false
-is_truth (map at ms) = false
 
 -- the number that a node is, if it's one from 0 on
 abbrev pub natural : ℤ → Option ℕ

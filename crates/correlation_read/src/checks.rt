@@ -15,7 +15,8 @@ use crate::words::{counts, counts_values, kind_of, op_of};
 use correlation_windows::CorrelationKind;
 use sig_base::{Code, Fault, Place, Text, must, refused};
 use yaml_tree::{
-    Entry, Kind, Node, all_entries, has_key, is_map, parts_of, place_of, text_of, value_at,
+    Entry, Kind, Node, all_entries, has_key, is_map, is_truth, parts_of, place_of, text_of,
+    value_at,
 };
 
 /// What is known of a correlation that isn't refused.
@@ -23,15 +24,6 @@ use yaml_tree::{
 pub(crate) struct Checked {
     pub(crate) kind: CorrelationKind,
     pub(crate) span: i128,
-}
-
-fn is_truth(node: &Node) -> bool
-    ensures { result ≡ spec.is_truth (node_view node.now) }
-{
-    match &node.kind {
-        Kind::Truth(_) => true,
-        Kind::Null | Kind::Whole(_) | Kind::Text(_) | Kind::List(_) | Kind::Map(_) => false,
-    }
 }
 
 fn natural(number: &i64) -> Option<u64>

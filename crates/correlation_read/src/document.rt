@@ -4,7 +4,7 @@ ghost use Rattle.std.specs.Prelude.{◌≡◌, [], true, codes, map as list_map,
 ghost use Rattle.std.specs.List.{filter_map};
 ghost use Rattle.sig_base.specs.Judged.{Judged};
 ghost use Rattle.sig_base.specs.Texts.{is_ascii};
-ghost use Rattle.yaml_tree.specs.View.{node_view, nodes_view, entry_view, entries_view};
+ghost use Rattle.yaml_tree.specs.View.{node_view, entry_view, entries_view};
 ghost use Rattle.yaml_tree.specs.Nodes as nodes;
 ghost use Rattle.rule_head.specs.Heads.{rest_of};
 ghost use Rattle.correlation_read.specs.Checks.{body_refusal, correlation_refusal};
@@ -17,7 +17,7 @@ use correlation_windows::{CorrelationKind, Op};
 use rule_head::Head;
 use sig_base::{Code, Fault, Limits, Sequence, Text, Texts, refused};
 use std::alloc::Global;
-use yaml_tree::{Entry, Node, all_entries, parts_of, place_of, text_of, value_at};
+use yaml_tree::{Entry, Node, all_entries, copy_text, copy_texts, parts_of, place_of, value_at};
 
 /// What the value of `correlation` says.
 #[derive(Drop)]
@@ -29,28 +29,6 @@ pub(crate) struct Body {
     condition: Sequence<(Op, u64)>,
     counted: Option<Text>,
     aliases: Sequence<Alias>,
-}
-
-/// The characters of a text, and none of another node.
-fn copy_text(alloc: Global, node: &Node) -> Result<Text, Fault>
-    ensures ok { IfOk result (λ t. t ≡ nodes.text_in (node_view node.now)) }
-    ensures err { IfErr result (λ e. e ≡ Fault.Memory) }
-{
-    match text_of(node) {
-        Some(text) => Text::copy(alloc, text.as_str()),
-        None => Ok(Text::new(alloc)),
-    }
-}
-
-fn copy_texts(alloc: Global, parts: &[Node]) -> Result<Texts, Fault>
-    ensures ok { IfOk result (λ ts. ts ≡ list_map nodes.text_in (nodes_view parts.now)) }
-    ensures err { IfErr result (λ e. e ≡ Fault.Memory) }
-{
-    let mut texts = Texts::with_capacity(alloc, parts.len())?;
-    for part in parts {
-        texts.push(copy_text(alloc, part)?)?;
-    }
-    Ok(texts)
 }
 
 /// The texts at a key.

@@ -7,7 +7,7 @@ use Rattle.sig_base.specs.declared.refusal.Place.{Place}
 use Rattle.sig_base.specs.declared.refusal.Refusal.{Refusal}
 use Rattle.sig_base.specs.Judged.{refusal, must}
 use Rattle.yaml_tree.specs.Tree.{Scalar, null, truth, whole, text, Tree, scalar, list, map, Member}
-use Rattle.yaml_tree.specs.Nodes.{place_of, key_place, is_empty, is_map, is_text, text_in, entries_in, parts_in, value_in, has_key}
+use Rattle.yaml_tree.specs.Nodes.{place_of, key_place, is_empty, is_map, is_text, is_truth, text_in, entries_in, parts_in, value_in, has_key}
 use Rattle.pipeline_check.specs.declared.words.Listing.{Listing}
 use Rattle.pipeline_check.specs.Words.{listing_of, is_source_key}
 use Rattle.pipeline_check.specs.Causes.{least}
@@ -18,17 +18,6 @@ abbrev pub is_list : Tree → Bool
 is_list (scalar at s) = false
 is_list (list at es) = true
 is_list (map at ms) = false
-
-abbrev pub is_truth_scalar : Scalar → Bool
-is_truth_scalar null = false
-is_truth_scalar (truth b) = true
-is_truth_scalar (whole n) = false
-is_truth_scalar (text t) = false
-
-abbrev pub is_truth : Tree → Bool
-is_truth (scalar at s) = is_truth_scalar s
-is_truth (list at es) = false
-is_truth (map at ms) = false
 
 abbrev pub is_whole_scalar : Scalar → Bool
 is_whole_scalar null = false

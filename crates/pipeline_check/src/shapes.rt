@@ -8,7 +8,9 @@ ghost use Rattle.pipeline_check.specs.Shapes as spec;
 
 use crate::causes::{must, sooner};
 use sig_base::{Code, Refusal};
-use yaml_tree::{Entry, Kind, Node, all_entries, is_empty, is_map, parts_of, place_of, text_of};
+use yaml_tree::{
+    Entry, Kind, Node, all_entries, is_empty, is_map, is_truth, parts_of, place_of, text_of,
+};
 
 fn is_list(node: &Node) -> bool
     ensures { result ≡ spec.is_list (node_view node.now) }
@@ -16,15 +18,6 @@ fn is_list(node: &Node) -> bool
     match &node.kind {
         Kind::List(_) => true,
         Kind::Null | Kind::Truth(_) | Kind::Whole(_) | Kind::Text(_) | Kind::Map(_) => false,
-    }
-}
-
-fn is_truth(node: &Node) -> bool
-    ensures { result ≡ spec.is_truth (node_view node.now) }
-{
-    match &node.kind {
-        Kind::Truth(_) => true,
-        Kind::Null | Kind::Whole(_) | Kind::Text(_) | Kind::List(_) | Kind::Map(_) => false,
     }
 }
 

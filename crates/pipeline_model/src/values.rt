@@ -17,18 +17,7 @@ use pipeline_check::{Listing, listing_at};
 use rule_head::LogSource;
 use sig_base::{Fault, Sequence, Text, Texts};
 use std::alloc::Global;
-use yaml_tree::{Entry, Kind, Node, parts_of, text_of, value_at};
-
-/// The characters of a text, and none of another node.
-fn copy_text(alloc: Global, node: &Node) -> Result<Text, Fault>
-    ensures ok { IfOk result (λ t. t ≡ nodes.text_in (node_view node.now)) }
-    ensures err { IfErr result (λ e. e ≡ Fault.Memory) }
-{
-    match text_of(node) {
-        Some(text) => Text::copy(alloc, text.as_str()),
-        None => Ok(Text::new(alloc)),
-    }
-}
+use yaml_tree::{Entry, Kind, Node, copy_text, copy_texts, parts_of, text_of, value_at};
 
 /// The text at a key, or the empty one.
 pub(crate) fn copy_text_or_none(alloc: Global, node: &Node, key: &str) -> Result<Text, Fault>
@@ -52,17 +41,6 @@ pub(crate) fn copy_text_at(alloc: Global, node: &Node, key: &str) -> Result<Opti
         Some(value) => Ok(Some(copy_text(alloc, value)?)),
         None => Ok(None),
     }
-}
-
-fn copy_texts(alloc: Global, parts: &[Node]) -> Result<Texts, Fault>
-    ensures ok { IfOk result (λ ts. ts ≡ list_map nodes.text_in (nodes_view parts.now)) }
-    ensures err { IfErr result (λ e. e ≡ Fault.Memory) }
-{
-    let mut texts = Texts::with_capacity(alloc, parts.len())?;
-    for part in parts {
-        texts.push(copy_text(alloc, part)?)?;
-    }
-    Ok(texts)
 }
 
 /// The texts at a key.

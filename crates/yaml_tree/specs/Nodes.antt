@@ -40,6 +40,17 @@ is_null (scalar a s) = is_null_scalar s
 is_null (list a es) = false
 is_null (map a ms) = false
 
+abbrev pub is_truth_scalar : Scalar → Bool
+is_truth_scalar null = false
+is_truth_scalar (truth b) = true
+is_truth_scalar (whole n) = false
+is_truth_scalar (text t) = false
+
+abbrev pub is_truth : Tree → Bool
+is_truth (scalar a s) = is_truth_scalar s
+is_truth (list a es) = false
+is_truth (map a ms) = false
+
 abbrev pub is_text_scalar : Scalar → Bool
 is_text_scalar null = false
 is_text_scalar (truth b) = false

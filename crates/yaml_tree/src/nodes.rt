@@ -100,6 +100,16 @@ pub fn is_null(node: &Node) -> bool
     }
 }
 
+/// Whether the node is a truth value.
+pub fn is_truth(node: &Node) -> bool
+    ensures { result ≡ spec.is_truth (node_view node.now) }
+{
+    match &node.kind {
+        Kind::Truth(_) => true,
+        Kind::Null | Kind::Whole(_) | Kind::Text(_) | Kind::List(_) | Kind::Map(_) => false,
+    }
+}
+
 /// Whether the node is neither a list nor a map.
 pub fn is_scalar(node: &Node) -> bool
     ensures { result ≡ spec.is_scalar (node_view node.now) }
