@@ -119,10 +119,10 @@ fn item_of(alloc: Global, line: u64, start: Start) -> Result<Item, Trouble> {
     })
 }
 
-/// That a line isn't one of a file of cases.
-fn refused(alloc: Global, number: u64, what: &str, line: &str) -> Trouble {
-    match format!(in alloc; "line {number}, {what}") {
-        Ok(what) => Trouble::of(alloc, what.as_str(), line),
+/// What is wrong with the line of this number.
+fn refused(alloc: Global, number: u64, what: &str) -> Trouble {
+    match format!(in alloc; "line {number}: {what}") {
+        Ok(text) => Trouble::Said(text),
         Err(_) => Trouble::Memory,
     }
 }
@@ -158,7 +158,7 @@ fn add_other(
     if line.starts_with('#') {
         Ok(())
     } else {
-        Err(refused(alloc, number, "which belongs to no part", line))
+        Err(refused(alloc, number, "a text that belongs to no part"))
     }
 }
 
@@ -175,7 +175,7 @@ pub fn items_of(alloc: Global, text: &str) -> Result<Vec<Item>, Trouble> {
             continue;
         }
         if is_unseen(line) {
-            return Err(refused(alloc, number, "with a byte that isn't seen", line));
+            return Err(refused(alloc, number, "a byte that isn't seen"));
         }
         match start_of(line) {
             Some(start) => items.push(item_of(alloc, number, start)?)?,

@@ -207,7 +207,7 @@ pub fn scene_of(alloc: Global, shared: &[Item], own: &[Item]) -> Result<Scene, T
         }
     }
     if !has_commands && scene.groups.len() > 1 && own.iter().any(|item| is_wanted(item)) {
-        return Err(Trouble::of(alloc, "of which command?", "out, err or status"));
+        return Err(Trouble::of(alloc, "of which of the commands", "out, err or status"));
     }
     for item in own {
         add_item(alloc, &mut scene, item)?;

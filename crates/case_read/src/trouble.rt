@@ -13,6 +13,14 @@ pub enum Trouble {
 }
 
 impl Trouble {
+    /// What is wrong.
+    pub fn said(alloc: Global, what: &str) -> Trouble {
+        match String::from_str(alloc, what) {
+            Ok(text) => Trouble::Said(text),
+            Err(_) => Trouble::Memory,
+        }
+    }
+
     /// What is wrong, and the words that are.
     pub fn of(alloc: Global, what: &str, words: &str) -> Trouble {
         match format!(in alloc; "{what}: {words}") {

@@ -132,7 +132,7 @@ fn wrong_in(alloc: Global, shared: &[Item], own: &[Item]) -> Result<String, Trou
     let inputs = inputs_of(alloc, &mut scene)?;
     let steps = steps_of(alloc, &mut scene)?;
     if steps.is_empty() {
-        return Err(Trouble::of(alloc, "no command", ""));
+        return Err(Trouble::said(alloc, "no command"));
     }
     for hole in scene.holes.as_slice() {
         if hole.is_owed {
@@ -192,7 +192,7 @@ pub fn run_cases(
     let items = items.as_slice();
     let mut shared: &[Item] = &[];
     if !front_of(items).is_empty() {
-        return Err(Trouble::of(alloc, "a part before all cases", file));
+        return Err(Trouble::said(alloc, "a part before all cases"));
     }
     for place in 0..items.len() {
         let Some((head, rest)) = items.split_at(place).1.split_first() else {
@@ -206,7 +206,7 @@ pub fn run_cases(
         }
     }
     if report.cases == 0 {
-        return Err(Trouble::of(alloc, "no cases", file));
+        return Err(Trouble::said(alloc, "no cases"));
     }
     Ok(())
 }

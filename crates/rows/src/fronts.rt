@@ -89,12 +89,12 @@ pub fn broken(
             if wanted == failed {
                 return Ok(None);
             }
-            let line = format!(in alloc; "{failed} calls fail in turn, and {wanted} are to")?;
+            let line = format!(in alloc; "failing calls are to be {wanted} and are {failed}")?;
             return Ok(Some(line));
         }
         if !is_cut_off(&ran, whole, law.device, input_of(law, failed)) {
             let line = format!(in alloc;
-                "what stands where call {call} fails isn't a front of the whole"
+                "what is written where call {call} fails isn't a front of the whole"
             )?;
             return Ok(Some(line));
         }
