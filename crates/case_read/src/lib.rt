@@ -1,4 +1,4 @@
-//! Files of cases: what a case runs, in which world, and what is wanted of it. What is run stands in the crate above.
+//! Files of cases: what a case runs, in which world, and what is wanted of it.
 #![tactic(auto)]
 
 pub use compare::add_differences;

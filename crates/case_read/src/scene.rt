@@ -37,6 +37,8 @@ pub struct Scene {
     pub events: String,
     pub groups: Vec<Group>,
     pub laws: Vec<Law>,
+    /// The files that are cut after each of their bytes.
+    pub cut_files: Vec<String>,
 }
 
 fn empty(alloc: Global) -> Scene {
@@ -47,6 +49,7 @@ fn empty(alloc: Global) -> Scene {
         events: String::new(alloc),
         groups: Vec::new(alloc),
         laws: Vec::new(alloc),
+        cut_files: Vec::new(alloc),
     }
 }
 
@@ -126,15 +129,8 @@ fn limited(world: World, words: &str) -> Option<World> {
     Some(world)
 }
 
-/// Adds a limit, or what is said of a device.
-fn add_setting(alloc: Global, scene: &mut Scene, line: &str) -> Result<(), Trouble> {
-    if let Some(words) = line.strip_prefix("limits ") {
-        let Some(world) = limited(scene.world, words) else {
-            return Err(Trouble::of(alloc, "no limit", words));
-        };
-        scene.world = world;
-        return Ok(());
-    }
+/// Adds what is said of a device.
+fn add_device(alloc: Global, scene: &mut Scene, line: &str) -> Result<(), Trouble> {
     let Some(setting) = setting_of(line) else {
         return Err(Trouble::of(alloc, "unknown words", line));
     };
@@ -147,6 +143,22 @@ fn add_setting(alloc: Global, scene: &mut Scene, line: &str) -> Result<(), Troub
         })?;
     }
     Ok(())
+}
+
+/// Adds a limit, a file that is cut, or what is said of a device.
+fn add_setting(alloc: Global, scene: &mut Scene, line: &str) -> Result<(), Trouble> {
+    if let Some(words) = line.strip_prefix("limits ") {
+        let Some(world) = limited(scene.world, words) else {
+            return Err(Trouble::of(alloc, "no limit", words));
+        };
+        scene.world = world;
+        return Ok(());
+    }
+    if let Some(name) = line.strip_suffix(" is cut after each byte") {
+        scene.cut_files.push(copy_of(alloc, name)?)?;
+        return Ok(());
+    }
+    add_device(alloc, scene, line)
 }
 
 fn add_item(alloc: Global, scene: &mut Scene, item: &Item) -> Result<(), Trouble> {

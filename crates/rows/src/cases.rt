@@ -1,10 +1,11 @@
 //! The cases of a file.
 
-use crate::fronts::broken;
+use crate::cuts::broken_front;
+use crate::failures::broken;
 use crate::runs::{Command, Inputs, run_in};
 use case_read::{
-    Group, Hole, Item, Kind, Law, Ran, Report, Scene, Trouble, World, add_differences, bytes_of,
-    filled, items_of, scene_of,
+    Group, Hole, Item, Kind, Ran, Report, Scene, Trouble, add_differences, bytes_of, filled,
+    items_of, scene_of,
 };
 use sig_base::Text;
 use std::alloc::Global;
@@ -60,22 +61,32 @@ fn wanted_of(alloc: Global, group: &Group, holes: &mut [Hole]) -> Result<Ran, Tr
     })
 }
 
-/// What is wrong with a command, and with its runs in which calls fail in turn, or nothing.
+fn add_line(all: &mut String, line: Option<String>) -> Result<(), Trouble> {
+    if let Some(line) = line {
+        all.push_str(line.as_str())?;
+        all.push('\n')?;
+    }
+    Ok(())
+}
+
+/// What is wrong with a command, with its runs in which calls fail in turn, and with those over the
+/// fronts of a file; or nothing.
 fn differences_of(
     alloc: Global,
-    world: World,
+    scene: &Scene,
     command: Command,
-    laws: &[Law],
     wanted: &Ran,
 ) -> Result<String, Trouble> {
     let mut wrong = String::new(alloc);
-    let came = run_in(alloc, world, command)?;
+    let came = run_in(alloc, scene.world, command)?;
     add_differences(alloc, &mut wrong, wanted, &came)?;
-    for law in laws {
-        if let Some(line) = broken(alloc, world, command, &came, law)? {
-            wrong.push_str(line.as_str())?;
-            wrong.push('\n')?;
-        }
+    for law in scene.laws.as_slice() {
+        let line = broken(alloc, scene.world, command, &came, law)?;
+        add_line(&mut wrong, line)?;
+    }
+    for name in scene.cut_files.as_slice() {
+        let line = broken_front(alloc, scene.world, command, name.as_str())?;
+        add_line(&mut wrong, line)?;
     }
     Ok(wrong)
 }
@@ -93,7 +104,7 @@ fn wrong_of(
         words: words.as_slice(),
         inputs,
     };
-    let wrong = differences_of(alloc, scene.world, command, scene.laws.as_slice(), wanted)?;
+    let wrong = differences_of(alloc, scene, command, wanted)?;
     if wrong.is_empty() {
         return Ok(wrong);
     }

@@ -6,7 +6,8 @@ use std::process::ExitCode;
 use std::{env, fs, io};
 
 mod cases;
-mod fronts;
+mod cuts;
+mod failures;
 mod runs;
 
 /// Runs the cases of a text, prints how many hold and what is wrong, and says whether all hold.
