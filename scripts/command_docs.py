@@ -35,6 +35,11 @@ OPTIONS = {
     "events": ("K", "how many events are made, from 0 to 100000"),
 }
 NUMBERS = ["seed", "events"]
+# What the launcher answers itself: the words, and what they're for.
+LAUNCHER = [
+    ("help, --help, -h", "Commands and options; --help may stand after a command's name, too."),
+    ("--version", "Of which commit and by which toolchain the program was proved."),
+]
 EXIT = [
     ("0", "All was read, and nothing was refused."),
     ("1", "Something was refused; each such document, file or line has its own line on standard error."),
@@ -88,7 +93,9 @@ def man(table):
     lines.append(".SH OPTIONS")
     for name in OPTIONS:
         lines += [".TP", f".B \\-\\-{name} {OPTIONS[name][0]}", roff(OPTIONS[name][1][:1].upper() + OPTIONS[name][1][1:]) + "."]
-    lines += [".TP", ".B \\-\\-help, \\-\\-version", "Alone, or \\-\\-help behind a command's name: answered by the launcher.", ".SH DIAGNOSTICS"]
+    for word, said in LAUNCHER:
+        lines += [".TP", f".B {roff(word)}", roff(said)]
+    lines.append(".SH DIAGNOSTICS")
     lines += ["Each document, file or line that is refused has one line on standard error, FILE:LINE:COLUMN: CODE NAME, or events:LINE: CODE NAME of an event, and perhaps a detail.", ".SH EXIT STATUS"]
     for code, said in EXIT:
         lines += [".TP", f".B {code}", roff(said)]
@@ -192,6 +199,7 @@ def main():
         with open(f"{TOP}/sigma", encoding="utf-8") as it:
             launcher = it.read()
         stale += [f"sigma ({row[0]})" for row in table if f"  {words(row)}" not in launcher]
+        stale += [] if f"  {' | '.join(row[0] for row in table)}) ;;" in launcher else ["sigma (is_command)"]
         for path in stale:
             print(f"{path} doesn't say what the table of commands says")
         return 1 if stale else 0
