@@ -35,11 +35,21 @@ OPTIONS = {
     "events": ("K", "how many events are made, from 0 to 100000"),
 }
 NUMBERS = ["seed", "events"]
-# What the launcher answers itself: the words, and what they're for.
+# The first words that are the launcher's: each with what the man page and the shells say of it.
 LAUNCHER = [
     ("help, --help, -h", "Commands and options; --help may stand after a command's name, too."),
     ("--version", "Of which commit and by which toolchain the program was proved."),
+    (
+        "--unproved COMMAND ..",
+        "Where the program isn't built, rt try answers, within minutes: from a build that isn't proved,"
+        " with at most a minute and 1 MiB of output.",
+    ),
 ]
+FIRST = {
+    "help": "commands and options",
+    "version": "what was built",
+    "unproved": "before a command: an answer within minutes, not proved",
+}
 EXIT = [
     ("0", "All was read, and nothing was refused."),
     ("1", "Something was refused; each such document, file or line has its own line on standard error."),
@@ -83,6 +93,8 @@ def man(table):
     for row in table:
         lines += [f".B sigma {roff(words(row))}", ".br"]
     lines += [
+        ".B sigma \\-\\-unproved COMMAND ..",
+        ".br",
         ".SH DESCRIPTION",
         "RULE is a file of Sigma rules and correlations in YAML, with one or more documents. EVENTS are JSON objects, one a line. An option stands before, between or behind the files,",
         "as \\-\\-schema F or \\-\\-schema=F; behind \\-\\- every word is a file.",
@@ -117,14 +129,20 @@ def bash(table):
     cases = []
     for name, required, optional, _ in table:
         cases.append(f"        {name}) options='{' '.join('--' + o for o in required + optional)}' ;;")
+    commands = " ".join(row[0] for row in table)
     return f"""# Completions of sigma for bash: source this file.
 _sigma() {{
-    local word=${{COMP_WORDS[COMP_CWORD]}} before=${{COMP_WORDS[COMP_CWORD - 1]}} options=''
+    local word=${{COMP_WORDS[COMP_CWORD]}} before=${{COMP_WORDS[COMP_CWORD - 1]}} options='' at=1
     if [ "$COMP_CWORD" -eq 1 ]; then
-        mapfile -t COMPREPLY < <(compgen -W '{' '.join(row[0] for row in table)} --help --version' -- "$word")
+        mapfile -t COMPREPLY < <(compgen -W '{commands} {" ".join("--" + it for it in FIRST)}' -- "$word")
         return
     fi
-    case ${{COMP_WORDS[1]}} in
+    [ "${{COMP_WORDS[1]}}" = --unproved ] && at=2
+    if [ "$COMP_CWORD" -eq "$at" ]; then
+        mapfile -t COMPREPLY < <(compgen -W '{commands}' -- "$word")
+        return
+    fi
+    case ${{COMP_WORDS[at]}} in
 {chr(10).join(cases)}
     esac
     if [ "$before" = --backend ]; then
@@ -151,13 +169,17 @@ def zsh(table):
         files = ["'*:file:_files'" if several else "'1:file:_files'"] if name in FILES else []
         cases.append(f"        {name}) _arguments {' '.join([spec[o] for o in required + optional] + files)} ;;")
     commands = "\n".join(f"        '{row[0]}:{COMMANDS[row[0]][0]}'" for row in table)
-    commands += "\n        '--help:commands and options'\n        '--version:what was built'"
+    commands += "".join(f"\n        '--{name}:{said}'" for name, said in FIRST.items())
     return f"""#compdef sigma
 # Completions of sigma for zsh: a file of a folder that fpath names.
 _sigma() {{
     local -a commands=(
 {commands}
     )
+    if [[ $words[2] == --unproved ]] && (( CURRENT > 2 )); then
+        shift words
+        (( CURRENT-- ))
+    fi
     if (( CURRENT == 2 )); then
         _describe command commands
         return
@@ -175,7 +197,7 @@ _sigma "$@"
 
 def fish(table):
     lines = ["# Completions of sigma for fish: a file of ~/.config/fish/completions."]
-    lines += [f"complete -c sigma -n __fish_use_subcommand -l {o} -d '{d}'" for o, d in (("help", "commands and options"), ("version", "what was built"))]
+    lines += [f"complete -c sigma -n __fish_use_subcommand -l {o} -d '{d}'" for o, d in FIRST.items()]
     for name, required, optional, _ in table:
         lines.append(f"complete -c sigma -n __fish_use_subcommand -f -a {name} -d '{COMMANDS[name][0]}'")
         for option in required + optional:
