@@ -2,7 +2,7 @@
 _sigma() {
     local word=${COMP_WORDS[COMP_CWORD]} before=${COMP_WORDS[COMP_CWORD - 1]} options='' at=1
     if [ "$COMP_CWORD" -eq 1 ]; then
-        mapfile -t COMPREPLY < <(compgen -W 'check convert run query correlate generate --help --version --unproved' -- "$word")
+        mapfile -t COMPREPLY < <(compgen -W 'check convert run query correlate generate --help --version --explain --unproved' -- "$word")
         return
     fi
     [ "${COMP_WORDS[1]}" = --unproved ] && at=2

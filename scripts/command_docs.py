@@ -40,6 +40,10 @@ LAUNCHER = [
     ("help, --help, -h", "Commands and options; --help may stand after a command's name, too."),
     ("--version", "Of which commit and by which toolchain the program was proved."),
     (
+        "--explain [CODE]",
+        "What a code of a refusal says, an example and what to do; alone, all codes.",
+    ),
+    (
         "--unproved COMMAND ..",
         "Where the program isn't built, rt try answers, within minutes: from a build that isn't proved,"
         " with at most a minute and 1 MiB of output.",
@@ -48,6 +52,7 @@ LAUNCHER = [
 FIRST = {
     "help": "commands and options",
     "version": "what was built",
+    "explain": "what a code of a refusal says",
     "unproved": "before a command: an answer within minutes, not proved",
 }
 EXIT = [
@@ -95,6 +100,8 @@ def man(table):
     lines += [
         ".B sigma \\-\\-unproved COMMAND ..",
         ".br",
+        ".B sigma \\-\\-explain [CODE]",
+        ".br",
         ".SH DESCRIPTION",
         "RULE is a file of Sigma rules and correlations in YAML, with one or more documents. EVENTS are JSON objects, one a line. An option stands before, between or behind the files,",
         "as \\-\\-schema F or \\-\\-schema=F; behind \\-\\- every word is a file.",
@@ -120,7 +127,7 @@ def man(table):
         "sigma correlate \\-\\-schema schema.json rules/x.yml rules/bursts.yml < events.jsonl",
         ".fi",
         ".SH SEE ALSO",
-        "README.md and docs/FORMAT.md of the program's repository.",
+        "README.md, docs/FORMAT.md and docs/CODES.md of the program's repository.",
     ]
     return "\n".join(lines) + "\n"
 

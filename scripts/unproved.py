@@ -3,10 +3,11 @@
 
     scripts/unproved.py COMMAND ..
 
-The build checks each step: an index out of bounds or an overflow ends it, and no answer is given. It
-runs in a folder of its own, so each file that a word names is handed over, and of `run`, `query` and
-`correlate` the standard input up to its end. What the program writes, and its exit status, are passed
-on as they are. The first line on standard error says that the build isn't proved, and its limits.
+The build checks each step: an index out of bounds or an overflow ends it, and no answer is given.
+It runs in a folder of its own, so each file that a word names is handed over, and of `run`, `query`
+and `correlate` the standard input up to its end. What the program writes, and its exit status, are
+passed on as they are. The first line on standard error says that this build isn't proved, and its
+limits.
 """
 import contextlib
 import os
@@ -47,7 +48,7 @@ def is_nameable(name):
 
 
 class Handed:
-    """The files that words name, each by the name that it gets in the program's folder, and the words
+    """The files that words name, by the names that they get in the program's folder, and the words
     that name them there. A name that can't stand there has another in its place."""
 
     def __init__(self, room):
@@ -80,7 +81,7 @@ class Handed:
         return word if name == os.path.normpath(word) else name
 
     def readable(self, word):
-        """A plain file with the content of the one that a word names, or None where none is read."""
+        """A plain file with the content of the one that a word names, or None where none is."""
         with contextlib.suppress(OSError, ValueError):
             with open(word, "rb") as it:
                 path = os.path.abspath(word)
@@ -110,7 +111,7 @@ def spooled(command, room):
         while more := os.read(0, 1 << 20):
             left -= len(more)
             if left < 0:
-                stop("the standard input has more than 64 MiB, which the unproved build doesn't take")
+                stop("the unproved build takes at most 64 MiB of standard input")
             to.write(more)
     return path
 
