@@ -45,8 +45,8 @@ LAUNCHER = [
     ),
     (
         "--unproved COMMAND ..",
-        "Where the program isn't built, rt try answers, within minutes: from a build that isn't proved,"
-        " with at most a minute and 1 MiB of output.",
+        "Where the program isn't built, rt try answers, within minutes: from a build that isn't"
+        " proved, with at most a minute and 1 MiB of output.",
     ),
 ]
 FIRST = {
@@ -137,11 +137,12 @@ def bash(table):
     for name, required, optional, _ in table:
         cases.append(f"        {name}) options='{' '.join('--' + o for o in required + optional)}' ;;")
     commands = " ".join(row[0] for row in table)
+    first = " ".join([commands, *(f"--{it}" for it in FIRST)])
     return f"""# Completions of sigma for bash: source this file.
 _sigma() {{
     local word=${{COMP_WORDS[COMP_CWORD]}} before=${{COMP_WORDS[COMP_CWORD - 1]}} options='' at=1
     if [ "$COMP_CWORD" -eq 1 ]; then
-        mapfile -t COMPREPLY < <(compgen -W '{commands} {" ".join("--" + it for it in FIRST)}' -- "$word")
+        mapfile -t COMPREPLY < <(compgen -W '{first}' -- "$word")
         return
     fi
     [ "${{COMP_WORDS[1]}}" = --unproved ] && at=2
@@ -204,7 +205,8 @@ _sigma "$@"
 
 def fish(table):
     lines = ["# Completions of sigma for fish: a file of ~/.config/fish/completions."]
-    lines += [f"complete -c sigma -n __fish_use_subcommand -l {o} -d '{d}'" for o, d in FIRST.items()]
+    for name, said in FIRST.items():
+        lines.append(f"complete -c sigma -n __fish_use_subcommand -l {name} -d '{said}'")
     for name, required, optional, _ in table:
         lines.append(f"complete -c sigma -n __fish_use_subcommand -f -a {name} -d '{COMMANDS[name][0]}'")
         for option in required + optional:
@@ -228,7 +230,8 @@ def main():
         with open(f"{TOP}/sigma", encoding="utf-8") as it:
             launcher = it.read()
         stale += [f"sigma ({row[0]})" for row in table if f"  {words(row)}" not in launcher]
-        stale += [] if f"  {' | '.join(row[0] for row in table)}) ;;" in launcher else ["sigma (is_command)"]
+        judged = f"  {' | '.join(row[0] for row in table)}) ;;"
+        stale += [] if judged in launcher else ["sigma (is_command)"]
         for path in stale:
             print(f"{path} doesn't say what the table of commands says")
         return 1 if stale else 0

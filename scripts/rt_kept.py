@@ -4,12 +4,12 @@
     scripts/rt_kept.py CRATE FILE      the exit status is 1 where there is none
 
 What a run of `rt ci` proved it keeps beside the toolchain. An entry's name is a sum of all that the
-proof read: the toolchain, the crate's own files, and the libraries below as they were built. So from
-the sources and the entries alone, lowest crate first, the entry of each crate is found, in the way
-in which `rt ci` itself finds it; the program's entry has the built program, with its sum. A program
-in a crate's folder `out` isn't taken: nothing says there of which sources it was built, and its time
-is that of the build's end, so a source may have been written meanwhile. Where rt lacks the parts
-that this uses, there is none.
+proof read: the toolchain, the crate's own files, and the libraries below as they were built. So
+from the sources and the entries alone, lowest crate first, the entry of each crate is found, in the
+way in which `rt ci` itself finds it; the program's entry has the built program, with its sum. A
+program in a crate's folder `out` isn't taken: nothing says there of which sources it was built, and
+its time is that of the build's end, so a source may have been written meanwhile. Where rt lacks the
+parts that this uses, there is none.
 """
 import contextlib
 import hashlib
@@ -43,7 +43,8 @@ def loaded(path):
 def is_own(folder):
     """Whether a folder is one that nobody else may write."""
     found = os.lstat(folder)
-    return stat.S_ISDIR(found.st_mode) and found.st_uid == os.geteuid() and not found.st_mode & 0o022
+    is_closed = not found.st_mode & (stat.S_IWGRP | stat.S_IWOTH)
+    return stat.S_ISDIR(found.st_mode) and found.st_uid == os.geteuid() and is_closed
 
 
 def crates_for(module, name):
@@ -59,7 +60,7 @@ def crates_for(module, name):
 
 
 def entry_of(kept, crate):
-    """The folder of what a run kept of this crate as it stands here, and the files with their sums."""
+    """The folder of what a run kept of this crate as it stands here, and its files' sums."""
     key = kept.key(crate)
     place = kept.place(crate, False, key)
     with open(f"{place}/made.json", encoding="utf-8") as it:

@@ -99,7 +99,8 @@ class Words(Launcher):
         self.assertEqual(self.calls(), [])
 
     def test_no_command_is_refused_before_a_build(self):
-        for words in ([], ["convrt"], [""], ["--backend", "sqlite"], ["--unproved"], ["--version", "x"]):
+        options = ["--backend", "sqlite"], ["--unproved"], ["--version", "x"]
+        for words in ([], ["convrt"], [""], *options):
             status, out, err = self.ask(*words)
             self.assertEqual((status, out), (2, ""), words)
             self.assertEqual(err.splitlines()[0], "sigma: bad usage", words)

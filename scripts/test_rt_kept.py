@@ -1,4 +1,4 @@
-"""Tries scripts/rt_kept.py over entries that the toolchain's own functions write. Nothing is proved.
+"""Tries scripts/rt_kept.py over entries that the toolchain's functions write. Nothing is proved.
 
     python3 -m unittest discover -s scripts
 """

@@ -92,8 +92,8 @@ class Unproved(unittest.TestCase):
         return done.returncode, done.stdout, others
 
     def test_files_are_found_by_the_names_that_were_given(self):
-        names = ["a.yml", "./a.yml", "rules/ü b.yml", "x=1.yml", "program", "./program", "../up.yml"]
-        names += ["rules/../a.yml", f"{self.here}/a.yml", "sqlite"]
+        names = ["a.yml", "./a.yml", "rules/ü b.yml", "x=1.yml", "program", "./program"]
+        names += ["../up.yml", "rules/../a.yml", f"{self.here}/a.yml", "sqlite"]
         for name in names:
             self.write(name, "good")
         names.remove("sqlite")
