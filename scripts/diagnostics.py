@@ -7,7 +7,7 @@ TAKEN = re.compile(r"(.+):\d+:\d+: ok")
 
 
 class Refusal(NamedTuple):
-    """A line `FILE:LINE:COLUMN: CODE NAME DETAIL`, or of an event `events:LINE: CODE NAME DETAIL`."""
+    """A line `FILE:LINE:COLUMN: CODE NAME DETAIL`; of an event `events:LINE: CODE NAME DETAIL`."""
 
     file: str
     line: int
@@ -18,7 +18,7 @@ class Refusal(NamedTuple):
 
 
 def refusal(text, codes):
-    """What a line of standard error says, or None where it's none of a refusal. A name of a file may
+    """What a line of standard error says, or None where it's none of a refusal. A file's name may
     have colons, so the place is where a code of the table stands with its own name."""
     for it in PLACE.finditer(text):
         file, code = text[: it.start()], codes.get(int(it[3]))

@@ -1,13 +1,14 @@
 #!/usr/bin/env python3
-"""Writes each rule's query into a file that is named after the rule, by `convert` on one rule a call.
+"""Writes each rule's query into a file that is named after the rule, by `convert` of one rule each.
 
     scripts/split.py --backend sqlite [--schema F] [--pipeline F] OUT RULE..
 
-For rules/a/x.yml and rules/b/y.yml it writes OUT/a/x.sql and OUT/b/y.sql, or .lucene; of a file with
-several documents x.1.sql, x.2.sql and so on, by the document's place. Several calls go side by side.
-What is refused has its line on standard error, as of one call, and its file of an earlier query is
-removed. A file whose query is the same isn't touched, so it keeps its time. The exit status is 0 where
-each rule has its query, 1 where some are refused, and else that of the call that failed.
+For rules/a/x.yml and rules/b/y.yml it writes OUT/a/x.sql and OUT/b/y.sql, or .lucene; of a file
+with several documents x.1.sql, x.2.sql and so on, by the document's place. Several calls go side by
+side. What is refused has its line on standard error, as of one call, and its file of an earlier
+query is removed. A file whose query is the same isn't touched, so it keeps its time. The exit
+status is 0 where each rule has its query, 1 where some are refused, and else that of the call that
+failed.
 """
 import argparse
 import concurrent.futures
@@ -43,8 +44,8 @@ class Answer(NamedTuple):
 
 
 def documents(text):
-    """The documents with content, each as the whole text in which the other lines are empty, so that
-    lines keep their numbers."""
+    """The documents with content, each as the text in which the lines before it are empty, so that
+    its lines keep their numbers."""
     lines = text.removeprefix("\ufeff").split("\n")
     ends = [at for at, line in enumerate(lines) if PARTING.fullmatch(line)] + [len(lines)]
     start, found = 0, []

@@ -5,8 +5,8 @@
     sigma convert --backend sqlite rules/*.yml 2>&1 | scripts/summary.py
 
 Each document has one line, so the rows' first numbers are those of rules; under `run` and `query`
-they are lines of events. A line of `convert` that is no diagnostic is a query, and names no file. On
-a terminal what a code says is cut at its width.
+they are lines of events. A line of `convert` that is no diagnostic is a query, and names no file.
+On a terminal what a code says is cut at its width.
 """
 import shutil
 import sys

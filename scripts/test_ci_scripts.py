@@ -73,7 +73,8 @@ class Explain(unittest.TestCase):
         text = (TOP / "docs/CODES.md").read_text()
         was = explain.PAGE, explain.codes.__defaults__
         self.addCleanup(setattr, explain.codes, "__defaults__", was[1])
-        for old, new in (("41 ChainNotAllowed", "41 Chain"), ("### 84", "### 85"), ("id: 7", "id: 8")):
+        edits = ("41 ChainNotAllowed", "41 Chain"), ("### 84", "### 85"), ("id: 7", "id: 8")
+        for old, new in edits:
             with tempfile.TemporaryDirectory() as room:
                 page = Path(room, "CODES.md")
                 page.write_text(text.replace(old, new))
