@@ -1,8 +1,8 @@
 #!/bin/sh
-# Makes sigma-COMMIT.tar.gz for machines without the toolchain: the launcher with the proved program,
-# the pages, the man page, completions, examples, the scripts for CI, and a file PROVED that says of
-# which commit and by which toolchain it was proved. The launcher proves and builds the program first,
-# where it isn't built. What was packed is then unpacked elsewhere, and tried there.
+# Makes sigma-COMMIT.tar.gz for machines without the toolchain: the launcher with the proved
+# program, the pages, the man page, completions, examples, the scripts for CI, and a file PROVED
+# that says of which commit and by which toolchain it was proved. The launcher proves and builds
+# the program first, where it isn't built. What was packed is unpacked elsewhere, and tried there.
 #
 #     scripts/package.sh [FOLDER]     writes the archive into FOLDER, or else here
 set -eu

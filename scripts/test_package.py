@@ -108,7 +108,8 @@ class Package(unittest.TestCase):
         self.assertIn("files were changed since the commit", said)
 
     def test_pages_that_show_something_else_end_it(self):
-        self.write("README.md", "    $ ./sigma check examples/cmd.yml\n    examples/cmd.yml:1:1: OK\n")
+        shown = ("$ ./sigma check examples/cmd.yml", "examples/cmd.yml:1:1: OK")
+        self.write("README.md", "".join(f"    {line}\n" for line in shown))
         self.commit()
         archive, said = self.package()
         self.assertIsNone(archive)
