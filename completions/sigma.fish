@@ -1,6 +1,8 @@
 # Completions of sigma for fish: a file of ~/.config/fish/completions.
 complete -c sigma -n __fish_use_subcommand -l help -d 'commands and options'
 complete -c sigma -n __fish_use_subcommand -l version -d 'what was built'
+complete -c sigma -n __fish_use_subcommand -l explain -d 'what a code of a refusal says'
+complete -c sigma -n __fish_use_subcommand -l unproved -d 'before a command: an answer within minutes, not proved'
 complete -c sigma -n __fish_use_subcommand -f -a check -d 'which documents are rules or correlations'
 complete -c sigma -n __fish_use_subcommand -f -a convert -d 'a query for each rule'
 complete -c sigma -n '__fish_seen_subcommand_from convert' -l backend -x -a 'sqlite lucene'

@@ -35,6 +35,26 @@ OPTIONS = {
     "events": ("K", "how many events are made, from 0 to 100000"),
 }
 NUMBERS = ["seed", "events"]
+# The first words that are the launcher's: each with what the man page and the shells say of it.
+LAUNCHER = [
+    ("help, --help, -h", "Commands and options; --help may stand after a command's name, too."),
+    ("--version", "Of which commit and by which toolchain the program was proved."),
+    (
+        "--explain [CODE]",
+        "What a code of a refusal says, an example and what to do; alone, all codes.",
+    ),
+    (
+        "--unproved COMMAND ..",
+        "Where the program isn't built, rt try answers, within minutes: from a build that isn't"
+        " proved, with at most a minute and 1 MiB of output.",
+    ),
+]
+FIRST = {
+    "help": "commands and options",
+    "version": "what was built",
+    "explain": "what a code of a refusal says",
+    "unproved": "before a command: an answer within minutes, not proved",
+}
 EXIT = [
     ("0", "All was read, and nothing was refused."),
     ("1", "Something was refused; each such document, file or line has its own line on standard error."),
@@ -78,6 +98,10 @@ def man(table):
     for row in table:
         lines += [f".B sigma {roff(words(row))}", ".br"]
     lines += [
+        ".B sigma \\-\\-unproved COMMAND ..",
+        ".br",
+        ".B sigma \\-\\-explain [CODE]",
+        ".br",
         ".SH DESCRIPTION",
         "RULE is a file of Sigma rules and correlations in YAML, with one or more documents. EVENTS are JSON objects, one a line. An option stands before, between or behind the files,",
         "as \\-\\-schema F or \\-\\-schema=F; behind \\-\\- every word is a file.",
@@ -88,7 +112,9 @@ def man(table):
     lines.append(".SH OPTIONS")
     for name in OPTIONS:
         lines += [".TP", f".B \\-\\-{name} {OPTIONS[name][0]}", roff(OPTIONS[name][1][:1].upper() + OPTIONS[name][1][1:]) + "."]
-    lines += [".TP", ".B \\-\\-help, \\-\\-version", "Alone, or \\-\\-help behind a command's name: answered by the launcher.", ".SH DIAGNOSTICS"]
+    for word, said in LAUNCHER:
+        lines += [".TP", f".B {roff(word)}", roff(said)]
+    lines.append(".SH DIAGNOSTICS")
     lines += ["Each document, file or line that is refused has one line on standard error, FILE:LINE:COLUMN: CODE NAME, or events:LINE: CODE NAME of an event, and perhaps a detail.", ".SH EXIT STATUS"]
     for code, said in EXIT:
         lines += [".TP", f".B {code}", roff(said)]
@@ -101,7 +127,7 @@ def man(table):
         "sigma correlate \\-\\-schema schema.json rules/x.yml rules/bursts.yml < events.jsonl",
         ".fi",
         ".SH SEE ALSO",
-        "README.md and docs/FORMAT.md of the program's repository.",
+        "README.md, docs/FORMAT.md and docs/CODES.md of the program's repository.",
     ]
     return "\n".join(lines) + "\n"
 
@@ -110,14 +136,21 @@ def bash(table):
     cases = []
     for name, required, optional, _ in table:
         cases.append(f"        {name}) options='{' '.join('--' + o for o in required + optional)}' ;;")
+    commands = " ".join(row[0] for row in table)
+    first = " ".join([commands, *(f"--{it}" for it in FIRST)])
     return f"""# Completions of sigma for bash: source this file.
 _sigma() {{
-    local word=${{COMP_WORDS[COMP_CWORD]}} before=${{COMP_WORDS[COMP_CWORD - 1]}} options=''
+    local word=${{COMP_WORDS[COMP_CWORD]}} before=${{COMP_WORDS[COMP_CWORD - 1]}} options='' at=1
     if [ "$COMP_CWORD" -eq 1 ]; then
-        mapfile -t COMPREPLY < <(compgen -W '{' '.join(row[0] for row in table)} --help --version' -- "$word")
+        mapfile -t COMPREPLY < <(compgen -W '{first}' -- "$word")
         return
     fi
-    case ${{COMP_WORDS[1]}} in
+    [ "${{COMP_WORDS[1]}}" = --unproved ] && at=2
+    if [ "$COMP_CWORD" -eq "$at" ]; then
+        mapfile -t COMPREPLY < <(compgen -W '{commands}' -- "$word")
+        return
+    fi
+    case ${{COMP_WORDS[at]}} in
 {chr(10).join(cases)}
     esac
     if [ "$before" = --backend ]; then
@@ -144,13 +177,17 @@ def zsh(table):
         files = ["'*:file:_files'" if several else "'1:file:_files'"] if name in FILES else []
         cases.append(f"        {name}) _arguments {' '.join([spec[o] for o in required + optional] + files)} ;;")
     commands = "\n".join(f"        '{row[0]}:{COMMANDS[row[0]][0]}'" for row in table)
-    commands += "\n        '--help:commands and options'\n        '--version:what was built'"
+    commands += "".join(f"\n        '--{name}:{said}'" for name, said in FIRST.items())
     return f"""#compdef sigma
 # Completions of sigma for zsh: a file of a folder that fpath names.
 _sigma() {{
     local -a commands=(
 {commands}
     )
+    if [[ $words[2] == --unproved ]] && (( CURRENT > 2 )); then
+        shift words
+        (( CURRENT-- ))
+    fi
     if (( CURRENT == 2 )); then
         _describe command commands
         return
@@ -168,7 +205,8 @@ _sigma "$@"
 
 def fish(table):
     lines = ["# Completions of sigma for fish: a file of ~/.config/fish/completions."]
-    lines += [f"complete -c sigma -n __fish_use_subcommand -l {o} -d '{d}'" for o, d in (("help", "commands and options"), ("version", "what was built"))]
+    for name, said in FIRST.items():
+        lines.append(f"complete -c sigma -n __fish_use_subcommand -l {name} -d '{said}'")
     for name, required, optional, _ in table:
         lines.append(f"complete -c sigma -n __fish_use_subcommand -f -a {name} -d '{COMMANDS[name][0]}'")
         for option in required + optional:
@@ -192,6 +230,8 @@ def main():
         with open(f"{TOP}/sigma", encoding="utf-8") as it:
             launcher = it.read()
         stale += [f"sigma ({row[0]})" for row in table if f"  {words(row)}" not in launcher]
+        judged = f"  {' | '.join(row[0] for row in table)}) ;;"
+        stale += [] if judged in launcher else ["sigma (is_command)"]
         for path in stale:
             print(f"{path} doesn't say what the table of commands says")
         return 1 if stale else 0
