@@ -2,23 +2,11 @@
 
 ghost use Rattle.std.specs.Prelude.{◌≡◌, IfOk, IfErr};
 ghost use Rattle.rule_model.specs.Plain.{rule_view};
-ghost use Rattle.sig_conditions.specs.Formulas.{forms_view};
 
 use crate::rule::Rule;
 use sig_base::{Fault, TryCopy};
-use sig_conditions::Formula;
+use sig_conditions::copy_formulas;
 use std::alloc::Global;
-
-fn copy_formulas(alloc: Global, formulas: &[Formula]) -> Result<Vec<Formula>, Fault>
-    ensures ok { IfOk result (λ fs. forms_view fs.items ≡ forms_view formulas.now) }
-    ensures err { IfErr result (λ e. e ≡ Fault.Memory) }
-{
-    let mut copies = Vec::new(alloc);
-    for formula in formulas {
-        copies.push(formula.copy(alloc)?)?;
-    }
-    Ok(copies)
-}
 
 impl Rule {
     /// The same rule; only want of memory is answered.

@@ -33,23 +33,23 @@ fn copy_formula(alloc: Global, formula: &Formula) -> Result<Formula, Fault>
             Ok(Formula::Not(Box::new(alloc, copy)?))
         }
         Formula::And(parts) => {
-            let all = copy_all(alloc, parts)?;
+            let all = copy_formulas(alloc, parts)?;
             Ok(Formula::And(all))
         }
         Formula::Or(parts) => {
-            let all = copy_all(alloc, parts)?;
+            let all = copy_formulas(alloc, parts)?;
             Ok(Formula::Or(all))
         }
     }
 }
 
-/// The same formulas.
+/// The same formulas, in their order; only want of memory is answered.
 #[cycle(copier)]
-fn copy_all(alloc: Global, parts: &[Formula]) -> Result<Vec<Formula>, Fault>
+pub fn copy_formulas(alloc: Global, parts: &[Formula]) -> Result<Vec<Formula>, Fault>
     ensures ok { IfOk result (λ all. forms_view all.items ≡ forms_view parts.now) }
     ensures err { IfErr result (λ e. e ≡ Fault.Memory) }
 {
-    let mut all = Vec::new(alloc);
+    let mut all = Vec::with_capacity(alloc, parts.len())?;
     for part in parts {
         let copy = copy_formula(alloc, part)?;
         all.push(copy)?;

@@ -2,6 +2,7 @@
 #![tactic(auto)]
 
 pub use condition::Condition;
+pub use copying::copy_formulas;
 pub use formula::Formula;
 pub use laws::{identifiers_are_names, one_condition, one_list_of_words, same_meaning};
 pub use names::Names;
