@@ -88,7 +88,8 @@ pub(crate) fn ends_events(step: &LineStep) -> bool
     matches!(step, LineStep::End)
 }
 
-pub(crate) fn either(first: bool, second: bool) -> bool
+/// Whether either of both holds.
+pub fn either(first: bool, second: bool) -> bool
     ensures { result ≡ (first || second) }
 {
     first || second

@@ -11,7 +11,7 @@ mod picked_line;
 mod selected_lines;
 mod stop;
 
-pub use events::{LineCommand, answer_lines, tell_line_refusal};
+pub use events::{LineCommand, answer_lines, either, tell_line_refusal};
 pub use file_input::read_file;
 pub use line_answers::{LineFollower, follow_lines};
 pub use output::{put_line, put_text, tell_diagnostic};

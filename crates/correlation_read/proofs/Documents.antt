@@ -8,13 +8,13 @@ use Rattle.sig_base.specs.declared.refusal.Refusal.{Refusal}
 use Rattle.sig_base.specs.Judged.{first, must}
 use Rattle.sig_base.proofs.Checks.{first_holds, must_holds}
 use Rattle.yaml_tree.specs.Tree.{Tree}
-use Rattle.yaml_tree.specs.Nodes.{entries_in, parts_in, value_in, place_of, text_in, text_of, text_at, is_map, has_key, required, refused_at, refused_by}
+use Rattle.yaml_tree.specs.Nodes.{entries_in, entries_at, parts_in, value_in, place_of, text_in, text_of, text_at, is_map, has_key, required, refused_at, refused_by}
 use Rattle.rule_head.specs.Heads.{head_checks, rest_of, IsHead}
 use Rattle.rule_head.specs.Plain.{PlainHead}
 use Rattle.correlation_read.specs.declared.document.Body.{Body}
 use Rattle.correlation_read.specs.Checks.{rules_refusal, repeat_refusal, keyed_refusal, entry_refusal, body_refusal, correlation_refusal, kind_at, span_at}
 use Rattle.yaml_tree.specs.Nodes.{key_place}
-use Rattle.correlation_read.specs.Correlations.{PlainCorrelation, IsBody, IsSpan, texts_in, texts_at, entries_at, counted_at, test_of, alias_of}
+use Rattle.correlation_read.specs.Correlations.{PlainCorrelation, IsBody, IsSpan, texts_in, texts_at, counted_at, test_of, alias_of}
 use Rattle.correlation_read.specs.Laws.{Reads}
 use Rattle.correlation_read.proofs.Known.{Holds, entry_at, lines_of, kind_there, span_there}
 use Rattle.correlation_read.proofs.Spans.{span_known}

@@ -3,7 +3,7 @@ use Rattle.std.specs.Prelude.{ℕ, ◌≡◌, ℤ, pos, ◌≤ℤ◌, ◌^◌, L
 use Rattle.std.specs.List.{filter_map}
 use Rattle.sig_base.specs.declared.refusal.Place.{Place}
 use Rattle.yaml_tree.specs.Tree.{Tree, Member}
-use Rattle.yaml_tree.specs.Nodes.{place_of, text_in, entries_in, parts_in, value_in, text_at}
+use Rattle.yaml_tree.specs.Nodes.{place_of, text_in, entries_in, entries_at, parts_in, value_in, text_at}
 use Rattle.rule_head.specs.Heads.{IsHead}
 use Rattle.rule_head.specs.Plain.{PlainHead, head_view, head_with}
 use Rattle.correlation_windows.specs.declared.bound.CorrelationKind.{CorrelationKind}
@@ -61,14 +61,6 @@ texts_in (Some t) = list_map text_in (parts_in t)
 
 abbrev pub texts_at : List ℕ → Tree → List (List ℕ)
 texts_at key t = texts_in (value_in key (entries_in t))
-
--- the entries of the map at a key
-abbrev pub entries_of : Option Tree → List Member
-entries_of None = []
-entries_of (Some t) = entries_in t
-
-abbrev pub entries_at : List ℕ → Tree → List Member
-entries_at key t = entries_of (value_in key (entries_in t))
 
 abbrev pub test_with : Option Op → Option ℕ → Option (Op × ℕ)
 test_with None number = None

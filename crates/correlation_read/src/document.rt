@@ -17,7 +17,9 @@ use correlation_windows::{CorrelationKind, Op};
 use rule_head::Head;
 use sig_base::{Code, Fault, Limits, Sequence, Text, Texts, refused};
 use std::alloc::Global;
-use yaml_tree::{Entry, Node, all_entries, copy_text, copy_texts, parts_of, place_of, value_at};
+use yaml_tree::{
+    Entry, Node, all_entries, copy_text, copy_texts, entries_at, parts_of, place_of, value_at,
+};
 
 /// What the value of `correlation` says.
 #[derive(Drop)]
@@ -40,17 +42,6 @@ fn copy_texts_at(alloc: Global, node: &Node, key: &str) -> Result<Texts, Fault>
     match value_at(node, key) {
         Some(value) => copy_texts(alloc, parts_of(value)),
         None => Ok(Texts::new(alloc)),
-    }
-}
-
-/// The entries of the map at a key.
-fn entries_at<'a>(node: &'a Node, key: &str) -> &'a [Entry]
-    requires { is_ascii key.now ≡ true }
-    ensures { spec.entries_at key.now (node_view node.now) ≡ entries_view result.now }
-{
-    match value_at(node, key) {
-        Some(value) => all_entries(value),
-        None => &[],
     }
 }
 

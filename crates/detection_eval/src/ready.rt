@@ -7,7 +7,7 @@ ghost use Rattle.rule_model.specs.Expressions.{rule_expressions};
 ghost use Rattle.rule_model.specs.Plain.{PlainRule, rule_view};
 ghost use Rattle.detection_eval.specs.Ready.{StandsFor, JudgesFor, ready_of, ready_view, searches_view};
 
-use crate::copying::{copy_formulas, copy_numbers};
+use crate::copying::copy_numbers;
 use crate::finders::Finders;
 use crate::judge::Judge;
 use crate::numbered::NumberedDetection;
@@ -19,7 +19,7 @@ use rule_model::Rule;
 use rule_regex::build_searches;
 use schema_index::FieldNumbers;
 use sig_base::Fault;
-use sig_conditions::Formula;
+use sig_conditions::{Formula, copy_formulas};
 use std::alloc::Global;
 
 /// A rule made ready for the events of a schema: its names are numbers of fields, so that an event is matched without a

@@ -8,7 +8,7 @@ use Rattle.sig_base.specs.declared.refusal.Place.{Place}
 use Rattle.sig_base.specs.declared.refusal.Refusal.{Refusal}
 use Rattle.sig_base.specs.Judged.{refusal, must}
 use Rattle.yaml_tree.specs.Tree.{Tree, Member}
-use Rattle.yaml_tree.specs.Nodes.{place_of, key_place, is_empty, is_text, text_in, entries_in, parts_in, value_in, has_key, refused_by}
+use Rattle.yaml_tree.specs.Nodes.{place_of, key_place, is_empty, is_text, text_in, entries_in, entries_at, parts_in, value_in, has_key, refused_by}
 use Rattle.rule_detections.specs.Items.{item_refusal}
 use Rattle.pipeline_check.specs.declared.words.Listing.{Listing}
 use Rattle.pipeline_check.specs.declared.words.StepKind.{StepKind}
@@ -209,14 +209,6 @@ abbrev pub shape_refusal : Tree → Option Refusal
 shape_refusal t = least (map_refusal t ∷ least (list_map top_entry (entries_in t)) ∷ steps_refusal_at t ∷ [])
 
 -- ---- the items that steps add, with the codes of items
-
-abbrev pub entries_if : Option Tree → List Member
-entries_if None = []
-entries_if (Some t) = entries_in t
-
--- the entries of the map at a key
-abbrev pub entries_at : List ℕ → Tree → List Member
-entries_at key t = entries_if (value_in key (entries_in t))
 
 abbrev pub adds : Option StepKind → Bool
 adds None = false

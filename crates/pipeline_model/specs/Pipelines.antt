@@ -5,7 +5,7 @@ use Rattle.std.specs.List.{AllZip}
 use Rattle.std.specs.Str.{bytes_eq}
 use Rattle.rule_detections.specs.TestsOf.{truth_text}
 use Rattle.yaml_tree.specs.Tree.{Scalar, null, truth, whole, text, Tree, scalar, list, map, Member}
-use Rattle.yaml_tree.specs.Nodes.{place_of, is_text, text_in, entries_in, parts_in, value_in, text_at}
+use Rattle.yaml_tree.specs.Nodes.{place_of, is_text, text_in, entries_in, entries_at, parts_in, value_in, text_at}
 use Rattle.rule_head.specs.Sources.{source_of}
 use Rattle.rule_head.specs.declared.source.LogSource.{LogSource}
 use Rattle.rule_detections.specs.Items.{IsItem}
@@ -25,7 +25,7 @@ use Rattle.pipeline_check.specs.declared.words.Listing.TheVariants.{Include, Exc
 use Rattle.pipeline_check.specs.declared.words.StepKind.{StepKind}
 use Rattle.pipeline_check.specs.declared.words.StepKind.TheVariants as kinds
 use Rattle.pipeline_check.specs.Shapes.{listing_at}
-use Rattle.pipeline_model.specs.Checks.{kind_at, chosen_in, entries_at, parts_at, steps_in}
+use Rattle.pipeline_model.specs.Checks.{kind_at, chosen_in, parts_at, steps_in}
 
 -- ---- single values; what is absent is the empty text, no list, 0 or false
 

@@ -14,18 +14,7 @@ use pipeline_check::{StepKind, sooner};
 use rule_detections::{Alternative, Item};
 use sig_base::{Fault, Limits, Place, Refusal};
 use std::alloc::Global;
-use yaml_tree::{Entry, Node, all_entries, parts_of, value_at};
-
-/// The entries of the map at a key.
-pub(crate) fn entries_at<'a>(node: &'a Node, key: &str) -> &'a [Entry]
-    requires { is_ascii key.now ≡ true }
-    ensures { spec.entries_at key.now (node_view node.now) ≡ entries_view result.now }
-{
-    match value_at(node, key) {
-        Some(value) => all_entries(value),
-        None => &[],
-    }
-}
+use yaml_tree::{Entry, Node, entries_at, parts_of, value_at};
 
 /// The parts of the value at a key: the elements of a list, or else the value alone; none where the key isn't there.
 pub fn parts_at<'a>(node: &'a Node, key: &str) -> &'a [Node]

@@ -4,13 +4,14 @@ ghost use Rattle.std.specs.Prelude.{◌≡◌, map as list_map, codes, Some, IfO
 ghost use Rattle.std.specs.List.{AllZip};
 ghost use Rattle.sig_base.specs.Judged.{Judged, first};
 ghost use Rattle.yaml_tree.specs.View.{node_view, nodes_view};
+ghost use Rattle.yaml_tree.specs.Nodes as nodes;
 ghost use Rattle.rule_detections.specs.Items.{item_refusal};
-ghost use Rattle.pipeline_model.specs.Checks.{pipeline_refusal, added_by, entries_at as spec_entries_at};
+ghost use Rattle.pipeline_model.specs.Checks.{pipeline_refusal, added_by};
 ghost use Rattle.pipeline_model.specs.Pipelines as spec;
 ghost use Rattle.pipeline_model.specs.Reading as causes;
 
 use crate::checks::{check_shape, chosen_in, typed_kind};
-use crate::items::{check_items, entries_at, parts_at, read_items};
+use crate::items::{check_items, parts_at, read_items};
 use crate::pipeline::Pipeline;
 use crate::step::{Action, Choice, Step};
 use crate::values::{
@@ -20,7 +21,7 @@ use crate::values::{
 use pipeline_check::{Listing, StepKind, sooner};
 use sig_base::{Fault, Limits, Place, Sequence};
 use std::alloc::Global;
-use yaml_tree::{Node, all_entries, place_of};
+use yaml_tree::{Node, all_entries, entries_at, place_of};
 
 /// The placeholders that a step fills.
 fn copy_choice(alloc: Global, node: &Node) -> Result<Choice, Fault>
@@ -42,7 +43,7 @@ fn read_added(
     node: &Node,
 ) -> Result<Action, Fault>
     ensures { Judged (spec.IsAdded (node_view node.now))
-        (first (list_map (item_refusal unbuilt.now limits.now) (spec_entries_at (codes "conditions") (node_view node.now)))) result }
+        (first (list_map (item_refusal unbuilt.now limits.now) (nodes.entries_at (codes "conditions") (node_view node.now)))) result }
 {
     let items = read_items(alloc, limits, unbuilt, entries_at(node, "conditions"))?;
     Ok(Action::Add {

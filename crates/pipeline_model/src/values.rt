@@ -9,7 +9,7 @@ ghost use Rattle.yaml_tree.specs.View.{node_view, nodes_view, entry_view, entrie
 ghost use Rattle.yaml_tree.specs.Nodes as nodes;
 ghost use Rattle.pipeline_model.specs.Pipelines as spec;
 
-use crate::items::{entries_at, parts_at};
+use crate::items::parts_at;
 use crate::pipeline::Var;
 use crate::step::{FieldCond, Pair};
 use event_schema::decimal;
@@ -17,7 +17,9 @@ use pipeline_check::{Listing, listing_at};
 use rule_head::LogSource;
 use sig_base::{Fault, Sequence, Text, Texts};
 use std::alloc::Global;
-use yaml_tree::{Entry, Kind, Node, copy_text, copy_texts, parts_of, text_of, value_at};
+use yaml_tree::{
+    Entry, Kind, Node, copy_text, copy_texts, entries_at, parts_of, text_of, value_at,
+};
 
 /// The text at a key, or the empty one.
 pub(crate) fn copy_text_or_none(alloc: Global, node: &Node, key: &str) -> Result<Text, Fault>

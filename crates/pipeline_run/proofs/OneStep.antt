@@ -7,10 +7,11 @@ use Rattle.sig_base.specs.declared.refusal.Place.{Place}
 use Rattle.rule_detections.specs.TestsOf.{TestsOf}
 use Rattle.rule_detections.specs.declared.test.Test.{Test}
 use Rattle.yaml_tree.specs.Tree.{Tree}
+use Rattle.yaml_tree.specs.Nodes.{entries_at}
 use Rattle.rule_head.specs.declared.source.LogSource.{LogSource}
 use Rattle.rule_detections.specs.Items.{IsItem}
 use Rattle.rule_detections.specs.declared.item.Item.{Item}
-use Rattle.pipeline_model.specs.Checks.{kind_at, entries_at, steps_in}
+use Rattle.pipeline_model.specs.Checks.{kind_at, steps_in}
 use Rattle.pipeline_model.specs.Pipelines.{is_negated, IsAction, IsStep, IsPipeline}
 use Rattle.pipeline_model.specs.declared.pipeline.Pipeline.{Pipeline}
 use Rattle.pipeline_model.specs.declared.pipeline.Var.{Var}

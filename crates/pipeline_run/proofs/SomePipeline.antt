@@ -7,11 +7,11 @@ use Rattle.sig_base.specs.declared.limits.Limits.{Limits}
 use Rattle.sig_base.specs.declared.refusal.Place.{Place}
 use Rattle.rule_detections.specs.TestsOf.{TestsOf, value_refusal}
 use Rattle.rule_detections.specs.declared.test.Test.{Test}
-use Rattle.yaml_tree.specs.Nodes.{place_of, text_at}
+use Rattle.yaml_tree.specs.Nodes.{place_of, entries_at, text_at}
 use Rattle.yaml_tree.specs.Tree.{Tree}
 use Rattle.rule_head.specs.Sources.{source_of}
 use Rattle.rule_detections.specs.Items.{IsItem, item_refusal}
-use Rattle.pipeline_model.specs.Checks.{kind_at, added_by, added_in, entries_at, steps_in, pipeline_refusal}
+use Rattle.pipeline_model.specs.Checks.{kind_at, added_by, added_in, steps_in, pipeline_refusal}
 use Rattle.pipeline_model.specs.Pipelines.{text_or_none, priority_of, is_negated, is_or_at, var_of, pairs_at, choice_at, IsAdded, IsAction, sources_at, conds_at, IsStep, IsPipeline}
 use Rattle.pipeline_model.specs.declared.pipeline.Pipeline.{Pipeline}
 use Rattle.pipeline_model.specs.declared.step.Action.{Action}

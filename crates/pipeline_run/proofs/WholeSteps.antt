@@ -13,14 +13,14 @@ use Rattle.sig_base.proofs.Checks.{must_holds}
 use Rattle.rule_detections.specs.PlainTests.{ArePlainTests, IsPatternTest}
 use Rattle.rule_detections.specs.TestsOf.{TestsOf, value_refusal}
 use Rattle.rule_detections.specs.declared.test.Test.{Test}
-use Rattle.yaml_tree.specs.Nodes.{place_of, is_empty, entries_in, text_in, value_in, has_key}
+use Rattle.yaml_tree.specs.Nodes.{place_of, is_empty, entries_in, entries_if, entries_at, text_in, value_in, has_key}
 use Rattle.yaml_tree.specs.Texts.{HasScalarTexts}
 use Rattle.yaml_tree.specs.Tree.{Tree, Member}
 use Rattle.rule_detections.specs.Items.{IsItem, item_refusal}
 use Rattle.rule_detections.specs.Whole.{IsWholeItem, IsWholeAlternative}
 use Rattle.rule_detections.specs.declared.item.Item.{Item}
 use Rattle.rule_detections.proofs.Zips.{zip_some}
-use Rattle.pipeline_model.specs.Checks.{kind_at, entry_refusal, chosen_in, needed_refusal, added_by, items_shape, entries_if, entries_at, parts_if, steps_in, pipeline_refusal}
+use Rattle.pipeline_model.specs.Checks.{kind_at, entry_refusal, chosen_in, needed_refusal, added_by, items_shape, parts_if, steps_in, pipeline_refusal}
 use Rattle.pipeline_model.specs.Pipelines.{value_text, pair_of, pairs_at, var_of, IsAction, IsStep, IsPipeline}
 use Rattle.pipeline_check.specs.Shapes.{map_refusal, is_target, is_value, targets_refusal, mapping_refusal, values_refusal, vars_refusal}
 use Rattle.pipeline_check.specs.Words.{kind_of}

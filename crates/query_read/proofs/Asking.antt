@@ -8,7 +8,8 @@ use Rattle.query_lang.specs.Answers.{ReadAnswers, place_of}
 use Rattle.query_lang.specs.Patterns.{is_pattern}
 use Rattle.query_lang.specs.RefusedPlaces.{PatternAt, is_of_pattern, IsAmong, IsCause, no_pattern, AreRefused}
 use Rattle.query_read.specs.Answers.{AskAnswers}
-use Rattle.query_read.specs.Asked.{IsAsked, IsNotAsked, too_large, unread, most_bytes, file_start}
+use Rattle.query_read.specs.Asked.{IsAsked, IsNotAsked, too_large, unread, most_bytes}
+use Rattle.sig_base.specs.Files.{file_start}
 use Rattle.query_read.specs.Laws.{SomePlaces, EachAsked, NeverBoth, OneQuery, OneCause}
 use Rattle.sig_base.specs.Judged.{refusal}
 use Rattle.sig_base.specs.declared.limits.Limits.{Limits}

@@ -3,14 +3,10 @@
 use Rattle.std.specs.Prelude.{ℕ, ◌≡◌, ◌≤◌, ◌<◌, ◌+◌, List, length}
 use Rattle.event_schema.specs.declared.schema.Schema.{Schema}
 use Rattle.sig_base.specs.declared.limits.Limits.{Limits}
-use Rattle.sig_base.specs.declared.refusal.Place.{Place}
 use Rattle.sig_base.specs.declared.refusal.Refusal.{Refusal}
+use Rattle.sig_base.specs.Files.{file_start}
 use Rattle.sig_base.specs.Judged.{refusal}
 use Rattle.query_tokens.specs.Places.{CodeAt}
-
--- a file's first place
-abbrev pub file_start : Place
-file_start = record { line = 1; column = 1 }
 
 -- a query's file may have one byte more than a query has at most, since a line feed may stand behind it
 abbrev pub most_bytes : Limits → ℕ

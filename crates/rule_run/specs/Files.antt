@@ -1,15 +1,12 @@
 -- The one document of a file, or why there isn't exactly one that is a tree.
 use Rattle.std.specs.Prelude.{ℕ, List, [], ◌∷◌, Result, Ok, Err}
+use Rattle.sig_base.specs.Files.{file_start}
 use Rattle.sig_base.specs.Judged.{refusal as refused}
 use Rattle.sig_base.specs.declared.refusal.Detail.TheVariants as details
 use Rattle.sig_base.specs.declared.refusal.Place.{Place}
 use Rattle.sig_base.specs.declared.refusal.Refusal.{Refusal}
 use Rattle.yaml_tree.specs.Nodes.{place_of}
 use Rattle.yaml_tree.specs.Tree.{At, Tree, Answer, tree, refusal}
-
--- a file's first place
-abbrev pub file_start : Place
-file_start = record { line = 1; column = 1 }
 
 abbrev pub place_at : At → Place
 place_at a = record { line = a.line; column = a.column }

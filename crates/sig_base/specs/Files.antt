@@ -1,6 +1,11 @@
--- The files of a shelf: names, as characters, with bytes.
+-- The files of a shelf: names, as characters, with bytes; and the first place of each.
 use Rattle.std.specs.Prelude.{◌≡◌, ℕ, ◌≤◌, if◌then◌else◌, List, [], ◌∷◌, length, take, Option, Some, None, MatchOption}
 use Rattle.std.specs.Str.{bytes_eq}
+use Rattle.sig_base.specs.declared.refusal.Place.{Place}
+
+-- a file's first place
+abbrev pub file_start : Place
+file_start = record { line = 1; column = 1 }
 
 -- the first file of this name
 abbrev pub file_at : List (List ℕ × List ℕ) → List ℕ → Option (List ℕ)

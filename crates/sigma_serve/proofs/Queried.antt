@@ -19,11 +19,11 @@ use Rattle.event_schema.specs.declared.schema.Schema.{Schema}
 use Rattle.event_schema.specs.declared.value.Value.{Value}
 use Rattle.query_lang.specs.RefusedPlaces.{PatternAt, is_of_pattern}
 use Rattle.query_read.specs.Answers.{AtPlaces}
-use Rattle.query_read.specs.Asked.{IsAsked, IsNotAsked, too_large, unread, most_bytes, file_start}
+use Rattle.query_read.specs.Asked.{IsAsked, IsNotAsked, too_large, unread, most_bytes}
 use Rattle.query_read.specs.Laws as asking
 use Rattle.answer_writer.proofs.Selected.{each_selected, one_selected}
 use Rattle.answer_writer.specs.Selected.{Selects, IsDecided}
-use Rattle.sig_base.specs.Files.{IsFront}
+use Rattle.sig_base.specs.Files.{file_start, IsFront}
 use Rattle.sig_base.specs.Judged.{refusal}
 use Rattle.sig_base.specs.declared.limits.Limits.{Limits}
 use Rattle.sig_base.specs.declared.refusal.Refusal.{Refusal}

@@ -30,11 +30,11 @@ use Rattle.rule_model.specs.declared.rule.Rule.{Rule}
 use Rattle.rule_run.proofs.Fronts.{single_places_front, run_front, not_run_front}
 use Rattle.rule_run.proofs.Runs.{none_of_single, single_later}
 use Rattle.rule_run.specs.Answers.{ForValues, IsBare}
-use Rattle.rule_run.specs.Files.{file_start, single_tree}
+use Rattle.rule_run.specs.Files.{single_tree}
 use Rattle.rule_run.specs.Laws as files
 use Rattle.rule_run.specs.Runs.{IsFit, IsUnfit, IsRun, IsNotRun, no_fit, not_built, AreOfTree, AreOfSingle}
 use Rattle.rule_schema.specs.Inferred.{schema_for}
-use Rattle.sig_base.specs.Files.{IsFront}
+use Rattle.sig_base.specs.Files.{file_start, IsFront}
 use Rattle.sig_base.specs.Judged.{refusal}
 use Rattle.sig_base.specs.declared.limits.Limits.{Limits}
 use Rattle.sig_base.specs.declared.refusal.Fault.TheVariants as fault

@@ -16,8 +16,7 @@ use Rattle.answer_writer.specs.declared.stop.Stop.TheVariants.{Memory}
 use Rattle.event_read.specs.Answers.{Answers}
 use Rattle.event_read.specs.SchemaOf.{schema_of}
 use Rattle.event_schema.specs.declared.schema.Schema.{Schema}
-use Rattle.rule_run.specs.Files.{file_start}
-use Rattle.sig_base.specs.Files.{file_at, IsFront}
+use Rattle.sig_base.specs.Files.{file_start, file_at, IsFront}
 use Rattle.sig_base.specs.Judged.{refusal}
 use Rattle.sig_base.specs.declared.limits.Limits.{Limits}
 use Rattle.sig_base.specs.declared.refusal.Fault.TheVariants.{Refused}

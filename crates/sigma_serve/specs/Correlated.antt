@@ -16,7 +16,7 @@ use Rattle.pipeline_files.specs.Paired.{paired}
 use Rattle.pipeline_model.specs.declared.pipeline.Pipeline.{Pipeline}
 use Rattle.rule_regex.specs.Unbuilt.{Unbuilt}
 use Rattle.rule_model.specs.Plain.{PlainRule}
-use Rattle.rule_run.specs.Files.{file_start}
+use Rattle.sig_base.specs.Files.{file_start}
 use Rattle.sig_base.specs.Judged.{refusal}
 use Rattle.sig_base.specs.declared.limits.Limits.{Limits}
 use Rattle.sig_base.specs.declared.refusal.Refusal.{Refusal}

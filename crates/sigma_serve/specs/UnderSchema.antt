@@ -5,7 +5,7 @@ use Rattle.answer_writer.specs.Parts.{Share, Part, no_share}
 use Rattle.answer_writer.specs.declared.stop.Stop.{Stop}
 use Rattle.event_read.specs.SchemaOf.{schema_of}
 use Rattle.event_schema.specs.declared.schema.Schema.{Schema}
-use Rattle.rule_run.specs.Files.{file_start}
+use Rattle.sig_base.specs.Files.{file_start}
 use Rattle.sig_base.specs.Judged.{refusal}
 use Rattle.sig_base.specs.declared.limits.Limits.{Limits}
 use Rattle.sigma_serve.specs.Reports.{refusal_share}

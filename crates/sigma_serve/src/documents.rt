@@ -14,7 +14,7 @@ ghost use Rattle.yaml_documents.specs.Given.{IsPlain, answers_view};
 ghost use Rattle.yaml_tree.specs.View.{node_view, document_view};
 
 use crate::report::refusal_text;
-use answer_writer::{Outside, Stop, tell_diagnostic};
+use answer_writer::{Outside, Stop, either, tell_diagnostic};
 use query_lang::Builder;
 use sig_base::{Fault, Limits, Refusal, Text};
 use std::alloc::Global;
@@ -110,12 +110,6 @@ fn answer_documents<T: TreeCommand, W: Outside, B: Builder>(
         }
     }
     Ok(found)
-}
-
-pub(super) fn either(first: bool, second: bool) -> bool
-    ensures { result ≡ (first || second) }
-{
-    first || second
 }
 
 fn answer_document<T: TreeCommand, W: Outside, B: Builder>(

@@ -6,8 +6,8 @@ ghost use Rattle.answer_writer.specs.Input.{Needs};
 ghost use Rattle.sigma_serve.specs.RuleFiles.{FilesBySome};
 ghost use Rattle.sigma_serve.specs.UnderSchema.{is_ended};
 
-use crate::documents::{TreeCommand, answer_bytes, each_file, either};
-use answer_writer::{Outside, Stop, read_file};
+use crate::documents::{TreeCommand, answer_bytes, each_file};
+use answer_writer::{Outside, Stop, either, read_file};
 use query_lang::Builder;
 use sig_base::{Limits, Text};
 use std::alloc::Global;

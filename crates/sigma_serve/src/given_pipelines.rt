@@ -11,8 +11,8 @@ ghost use Rattle.sigma_serve.specs.Laws.{EachUnder};
 ghost use Rattle.sigma_serve.specs.UnderPipelines.{AreReported, ByPipelines, PipedBuilder};
 ghost use Rattle.sigma_serve.specs.UnderSchema.{is_ended};
 
-use crate::documents::{either, put_refusal};
-use answer_writer::{Outside, Stop, read_file};
+use crate::documents::put_refusal;
+use answer_writer::{Outside, Stop, either, read_file};
 use event_schema::Schema;
 use pipeline_files::{FileFault, one_outcome, read_pipelines};
 use pipeline_model::Pipeline;

@@ -7,9 +7,8 @@ ghost use Rattle.correlation_files.specs.Found.{Grows};
 ghost use Rattle.sigma_serve.specs.Sourced.{GrowsBy, IsFound, SourceShare, SourcesBySome};
 ghost use Rattle.sigma_serve.specs.UnderSchema.{is_ended};
 
-use crate::documents::either;
 use crate::given_pipelines::put_refusals;
-use answer_writer::{Outside, Stop, read_file};
+use answer_writer::{Outside, Stop, either, read_file};
 use correlation_files::{Found, one_outcome, read_rules};
 use event_schema::Schema;
 use pipeline_model::Pipeline;

@@ -103,6 +103,14 @@ abbrev pub value_in : List ℕ → List Member → Option Tree
 value_in key [] = None
 value_in key (e ∷ es) = if bytes_eq e.key key then Some e.value else value_in key es
 
+abbrev pub entries_if : Option Tree → List Member
+entries_if None = []
+entries_if (Some t) = entries_in t
+
+-- the entries of the map at a key
+abbrev pub entries_at : List ℕ → Tree → List Member
+entries_at key t = entries_if (value_in key (entries_in t))
+
 abbrev pub has_key : List ℕ → Tree → Bool
 has_key key t = is_some (value_in key (entries_in t))
 

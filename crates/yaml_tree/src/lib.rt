@@ -3,8 +3,8 @@
 
 pub use copies::{copy_text, copy_texts};
 pub use nodes::{
-    all_entries, elements_of, entries_of, find_value, has_key, is_empty, is_map, is_null,
-    is_scalar, is_truth, parts_of, place_of, text_of, value_at,
+    all_entries, elements_of, entries_at, entries_of, find_value, has_key, is_empty, is_map,
+    is_null, is_scalar, is_truth, parts_of, place_of, text_of, value_at,
 };
 pub use tree::{Document, Entry, Kind, Node};
 

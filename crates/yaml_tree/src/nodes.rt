@@ -141,6 +141,17 @@ pub fn value_at<'a>(node: &'a Node, key: &str) -> Option<&'a Node>
     find_value(all_entries(node), key)
 }
 
+/// The entries of the map at a key; none where the key isn't there or no map is at it.
+pub fn entries_at<'a>(node: &'a Node, key: &str) -> &'a [Entry]
+    requires { is_ascii key.now ≡ true }
+    ensures { spec.entries_at key.now (node_view node.now) ≡ entries_view result.now }
+{
+    match value_at(node, key) {
+        Some(value) => all_entries(value),
+        None => &[],
+    }
+}
+
 /// Whether a map has the key.
 pub fn has_key(node: &Node, key: &str) -> bool
     requires { is_ascii key.now ≡ true }

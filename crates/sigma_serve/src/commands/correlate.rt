@@ -15,12 +15,12 @@ ghost use Rattle.sigma_serve.specs.Sourced.{AreBindings, AreTold, IsFound};
 ghost use Rattle.sigma_serve.specs.UnderPipelines.{PipedBuilder};
 ghost use Rattle.sigma_serve.specs.UnderSchema.{UnderBuilder, is_ended};
 
-use crate::documents::{either, put_refusal};
+use crate::documents::put_refusal;
 use crate::given_pipelines::{PipelineCommand, answer_pipelines};
 use crate::given_schema::{SchemaCommand, answer_under};
 use crate::laws::each_answer;
 use crate::sources::answer_sources;
-use answer_writer::{Outside, Stop};
+use answer_writer::{Outside, Stop, either};
 use correlation_engine::Engine;
 use correlation_files::{Bindings, Found, Unbound};
 use correlation_run::follow_events;
