@@ -2,9 +2,9 @@
 #![tactic(auto)]
 
 mod backend;
-mod copying;
 mod lack;
 mod tree;
+mod tree_copies;
 
 pub use backend::Backend;
 pub use lack::{Lack, Lacking, judge_lacks};

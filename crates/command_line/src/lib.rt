@@ -5,9 +5,9 @@
 
 pub use command_name::{CommandName, Count};
 pub use laws::items_are_read;
-pub use reading::read;
+pub use words::read;
 
 mod command_name;
 mod laws;
 mod parts;
-mod reading;
+mod words;

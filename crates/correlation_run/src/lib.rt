@@ -2,12 +2,12 @@
 #![tactic(auto)]
 
 mod brought_events;
-mod following;
+mod event_reports;
 mod judges;
 mod laws;
 mod line;
 mod report_lines;
 
-pub use following::follow_events;
+pub use event_reports::follow_events;
 pub use laws::{line_reads_back, one_follower};
 pub use line::write_report;

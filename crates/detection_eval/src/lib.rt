@@ -6,7 +6,7 @@ pub use judge::Judge;
 pub use laws::matches_or_not;
 pub use ready::Ready;
 
-mod copying;
+mod copies;
 mod event_truth;
 mod finders;
 mod formula;

@@ -7,7 +7,7 @@ ghost use Rattle.rule_model.specs.Expressions.{rule_expressions};
 ghost use Rattle.rule_model.specs.Plain.{PlainRule, rule_view};
 ghost use Rattle.detection_eval.specs.Ready.{StandsFor, JudgesFor, ready_of, ready_view, searches_view};
 
-use crate::copying::copy_numbers;
+use crate::copies::copy_numbers;
 use crate::finders::Finders;
 use crate::judge::Judge;
 use crate::numbered::NumberedDetection;

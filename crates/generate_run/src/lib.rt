@@ -6,17 +6,17 @@
 mod backends;
 mod builder;
 mod comparisons;
-mod counting;
 mod counts;
 mod draws;
 mod events;
-mod generating;
+mod flags;
+mod generator;
 mod laws;
 mod line;
-mod making;
 mod matches;
 mod readable;
 mod rule;
+mod seed_rule;
 mod selection;
 mod subject;
 mod words;
@@ -24,10 +24,10 @@ mod words;
 pub use comparisons::compare;
 pub use draws::{after_events, after_three};
 pub use events::{make_events, make_schema};
-pub use generating::generate;
+pub use generator::generate;
 pub use laws::{
     events_go_on, generated_events, generated_lines, generated_rule, seeds_are_subjects,
 };
-pub use making::tree_for;
 pub use readable::Readable;
 pub use rule::make_rule;
+pub use seed_rule::tree_for;

@@ -11,10 +11,10 @@ ghost use Rattle.generate_run.specs.Lines.{AreCounts};
 ghost use Rattle.generate_run.specs.Subjects.{IsSubject};
 ghost use Rattle.rule_model.specs.Plain.{rule_view};
 
-use crate::counting::count_set;
 use crate::counts::Counts;
 use crate::draws::after_events;
 use crate::events::make_events;
+use crate::flags::count_set;
 use crate::laws::{events_go_on, generated_events};
 use crate::matches::{select_by_query, select_by_rule};
 use backend_core::Tree;

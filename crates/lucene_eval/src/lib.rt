@@ -1,9 +1,9 @@
 //! The meaning of Lucene queries: whether a query selects an event, without memory.
 #![tactic(auto)]
 
-mod selecting;
+mod selection;
 mod terms;
 mod values;
 
-pub use selecting::selects;
+pub use selection::selects;
 pub use terms::is_term;

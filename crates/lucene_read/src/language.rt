@@ -8,7 +8,7 @@ ghost use Rattle.lucene_lang.specs.View.{group_view};
 ghost use Rattle.lucene_lang.specs.Queries.{IsWithin};
 ghost use Rattle.lucene_read.specs.Answered.{IsRefused, IsAnswered};
 
-use crate::asking::Asking;
+use crate::asked_queries::Asking;
 use crate::query::read_query;
 use event_schema::{Event, Schema};
 use lucene_lang::Group;

@@ -2,7 +2,7 @@
 //! and Lucene as a language whose queries are read and asked of events.
 #![tactic(auto)]
 
-mod asking;
+mod asked_queries;
 mod files;
 mod language;
 mod laws;

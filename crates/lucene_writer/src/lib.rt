@@ -2,12 +2,12 @@
 #![tactic(auto)]
 
 mod backend;
-mod counting;
-mod lacking;
+mod counts;
+mod lacks;
 mod laws;
+mod output;
 mod place;
-mod putting;
-mod tests_of;
+mod test_text;
 mod walk;
 mod writer;
 

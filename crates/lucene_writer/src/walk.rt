@@ -6,9 +6,9 @@ ghost use Rattle.backend_core.specs.View.{tree_view};
 ghost use Rattle.lucene_writer.specs.Pieces as pieces;
 ghost use Rattle.lucene_writer.specs.Told as told;
 
+use crate::output::{put, put_if};
 use crate::place::{Standing, is_alone, is_in_and, is_whole};
-use crate::putting::{put, put_if};
-use crate::tests_of::{put_never, put_test};
+use crate::test_text::{put_never, put_test};
 use backend_core::{Leaf, LeafTest, Tree};
 use event_schema::Field;
 use sig_base::{Fault, Text};

@@ -9,7 +9,7 @@ ghost use Rattle.lucene_writer.specs.Lacking.{lucene_lacks};
 ghost use Rattle.lucene_writer.specs.Queries.{query_text, query_bytes};
 ghost use Rattle.lucene_writer.specs.Refused.{counted_at_most, deep_refusal};
 
-use crate::counting::{tree_clauses, tree_opens};
+use crate::counts::{tree_clauses, tree_opens};
 use crate::laws::pieces_are_query;
 use crate::place::Standing;
 use crate::walk::put_tree;

@@ -8,11 +8,11 @@
 #![tactic(auto)]
 
 mod cursor;
-mod seeking;
+mod part_takes;
 mod step;
-mod taking;
+mod suffixes;
+mod text_walk;
 mod walk;
-mod walking;
 mod whole;
 
 pub use cursor::Cursor;

@@ -2,9 +2,9 @@ ghost use Rattle.std.specs.Prelude.{◌↔◌, IsTrue};
 ghost use Rattle.std.specs.Str.{chars};
 
 use crate::cursor::Cursor;
-use crate::seeking::matches_some_suffix;
+use crate::suffixes::matches_some_suffix;
+use crate::text_walk::walk;
 use crate::walk::Walk;
-use crate::walking::walk;
 
 /// Whether the pattern matches the whole text. It takes no memory, and at most about k * n steps for a
 /// pattern of k steps and a text of n characters.

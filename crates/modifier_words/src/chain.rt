@@ -5,7 +5,7 @@ ghost use Rattle.std.specs.List.{list_any};
 ghost use Rattle.modifier_words.specs.Chains as chains;
 ghost use Rattle.modifier_words.specs.Kinds as kinds;
 
-use crate::counting::{
+use crate::chain_rules::{
     flags_of, is_all, is_cased, is_empty, is_expand, is_expression_chain, is_network_chain,
     is_position, is_presence, is_reference, order_of, takes_null,
 };

@@ -7,8 +7,8 @@ pub use laws::{common_chains, encodings_stand_apart};
 pub use modifier::{Encoding, Flag, Joined, Modifier, Op, Position};
 
 mod chain;
-mod counting;
+mod chain_rules;
+mod chain_words;
 mod form;
 mod laws;
 mod modifier;
-mod reading;

@@ -17,6 +17,6 @@ mod growth;
 mod items;
 mod laws;
 mod made;
-mod measuring;
+mod measures;
 mod read_texts;
 mod sizes;

@@ -15,7 +15,7 @@ ghost use Rattle.pipeline_fill.specs.Made.{IsSize};
 
 use crate::change::Change;
 use crate::growth::{Size, add, larger};
-use crate::measuring::{measure_kept, measure_values};
+use crate::measures::{measure_kept, measure_values};
 use pipeline_limits::detections_legal;
 use rule_detections::{Alternative, Detection, Fields, Item};
 use sig_base::{Code, Fault, Limits, Place, refused};

@@ -2,10 +2,10 @@
 #![tactic(auto)]
 
 mod checks;
+mod document;
 mod ids;
 mod items;
 mod pipeline;
-mod reading;
 mod scope;
 mod step;
 mod values;

@@ -2,13 +2,13 @@
 #![tactic(auto)]
 
 mod concerned;
-mod finding;
 mod items;
 mod laws;
 mod list;
 mod made;
 mod mapping;
 mod name_counts;
+mod name_index;
 mod names;
 mod references;
 mod renamed_rule;

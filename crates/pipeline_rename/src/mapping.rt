@@ -6,10 +6,10 @@ ghost use Rattle.pipeline_rename.specs.Made.{texts_made, pairs_in, keys_of, text
 ghost use Rattle.pipeline_rename.specs.Names as spec;
 
 use crate::concerned::concerns_some;
-use crate::finding::{find_begun, find_equal, index_if};
 use crate::list::distinct;
 use crate::made::{Made, itself, joined};
 use crate::name_counts::{FEW, has_long, has_many};
+use crate::name_index::{find_begun, find_equal, index_if};
 use pipeline_model::{Action, Pair, Step};
 use rule_detections::Detection;
 use sig_base::{Fault, Text, Texts, first_char};

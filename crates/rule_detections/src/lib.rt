@@ -12,8 +12,8 @@ pub use test::{Test, Tests};
 pub use value_tests::resolve;
 
 mod copies;
-mod copying;
 mod detection;
+mod detection_copies;
 mod detections;
 mod expression;
 mod expressions;

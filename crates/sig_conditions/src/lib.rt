@@ -2,20 +2,20 @@
 #![tactic(auto)]
 
 pub use condition::Condition;
-pub use copying::copy_formulas;
+pub use condition_text::read_condition;
+pub use copies::copy_formulas;
 pub use formula::Formula;
 pub use laws::{identifiers_are_names, one_condition, one_list_of_words, same_meaning};
 pub use names::Names;
 pub use numbers::DetectionNumbers;
-pub use reading::read_condition;
-pub use resolving::resolve_condition;
+pub use resolution::resolve_condition;
 pub use scan::is_identifier;
 pub use selector::Selector;
 
 mod budget;
 mod condition;
-mod copying;
-mod counting;
+mod condition_text;
+mod copies;
 mod formula;
 mod join;
 mod laws;
@@ -23,11 +23,11 @@ mod look;
 mod names;
 mod numbers;
 mod reader;
-mod reading;
+mod resolution;
 mod resolver;
-mod resolving;
 mod scan;
 mod selector;
+mod sizes;
 mod stop;
 mod taken_names;
 mod unresolved;

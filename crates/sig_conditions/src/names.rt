@@ -11,11 +11,11 @@ ghost use Rattle.sig_conditions.specs.Taken.{number_of, taken};
 
 use crate::budget::{pay, pay_product};
 use crate::condition::Condition;
-use crate::counting::{names_size, selector_size};
 use crate::formula::Formula;
 use crate::numbers::{DetectionNumbers, copy_numbers};
 use crate::resolver::resolve;
 use crate::selector::Selector;
+use crate::sizes::{names_size, selector_size};
 use crate::taken_names::take_names;
 use crate::unresolved::Unresolved;
 use sig_base::{Fault, Text, Texts};

@@ -1,14 +1,14 @@
 //! Values in UTF-16 and base64, and networks of IPv4 addresses.
 #![tactic(auto)]
 
-mod encoding;
+mod base64_texts;
 mod laws;
 mod network;
+mod network_text;
 mod patterns;
-mod reading;
 mod utf16;
 
-pub use encoding::{base64_text, offset_pieces};
+pub use base64_texts::{base64_text, offset_pieces};
 pub use laws::{
     networks_are_read, one_base64_text, patterns_fit, pieces_stand, same_pieces, some_texts,
 };

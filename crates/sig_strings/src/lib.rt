@@ -2,16 +2,16 @@
 #![tactic(auto)]
 
 mod edits;
-mod fitting;
 mod hole;
 mod laws;
+mod matches;
 mod name;
 mod part;
 mod pattern;
-mod reading;
+mod pattern_text;
 mod shared;
+mod sigma_text;
 mod sign;
-mod writing;
 
 pub use laws::{joined_fits, one_pattern, plain_fits, runs_fit, stays_written};
 pub use name::HoleName;

@@ -6,7 +6,7 @@ mod query;
 mod state;
 mod step;
 mod syntax;
-mod tests_read;
+mod test_tokens;
 
 pub use query::read_query;
 pub use state::{Outcome, Query};

@@ -8,7 +8,7 @@ ghost use Rattle.sql_parse.specs.View.{partial_view, core_view, core_option_view
 use crate::partial::Partial;
 use crate::state::{Inside, Level, State};
 use crate::syntax::{Ands, Core, Leaf, Nots, Ors};
-use crate::tests_read::{first, go_on};
+use crate::test_tokens::{first, go_on};
 use sig_base::Text;
 use sql_lang::Collate;
 use sql_scan::{Keyword, Sort};

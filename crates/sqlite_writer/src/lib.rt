@@ -5,14 +5,14 @@
 mod backend;
 mod deep;
 mod fields;
-mod guarding;
-mod lacking;
+mod guarded_tree;
+mod lacks;
 mod laws;
+mod output;
 mod patterns;
 mod place;
-mod putting;
-mod sizing;
-mod tests_of;
+mod sizes;
+mod test_text;
 mod walk;
 mod writer;
 

@@ -8,7 +8,7 @@ ghost use Rattle.sql_layout.specs.Layout.{doubled};
 ghost use Rattle.sql_like.specs.Writable.{sql_parts};
 ghost use Rattle.sqlite_writer.specs.Signs.{like_sign, glob_sign};
 
-use crate::putting::put_inside;
+use crate::output::put_inside;
 use sig_base::Text;
 use sig_strings::Part;
 use std::alloc::AllocError;

@@ -7,9 +7,9 @@ ghost use Rattle.sqlite_writer.specs.Guarded as guards;
 ghost use Rattle.sqlite_writer.specs.Pieces.{tree_text, items_text, halved_text, enclosed_if, is_enclosed as is_enclosed_list, standing_in as standing, test_text};
 
 use crate::fields::{kind_of, name_of};
+use crate::output::{put, put_if, put_word_if};
 use crate::place::{Kind, MOST_IN_A_ROW, Standing, is_enclosed, standing_in};
-use crate::putting::{put, put_if, put_word_if};
-use crate::tests_of::put_test;
+use crate::test_text::put_test;
 use backend_core::{Leaf, Tree};
 use event_schema::Field;
 use sig_base::{Fault, Text};

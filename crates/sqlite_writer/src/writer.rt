@@ -17,11 +17,11 @@ ghost use Rattle.sqlite_writer.specs.Schemas.{IsFoundSchema};
 ghost use Rattle.sqlite_writer.specs.Shallow.{ListsAreShallow};
 
 use crate::deep::tree_depth;
-use crate::guarding::guarded;
+use crate::guarded_tree::guarded;
 use crate::laws::{lists_are_shallow, tree_is_query};
+use crate::output::{put, put_name};
 use crate::place::Standing;
-use crate::putting::{put, put_name};
-use crate::sizing::{with_text, with_tree};
+use crate::sizes::{with_text, with_tree};
 use crate::walk::put_tree;
 use backend_core::{Tree, judge_lacks};
 use event_schema::Schema;

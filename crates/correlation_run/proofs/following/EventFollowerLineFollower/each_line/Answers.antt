@@ -1,4 +1,0 @@
-use Rattle.correlation_run.proofs.following.EventFollowerLineFollower.each_line.Goals as goal
-
-pub returns : goal.returns
-returns c = c.one_follower.ensures.each _

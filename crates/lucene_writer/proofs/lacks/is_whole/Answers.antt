@@ -1,0 +1,16 @@
+use Rattle.std.proofs.Common.{false, refl, ◌∙◌}
+use Rattle.event_schema.specs.declared.schema.Field.{Field}
+use Rattle.lucene_lang.specs.Faults.{is_whole, is_whole_at}
+use Rattle.lucene_writer.proofs.Names.{told_within, told_past}
+use Rattle.lucene_writer.proofs.lacks.is_whole.Goals as goal
+
+pub returns-in-Some : goal.returns-in-Some
+returns-in-Some c =
+    c.is_whole_kind.ensures
+    ∙ told_within (λ (f : Field). is_whole f.kind) false is_whole_at (λ f fields. refl) (λ f fields k. refl) (λ k. refl)
+    c.args.fields.now c.args.number c.in-Some.field.now c.in-Some.ensures.lookup.3.0 c.in-Some.ensures.lookup.1
+
+pub returns-in-None : goal.returns-in-None
+returns-in-None c =
+    told_past (λ (f : Field). is_whole f.kind) false is_whole_at (λ f fields. refl) (λ f fields k. refl) (λ k. refl)
+    c.args.fields.now c.args.number c.in-None.ensures.lookup.3
