@@ -7,7 +7,8 @@ use Rattle.std.proofs.Math.Utf8.{scalar}
 use Rattle.std.proofs.lemmas.Bool.Decides.{nat_tests}
 use Rattle.yaml_inline.specs.File.{is_blank, is_empty, skip_blanks}
 use Rattle.yaml_inline.specs.Line.{Read, ◌>>=◌, plain_len, trimmed, plain_front, plain_rest}
-use Rattle.yaml_inline.specs.Scalar.{is_digit, Quoted, closed, open_ended, bad_escape, behind, passed, single, hex_value, hex_step, hex_front, is_surrogate, taking, escape, escaped, double, feeds, joint}
+use Rattle.sig_base.specs.Digits.{is_digit}
+use Rattle.yaml_inline.specs.Scalar.{Quoted, closed, open_ended, bad_escape, behind, passed, single, hex_value, hex_step, hex_front, is_surrogate, taking, escape, escaped, double, feeds, joint}
 use Rattle.yaml_blocks.proofs.Tools.{both}
 
 abbrev pub AreScalars : List ℕ → Type 0
