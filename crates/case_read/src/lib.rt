@@ -6,7 +6,7 @@ pub use devices::{Device, Setting, When};
 pub use holes::{Hole, filled};
 pub use items::{Item, Kind, items_of};
 pub use report::Report;
-pub use scene::{Group, Law, Scene, scene_of};
+pub use scene::{Failures, Group, Scene, scene_of};
 pub use signs::bytes_of;
 pub use trouble::Trouble;
 pub use world::{Ran, World, failing};

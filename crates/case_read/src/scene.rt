@@ -23,7 +23,7 @@ pub struct Group {
 
 /// A device of which each call is to fail in turn, and the inputs that are read in turn.
 #[derive(Drop)]
-pub struct Law {
+pub struct Failures {
     pub device: Device,
     pub inputs: String,
 }
@@ -36,7 +36,7 @@ pub struct Scene {
     pub files: Vec<(String, String)>,
     pub events: String,
     pub groups: Vec<Group>,
-    pub laws: Vec<Law>,
+    pub failures: Vec<Failures>,
     /// The files that are cut after each of their bytes.
     pub cut_files: Vec<String>,
 }
@@ -48,7 +48,7 @@ fn empty(alloc: Global) -> Scene {
         files: Vec::new(alloc),
         events: String::new(alloc),
         groups: Vec::new(alloc),
-        laws: Vec::new(alloc),
+        failures: Vec::new(alloc),
         cut_files: Vec::new(alloc),
     }
 }
@@ -137,7 +137,7 @@ fn add_device(alloc: Global, scene: &mut Scene, line: &str) -> Result<(), Troubl
     scene.world = with_setting(scene.world, &setting);
     if setting.when == When::Each {
         let inputs = copy_of(alloc, setting.inputs)?;
-        scene.laws.push(Law {
+        scene.failures.push(Failures {
             device: setting.device,
             inputs,
         })?;

@@ -80,8 +80,8 @@ fn differences_of(
     let mut wrong = String::new(alloc);
     let came = run_in(alloc, scene.world, command)?;
     add_differences(alloc, &mut wrong, wanted, &came)?;
-    for law in scene.laws.as_slice() {
-        let line = broken(alloc, scene.world, command, &came, law)?;
+    for each in scene.failures.as_slice() {
+        let line = broken(alloc, scene.world, command, &came, each)?;
         add_line(&mut wrong, line)?;
     }
     for name in scene.cut_files.as_slice() {

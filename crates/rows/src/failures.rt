@@ -2,7 +2,7 @@
 //! fault is a front of what is written without it.
 
 use crate::runs::{Command, run_in};
-use case_read::{Device, Law, Ran, Trouble, World, failing};
+use case_read::{Device, Failures, Ran, Trouble, World, failing};
 use std::alloc::Global;
 
 /// How many calls fail in turn at most.
@@ -42,12 +42,12 @@ fn is_cut_off(ran: &Ran, whole: &Ran, device: Device, input: &str) -> bool {
 }
 
 /// The input that is read after so many others.
-fn input_of(law: &Law, others: u64) -> &str {
-    if law.device != Device::Shelf {
+fn input_of(failures: &Failures, others: u64) -> &str {
+    if failures.device != Device::Shelf {
         return "events";
     }
     let mut place: u64 = 0;
-    for input in law.inputs.as_str().split(' ') {
+    for input in failures.inputs.as_str().split(' ') {
         if place == others {
             return input;
         }
@@ -58,9 +58,9 @@ fn input_of(law: &Law, others: u64) -> &str {
 
 /// How many calls are to fail, if that is known: as many of the shelf as there are inputs, and as
 /// many writes of one byte as there are bytes.
-fn calls_wanted(law: &Law, world: World, whole: &Ran) -> Option<u64> {
-    match law.device {
-        Device::Shelf => Some(law.inputs.as_str().split(' ').count() as u64),
+fn calls_wanted(failures: &Failures, world: World, whole: &Ran) -> Option<u64> {
+    match failures.device {
+        Device::Shelf => Some(failures.inputs.as_str().split(' ').count() as u64),
         Device::Out if world.out_taken == 1 => Some(whole.out.len() as u64),
         Device::Err if world.err_taken == 1 => Some(whole.err.len() as u64),
         _ => None,
@@ -79,20 +79,20 @@ pub fn broken(
     world: World,
     command: Command,
     whole: &Ran,
-    law: &Law,
+    failures: &Failures,
 ) -> Result<Option<String>, Trouble> {
     for call in 1..MOST {
         let failed = call.saturating_sub(1);
-        let ran = run_in(alloc, failing(world, law.device, call), command)?;
+        let ran = run_in(alloc, failing(world, failures.device, call), command)?;
         if is_same(&ran, whole) {
-            let wanted = calls_wanted(law, world, whole).unwrap_or(failed.max(1));
+            let wanted = calls_wanted(failures, world, whole).unwrap_or(failed.max(1));
             if wanted == failed {
                 return Ok(None);
             }
             let line = format!(in alloc; "failing calls are to be {wanted} and are {failed}")?;
             return Ok(Some(line));
         }
-        if !is_cut_off(&ran, whole, law.device, input_of(law, failed)) {
+        if !is_cut_off(&ran, whole, failures.device, input_of(failures, failed)) {
             let line = format!(in alloc;
                 "what is written where call {call} fails isn't a front of the whole"
             )?;
