@@ -7,6 +7,7 @@ PROGRAM is the built program, as crates/sigma_app/out/sigma_app. It tries
 - each example of README.md and docs/ that begins with `$ ./sigma`, where `..` stands for anything and `(cut ..)` isn't shown,
 - the table of lines in docs/FORMAT.md, each example that is given as lines of the page's own rule,
 - the table there of what an item becomes in a query,
+- the table in docs/LUCENE.md of what its language leaves out, each query under the schema that the page says,
 - the rules of examples/ with the queries beside them, under the schema and the pipelines beside them.
 It prints what differs, and how many were tried and how many are told in words and so aren't; the exit status is 1 where something differs.
 """
@@ -134,6 +135,17 @@ def shown_items(trial, program, folder):
         trial.compare(f"docs/FORMAT.md: {item}", shown, query_of(program, folder, "sqlite", rule)[0].rstrip("\n"))
 
 
+def shown_left_out(trial, program, folder):
+    with open(f"{folder}/s.json", "w", encoding="utf-8") as it:
+        it.write('{"fields":[{"name":"f","kind":"text"},{"name":"g","kind":"text"},{"name":"n","kind":"whole"}]}')
+    for _, queries, line in table(read("docs/LUCENE.md"), "| Left out | Query |"):
+        for query in re.findall("`([^`]*)`", queries):
+            with open(f"{folder}/q", "w", encoding="utf-8") as it:
+                it.write(query)
+            words = ["query", "--backend", "lucene", "--schema", "s.json", "q"]
+            trial.compare(f"docs/LUCENE.md: {query}", line.strip("`"), ran(program, words, folder)[1].rstrip("\n"))
+
+
 def shown_examples(trial, program):
     names = sorted(it[:-4] for it in os.listdir(f"{TOP}/examples") if it.endswith(".yml") and not it.endswith(".pipeline.yml"))
     for name in names:
@@ -153,6 +165,7 @@ def main():
         shown_commands(trial, program)
         shown_lines(trial, program, folder)
         shown_items(trial, program, folder)
+        shown_left_out(trial, program, folder)
         shown_examples(trial, program)
     print(f"{trial.tried} tried, {trial.wrong} differ, {trial.told} told in words")
     return 1 if trial.wrong else 0
