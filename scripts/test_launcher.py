@@ -13,6 +13,8 @@ import unittest
 from pathlib import Path
 
 TOP = Path(__file__).resolve().parent.parent
+# So long a launch may take where the machine is busy.
+SECONDS = 300
 # Proves at once, and builds a program that says which words it got; notes each call. Where there is
 # a file `slow`, it waits in the proofs until that's gone.
 RT = """#!/bin/sh
@@ -67,7 +69,7 @@ class Launcher(unittest.TestCase):
     def ask(self, *words):
         """The exit status, and what is written on each stream."""
         tool = self.start(*words)
-        out, err = tool.communicate(timeout=60)
+        out, err = tool.communicate(timeout=SECONDS)
         return tool.returncode, out, err
 
     def calls(self):
@@ -82,12 +84,18 @@ class Launcher(unittest.TestCase):
         kept = {"sigma_app", "sigma.built", "sigma.version", "build.log"}
         return sorted(it.name for it in (self.top / "out").iterdir() if it.name not in kept)
 
-    def wait_for(self, name):
-        for _ in range(200):
-            if (self.room / name).exists() and (self.room / name).read_text():
-                return (self.room / name).read_text().strip()
+    def wait_until(self, holds):
+        """Waits for what comes soon, or late where the machine is busy."""
+        end = time.monotonic() + SECONDS
+        while not holds():
+            self.assertLess(time.monotonic(), end)
             time.sleep(0.05)
-        return self.fail(f"{name} didn't come")
+
+    def begun(self):
+        """The process of the proofs, once they have begun."""
+        path = self.room / "pid"
+        self.wait_until(lambda: path.exists() and path.read_text().endswith("\n"))
+        return int(path.read_text())
 
 
 class Words(Launcher):
@@ -134,7 +142,7 @@ class Builds(Launcher):
     def test_a_terminal_is_told_how_long_the_first_use_takes(self):
         ours, theirs = pty.openpty()
         tool = self.start("check", stderr=theirs)
-        tool.communicate(timeout=60)
+        tool.communicate(timeout=SECONDS)
         said = os.read(ours, 1 << 16).decode()
         os.close(ours)
         os.close(theirs)
@@ -161,20 +169,19 @@ class Builds(Launcher):
     def test_a_source_that_changes_during_a_build_is_proved_again(self):
         (self.room / "slow").write_text("x")
         tool = self.start("check")
-        self.wait_for("pid")
+        self.begun()
         (self.top / "crates/sigma_app/src/main.rt").write_text("fn main() { }\n")
         (self.room / "slow").unlink()
-        tool.communicate(timeout=60)
+        tool.communicate(timeout=SECONDS)
         self.ask("check")
         self.assertEqual(self.proofs(), 2)
 
     def test_two_launches_at_once_both_answer(self):
         (self.room / "slow").write_text("x")
         tools = [self.start("check", str(it)) for it in range(2)]
-        self.wait_for("pid")
-        time.sleep(0.3)
+        self.wait_until(lambda: self.proofs() == 2)
         (self.room / "slow").unlink()
-        outs = [it.communicate(timeout=60)[0] for it in tools]
+        outs = [it.communicate(timeout=SECONDS)[0] for it in tools]
         self.assertEqual(outs, ["proved: check 0\n", "proved: check 1\n"])
         self.assertEqual([it.returncode for it in tools], [7, 7])
         self.assertEqual(self.left(), [])
@@ -184,12 +191,11 @@ class Builds(Launcher):
             (self.room / "slow").write_text("x")
             (self.room / "pid").unlink(missing_ok=True)
             tool = self.start("check", start_new_session=True)
-            proofs = int(self.wait_for("pid"))
+            proofs = self.begun()
             tool.send_signal(number)
-            tool.communicate(timeout=60)
+            tool.communicate(timeout=SECONDS)
             self.assertEqual(tool.returncode, 130)
-            time.sleep(0.3)
-            self.assertFalse(Path(f"/proc/{proofs}").exists())
+            self.wait_until(lambda: not Path(f"/proc/{proofs}").exists())
             self.assertEqual(self.left(), [])
         (self.room / "slow").unlink()
         self.assertEqual(self.ask("check")[0], 7)
