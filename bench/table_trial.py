@@ -110,14 +110,12 @@ class Kept:
 def selected(query, events, schema):
     """The lines that a query selects in the table, the codes of those left out, and faults."""
     report = Kept()
-    table = Table(events, [query], schema, None, report)
-    faults = report.faults + table.faults(query)
     try:
+        table = Table(events, [query], schema, None, report)
+        faults = report.faults + table.faults(query)
         return ([] if faults else table.selected(query)), report.codes, faults
     except (sqlite3.Error, sqlite3.Warning, ValueError) as why:
-        return [], report.codes, [str(why)]
-    finally:
-        table.database.close()
+        return [], report.codes, [repr(why)]
 
 
 def called_script(folder, query, events, schema):

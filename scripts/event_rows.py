@@ -205,10 +205,21 @@ def events_of(lines, is_over, refuse):
         refuse(len(lines) + 1, Refused(31, f"the events have more than {MOST_BYTES} bytes"))
 
 
-def rows_of(events, fields, refuse):
-    """The number of each line, and the columns of its event."""
+def rows_of(events, fields, refuse, lacking=None):
+    """The number of each line, and the columns of its event. A line with a value that a field
+    doesn't take is left out; or where `lacking` is a dictionary it stays without the value, and
+    the names of such fields stand there under its number."""
     for number, event in events:
-        try:
-            yield [number, *(column_value(field, event) for field in fields)]
-        except Refused as why:
-            refuse(number, why)
+        row, names = [number], set()
+        for field in fields:
+            try:
+                row.append(column_value(field, event))
+            except Refused as why:
+                refuse(number, why)
+                names.add(field.name)
+                if lacking is None:
+                    break
+                row.append(None)
+                lacking[number] = names
+        if not names or lacking is not None:
+            yield row

@@ -19,9 +19,9 @@ there; what isn't a single value is left out of them.
 Values are read as `sigma run` reads them. A number in a TEXT column is its text, a text such as
 "5" in an INTEGER one a number, a truth value `true` or `false`, null no value, and of a field that
 is `many` the column has the first value. A line that `sigma run` refuses under the same schema is
-reported with its number and code, and left out. Without a schema that is so of what the columns
-of the queries don't take, in all of them together; that a field is one of addresses, and so takes
-no `10.evil`, only a schema says.
+reported with its number and code, and left out. Without a schema it is left out of the queries
+that name the column which doesn't take its value, or of all where the table is made in FILE; and
+that a field is one of addresses, so that it takes no `10.evil`, only a schema says.
 
 For queries with REGEXP there is a function `regexp` here. It searches by Python's `re`, with `$`
 for the end of the text alone, and `\\z` and `(?<name>` taken as the crate `regex` takes them. Else
@@ -183,8 +183,10 @@ class Table:
         self.database = sqlite3.connect(path or ":memory:")
         self.database.execute("PRAGMA case_sensitive_like = OFF")
         self.database.create_function("regexp", 2, is_found, deterministic=True)
+        # the names of columns that don't take what a line has; a file's table can't say that
+        self.lacking = None if schema or path else {}
         events = events_of(self.lines, is_over, report.refuse)
-        rows = rows_of(events, self.fields, report.refuse)
+        rows = rows_of(events, self.fields, report.refuse, self.lacking)
         self.number_of_row = filled(self.database, self.name, self.fields, rows)
 
     def faults(self, query):
@@ -198,8 +200,9 @@ class Table:
 
     def selected(self, query):
         """The numbers of the lines that a query selects, in order."""
-        found = self.database.execute(query.selecting(self.number_of_row))
-        return sorted(row[0] for row in found)
+        found = sorted(row[0] for row in self.database.execute(query.selecting(self.number_of_row)))
+        names, lacking = set(map(folded, names_in(query))), self.lacking or {}
+        return [line for line in found if names.isdisjoint(map(folded, lacking.get(line, ())))]
 
 
 def run_queries(table, queries, count, report):
