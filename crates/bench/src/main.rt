@@ -1,6 +1,6 @@
-//! Shows how long parts of the program take, with a clock around it. The first word is the part, `matching`, `sql`, `lucene`, `events` or
-//! `correlation`, or `agree`, which compares the engine of correlations with plain windows; what the words behind it are tells the part's
-//! module. The word `small` makes a small run of each; the words behind it are those of `events`.
+//! Shows how long parts of the program take, with a clock around it. The first word is the part, `matching`, `sql`, `lucene`, `events`,
+//! `correlation` or `load`, or `agree`, which compares the engine of correlations with plain windows; what the words behind it are tells the
+//! part's module. The word `small` makes a small run of each; the words behind it are those of `events`.
 #![tactic(auto)]
 
 use sig_base::{Fault, Source};
@@ -60,14 +60,16 @@ fn small<S: Source>(alloc: Global, words: &mut Args, source: &mut S) -> io::Resu
     let lucene = lucene::line(alloc, "(", 1001, 3)?;
     let events = events::told(alloc, words, source)?;
     let correlation = load::line(alloc, 1000, 3, 60)?;
+    let sliding = load::sliding(alloc)?;
     let agreement = agreement::line(alloc, 2000)?;
     Ok(format!(in alloc;
-        "{}\n{}\n{}\n{}\n{}\n{}",
+        "{}\n{}\n{}\n{}\n{}\n{}\n{}",
         matching.as_str(),
         sql.as_str(),
         lucene.as_str(),
         events.as_str(),
         correlation.as_str(),
+        sliding.as_str(),
         agreement.as_str()
     )?)
 }
@@ -83,6 +85,7 @@ fn told<S: Source>(alloc: Global, words: &mut Args, source: &mut S) -> io::Resul
         "lucene" => lucene::told(alloc, words),
         "events" => events::told(alloc, words, source),
         "correlation" => load::told(alloc, words),
+        "load" => load::told_by_shape(alloc, words),
         "agree" => agreement::told(alloc, words),
         _ => Err(unknown()),
     }
