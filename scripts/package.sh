@@ -8,7 +8,7 @@
 set -eu
 top=$(CDPATH='' cd -- "$(dirname -- "$0")/.." && pwd)
 to=$(CDPATH='' cd -- "${1:-.}" && pwd)
-scripts='diagnostics explain sarif split sqlite_table summary try_docs'
+scripts='diagnostics event_rows explain sarif split sql_tokens sqlite_table summary table_faults try_docs'
 
 fail() {
     echo "package.sh: $1" >&2

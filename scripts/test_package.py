@@ -19,7 +19,8 @@ case $1 in
         chmod +x out/sigma_app ;;
 esac
 """
-PAGES = {"README.md": "Pages.\n", "docs/FORMAT.md": "Formats.\n", "examples/cmd.yml": "title: T\n"}
+PAGES = {"README.md": "Pages.\n", "docs/FORMAT.md": "Formats.\n", "docs/LUCENE.md": "Lucene.\n"}
+PAGES["examples/cmd.yml"] = "title: T\n"
 SOURCES = {"crates.txt": "sigma_app:\n", "crates/sigma_app/src/main.rt": "fn main() {}\n"}
 CASES = "import sys\nprint(len(sys.argv) - 2, 'files of cases')\n"
 
@@ -35,8 +36,7 @@ class Package(unittest.TestCase):
         shutil.copy(TOP / "docs/CODES.md", self.top / "docs")
         for folder in ("completions", "scripts"):
             shutil.copytree(TOP / folder, self.top / folder)
-        for name in ("scripts/rows.py", "crates/rows"):
-            shutil.rmtree(self.top / name, ignore_errors=True)
+        (self.top / "scripts/rows.py").unlink(missing_ok=True)
         (self.room / "bin").mkdir()
         (self.room / "bin/rt").write_text(RT)
         (self.room / "bin/rt").chmod(0o755)
