@@ -1,2 +1,4 @@
 pub mod Checks
 pub mod Copies
+pub mod FieldLemmas
+pub mod Joining

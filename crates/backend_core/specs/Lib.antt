@@ -1,4 +1,6 @@
+pub mod FieldAt
 pub mod Holds
+pub mod Joins
 pub mod Lacks
 pub mod Means
 pub mod Schemas

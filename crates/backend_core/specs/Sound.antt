@@ -2,7 +2,7 @@
 -- U+0000, of single characters and of runs, and a field of whole numbers is compared with numbers and with fields of whole numbers
 -- alone, by a pattern only where it has a wildcard. A regular expression, of a field of any kind, is one that the grammar reads, of
 -- characters other than U+0000.
-use Rattle.std.specs.Prelude.{ℕ, zero, suc, ◌≡◌, ◌<◌, ◌↔◌, true, List, [], ◌∷◌, length, ⊤}
+use Rattle.std.specs.Prelude.{◌≡◌, ◌<◌, ◌↔◌, true, List, length, ⊤}
 use Rattle.event_schema.specs.declared.schema.Field.{Field}
 use Rattle.event_schema.specs.declared.schema.FieldKind.{FieldKind}
 use Rattle.event_schema.specs.declared.schema.FieldKind.TheVariants as kinds
@@ -10,6 +10,7 @@ use Rattle.event_schema.specs.Events.{IsPlainText, IsWholeNumber}
 use Rattle.query_lang.specs.Patterns.{is_pattern}
 use Rattle.sig_strings.specs.Edits.{all_written, has_wildcard, plain_text}
 use Rattle.sig_strings.specs.declared.part.Part.{Part}
+use Rattle.backend_core.specs.FieldAt.{kind_at}
 use Rattle.backend_core.specs.declared.tree.LeafTest.{LeafTest}
 use Rattle.backend_core.specs.declared.tree.LeafTest.TheVariants as tests
 use Rattle.backend_core.specs.Trees.{Plain, all, any, negated, leaf, never, Plains, no_parts, a_part}
@@ -17,12 +18,6 @@ use Rattle.backend_core.specs.Trees.{Plain, all, any, negated, leaf, never, Plai
 pub record IsSoundPattern (parts : List Part) : Type 0 where
   pub written : all_written parts ≡ true
   pub plain : IsPlainText (plain_text parts)
-
--- the kind of field k; behind the last field it's that of texts
-abbrev pub kind_at : List Field → ℕ → FieldKind
-kind_at [] k = kinds.Text
-kind_at (field ∷ fields) zero = field.kind
-kind_at (field ∷ fields) (suc k) = kind_at fields k
 
 -- of a field of this kind, and of others of these fields
 abbrev pub IsSoundTest : List Field → FieldKind → LeafTest → Type 0

@@ -1,9 +1,10 @@
 -- The items that are read word by word are those that the words give.
-use Rattle.std.proofs.Common.{◌≡◌, ◌∙◌, ◌⊎◌, inl, inr, ℕ, ◌==◌, Bool, true, false, not, ◌&&◌, ◌||◌, List, [], ◌∷◌, ◌++◌, map, Option, Some, None, cond, refl, sym, ap, subst}
+use Rattle.std.proofs.Common.{◌≡◌, ◌∙◌, ◌⊎◌, inl, inr, ℕ, ◌==◌, Bool, true, false, not, ◌&&◌, List, [], ◌∷◌, ◌++◌, map, Option, Some, None, cond, refl, sym, ap, subst}
 use Rattle.std.specs.Prelude.{is_some, ◌↔◌}
 use Rattle.std.specs.List.{list_all, AllByRecursion, list_any, before_first, after_first}
 use Rattle.std.specs.Str.{bytes_eq}
 use Rattle.std.proofs.lemmas.Slice.Eq.{bytes_eq-Decides}
+use Rattle.std.proofs.lemmas.Bool.{and_from}
 use Rattle.clap.proofs.CutLemmas.{Lacks, list_any-Lacks, list_any-at, before_first-at, after_first-at}
 use Rattle.command_line.specs.Given.{Word, Item, named, file, is_value, is_nonempty, dashed, joined, is_among, less, Reads, nothing, apart, together, placed, ended, value_of, names_of}
 use Rattle.command_line.specs.Clean.{behind_dashes}
@@ -147,16 +148,13 @@ given_read options takes _ _ names (ended words all) = rw all refl
 
 -- ---- with all that a command asks for
 
-both_true : (a b : Bool) → a ≡ true → b ≡ true → (a && b) ≡ true
-both_true a b e f = rw (e, f) refl
-
 pub computed : (row : Row) (words : List Word) (items : List Item) → AreNames (row.required ++ row.optional)
     → IsGiven row words items ↔ (given row words ≡ Some items)
 computed row words items names = (to, from) where
   to : IsGiven row words items → given row words ≡ Some items
   to g =
       ap (if_all row) (given_read (row.required ++ row.optional) (takes_names row.files) words items names g.reads)
-      ∙ ap (λ (b : Bool). cond b (Some items) None) (both_true (list_all (λ x. is_some (value_of x items)) row.required) (are_enough row.files (names_of items)) g.required g.enough)
+      ∙ ap (λ (b : Bool). cond b (Some items) None) (and_from (list_all (λ x. is_some (value_of x items)) row.required) (are_enough row.files (names_of items)) g.required g.enough)
 
   all : (found : Option (List Item)) → items_of (row.required ++ row.optional) (takes_names row.files) words ≡ found → if_all row found ≡ Some items → IsGiven row words items
   all None is e = absurd (none_some items e)

@@ -1,13 +1,13 @@
 -- Timespans: numbers by their digits from the left, and texts by their bytes.
-use Rattle.std.proofs.Common.{ℕ, ◌≡◌, ◌+◌, ◌*◌, ◌-◌, ◌≤◌, ◌<◌, Bool, true, false, ◌&&◌, List, [], ◌∷◌, ◌++◌, length, drop, get_or, refl, sym, ap, subst, ◌∙◌, arith, ◌⊎◌, inl, inr, nat_lt, nat_le}
-use Rattle.std.specs.Prelude.{min, if◌then◌else◌, Option, Some, None, unwrap_or, ℤ, pos, ◌==◌, encode_utf8_all, codes}
+use Rattle.std.proofs.Common.{ℕ, ◌≡◌, ◌+◌, ◌*◌, ◌-◌, ◌≤◌, ◌<◌, Bool, true, false, ◌&&◌, List, [], ◌∷◌, ◌++◌, refl, sym, ap, subst, ◌∙◌, arith, nat_lt, nat_le}
+use Rattle.std.specs.Prelude.{if◌then◌else◌, Option, Some, None, unwrap_or, ℤ, pos, ◌==◌, encode_utf8_all, codes}
 use Rattle.std.specs.List.{list_all}
 use Rattle.std.specs.Str.{chars, all_scalars}
 use Rattle.std.proofs.lemmas.Bool.{and_parts, and_from, leb-true, lt-ltb, eqb-true, false≢true}
-use Rattle.std.proofs.lemmas.List.{drop_more}
 use Rattle.std.proofs.lemmas.Str.{chars-encodes}
-use Rattle.sig_base.specs.Digits.{is_digit, is_positive}
+use Rattle.sig_base.specs.Digits.{is_digit, is_positive, digits_from}
 use Rattle.sig_base.specs.Texts.{is_ascii}
+use Rattle.sig_base.proofs.DigitLemmas.{digits_from-le}
 use Rattle.sig_base.proofs.TextLemmas.{ascii_encodes, ascii_chars}
 use Rattle.std.proofs.lemmas.Int.{ints}
 use Rattle.std.proofs.lemmas.Nat.{mul-le}
@@ -15,30 +15,7 @@ use Rattle.yaml_tree.specs.Tree.{Tree}
 use Rattle.yaml_tree.specs.Nodes.{value_in, entries_in, text_in}
 use Rattle.correlation_read.specs.Checks.{span_in, span_at}
 use Rattle.correlation_read.specs.Correlations.{IsSpan}
-use Rattle.correlation_read.specs.Timespans.{digits_from, count_of, seconds_of, seconds_in, front_of, last_of, nanoseconds, span_of}
-
-grows : (n : ℕ) (ds : List ℕ) → n ≤ digits_from n ds
-grows n [] = omega arith
-grows n (d ∷ ds) = let h = grows (n * 10 + (d - 48)) ds in omega (arith, h)
-
-less_or : (m n : ℕ) → (m ≤ n) ⊎ (n ≤ m)
-less_or m n = grind arith
-
--- a number that is cut off goes on as the number itself, up to where it's cut off
-capped : (n next : ℕ) (ds : List ℕ) → next ≡ min n 100000 → min (digits_from next ds) 100000 ≡ min (digits_from n ds) 100000
-capped n next ds is = by (less_or n 100000) where
-  by : (n ≤ 100000) ⊎ (100000 ≤ n) → min (digits_from next ds) 100000 ≡ min (digits_from n ds) 100000
-  by (inl small) = ap (λ (m : ℕ). min (digits_from m ds) 100000) (omega (arith, is, small))
-  by (inr large) =
-      let g = grows n ds in
-      let h = grows next ds in
-      omega (arith, g, h, is, large)
-
-pub goes_on : (v next i z : ℕ) (ds : List ℕ) → i < length ds → next ≡ min (v * 10 + (get_or ds i z - 48)) 100000
-    → min (digits_from v (drop i ds)) 100000 ≡ min (digits_from 0 ds) 100000 → min (digits_from next (drop (i + 1) ds)) 100000 ≡ min (digits_from 0 ds) 100000
-goes_on v next i z ds h is so_far =
-    capped (v * 10 + (get_or ds i z - 48)) next (drop (i + 1) ds) is
-    ∙ (sym (ap (λ (cs : List ℕ). min (digits_from v cs) 100000) (drop_more ds i z h)) ∙ so_far)
+use Rattle.correlation_read.specs.Timespans.{count_of, seconds_of, seconds_in, front_of, last_of, nanoseconds, span_of}
 
 -- ---- the last character
 
@@ -164,7 +141,7 @@ count_between (d ∷ ds) n h =
     let all = and_parts (nat_le 49 d && nat_le d 57) (list_all is_digit ds) p.0 in
     let first : 49 ≤ d = leb-true 49 d (and_parts (nat_le 49 d) (nat_le d 57) all.0).0 in
     let is : digits_from 0 (d ∷ ds) ≡ n = some_same _ n p.2 in
-    let more : 0 * 10 + (d - 48) ≤ digits_from 0 (d ∷ ds) = grows (0 * 10 + (d - 48)) ds in
+    let more : 10 * 0 + (d - 48) ≤ digits_from 0 (d ∷ ds) = digits_from-le (10 * 0 + (d - 48)) ds in
     let few : digits_from 0 (d ∷ ds) ≤ 99999 = leb-true _ 99999 p.1 in
     record { least = omega (arith, first, is, more); most = omega (arith, is, few) }
 

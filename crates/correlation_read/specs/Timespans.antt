@@ -1,12 +1,7 @@
 -- Timespans (Sigma correlations specification 2.0, timespan): a number and a unit. This profile takes five units, whose lengths
 -- are fixed, and canonical decimals from 1 to 99999.
-use Rattle.std.specs.Prelude.{ℕ, ◌+◌, ◌-◌, ◌*◌, ℤ, pos, Bool, false, ◌&&◌, ◌==◌, nat_le, if◌then◌else◌, List, [], ◌∷◌, Option, Some, None}
-use Rattle.sig_base.specs.Digits.{is_positive}
-
--- the number that digits make, behind those that make n
-abbrev pub digits_from : ℕ → List ℕ → ℕ
-digits_from n [] = n
-digits_from n (d ∷ ds) = digits_from (n * 10 + (d - 48)) ds
+use Rattle.std.specs.Prelude.{ℕ, ◌-◌, ◌*◌, ℤ, pos, ◌&&◌, ◌==◌, nat_le, if◌then◌else◌, List, [], ◌∷◌, Option, Some, None}
+use Rattle.sig_base.specs.Digits.{is_positive, digits_from}
 
 -- the number from 1 to 99999 that a canonical decimal is
 abbrev pub count_of : List ℕ → Option ℕ

@@ -1,6 +1,7 @@
 //! Timespans.
 
 ghost use Rattle.std.specs.Prelude.{◌≡◌, ◌+◌, ◌-◌, ◌*◌, ◌≤◌, min};
+ghost use Rattle.sig_base.specs.Digits.{digits_from};
 ghost use Rattle.correlation_read.specs.Timespans as spec;
 
 use sig_base::{Text, is_positive};
@@ -8,9 +9,9 @@ use sig_base::{Text, is_positive};
 /// One more digit behind a number, where 100,000 stands for all that is larger.
 fn grown(value: u32, digit: u8) -> u32
     requires { value ≤ 100000 }
-    ensures { result ≡ min (value * 10 + (digit - 48)) 100000 }
+    ensures { result ≡ min (10 * value + (digit - 48)) 100000 }
 {
-    let next = value * 10 + u32::from(digit.saturating_sub(b'0'));
+    let next = 10 * value + u32::from(digit.saturating_sub(b'0'));
     if next > 100_000 {
         return 100_000;
     }
@@ -19,7 +20,7 @@ fn grown(value: u32, digit: u8) -> u32
 
 /// The number of these digits, where 100,000 stands for all that is larger.
 fn number_of(digits: &[u8]) -> u32
-    ensures { result ≡ min (spec.digits_from 0 digits.now) 100000 }
+    ensures { result ≡ min (digits_from 0 digits.now) 100000 }
 {
     let mut value: u32 = 0;
     for digit in digits {

@@ -4,16 +4,11 @@ use Rattle.std.specs.Prelude.{⊤, nat_le}
 use Rattle.std.specs.Char.{encode_utf8, is_digit, digit_value}
 use Rattle.std.proofs.Math.Seq.{take-append_seam, drop-append-add, get_or-append_seam}
 use Rattle.std.proofs.Math.Utf8.{scalar, low_scalar}
-use Rattle.std.proofs.lemmas.Bool.{eqb-true, ltb-true, leb-true, lt-ltb, le-leb}
+use Rattle.std.proofs.lemmas.Bool.{eqb-true, ltb-true, leb-true, lt-ltb, le-leb, and_parts}
 use Rattle.std.proofs.lemmas.Bool.Decides.{nat_tests}
 use Rattle.std.proofs.lemmas.List.{length-append}
 use Rattle.std.proofs.lemmas.Str.{IsUtf8-append, IsUtf8-take, IsUtf8-drop, IsUtf8-encode, encode_ascii, IsCharBoundary-before_ascii, IsCharBoundary-after_ascii}
 use Rattle.json.specs.Text.{code_unit, short_escape, is_high_surrogate, is_low_surrogate, surrogate_pair, Within, plain, after_backslash, after_u, after_high, prepend, content}
-
-both_true : (a b : Bool) → (a && b) ≡ true → (a ≡ true) × (b ≡ true)
-both_true true true h = (refl, refl)
-both_true true false h = absurd cc
-both_true false b h = absurd cc
 
 -- ---- a text is divided at an ASCII byte
 
@@ -51,10 +46,10 @@ unit_scalar u small high low = by (nat_lt u 0xD800) refl (nat_le 0xE000 u) refl 
   by false is false too = grind (arith, nat_tests, is, too, high, low)
 
 high_bounds : (u : ℕ) → is_high_surrogate u ≡ true → (0xD800 ≤ u) × (u < 0xDC00)
-high_bounds u h = let p = both_true (nat_le 0xD800 u) (nat_lt u 0xDC00) h in (leb-true 0xD800 u p.0, ltb-true u 0xDC00 p.1)
+high_bounds u h = let p = and_parts (nat_le 0xD800 u) (nat_lt u 0xDC00) h in (leb-true 0xD800 u p.0, ltb-true u 0xDC00 p.1)
 
 low_bounds : (u : ℕ) → is_low_surrogate u ≡ true → (0xDC00 ≤ u) × (u < 0xE000)
-low_bounds u h = let p = both_true (nat_le 0xDC00 u) (nat_lt u 0xE000) h in (leb-true 0xDC00 u p.0, ltb-true u 0xE000 p.1)
+low_bounds u h = let p = and_parts (nat_le 0xDC00 u) (nat_lt u 0xE000) h in (leb-true 0xDC00 u p.0, ltb-true u 0xE000 p.1)
 
 pair_scalar : (h l : ℕ) → is_high_surrogate h ≡ true → is_low_surrogate l ≡ true → scalar (surrogate_pair h l) ≡ true
 pair_scalar h l high low =
@@ -92,9 +87,9 @@ spells a b c d = by (is_digit a 16 && is_digit b 16 && is_digit c 16 && is_digit
       → Spells a b c d (cond t (Some (digit_value a * 4096 + digit_value b * 256 + digit_value c * 16 + digit_value d)) None)
   by false e = tt
   by true e =
-      let p = both_true (is_digit a 16 && is_digit b 16 && is_digit c 16) (is_digit d 16) e in
-      let q = both_true (is_digit a 16 && is_digit b 16) (is_digit c 16) p.0 in
-      let r = both_true (is_digit a 16) (is_digit b 16) q.0 in
+      let p = and_parts (is_digit a 16 && is_digit b 16 && is_digit c 16) (is_digit d 16) e in
+      let q = and_parts (is_digit a 16 && is_digit b 16) (is_digit c 16) p.0 in
+      let r = and_parts (is_digit a 16) (is_digit b 16) q.0 in
       let first = ltb-true (digit_value a) 16 r.0 in
       let second = ltb-true (digit_value b) 16 r.1 in
       let third = ltb-true (digit_value c) 16 q.1 in
@@ -205,7 +200,7 @@ low_bytes h done left s t a b c d high first utf8 more = by ((s == 92) && (t == 
       → Ends done (cond u (option_and_then (λ l. cond (is_low_surrogate l) (prepend (encode_utf8 (surrogate_pair h l)) (content plain left)) None) o) None)
   by true e None k = tt
   by true e (Some l) k =
-      let p = both_true (s == 92) (t == 117) e in
+      let p = and_parts (s == 92) (t == 117) e in
       let rest = behind_ascii (a ∷ b ∷ c ∷ d ∷ left) t (equal_small t 117 (omega arith) p.1) (behind_ascii (t ∷ a ∷ b ∷ c ∷ d ∷ left) s (equal_small s 92 (omega arith) p.0) utf8) in
       of l (behind_four a b c d left k.0 k.1 k.2 k.3 rest) (is_low_surrogate l) refl
   by false e o k = tt

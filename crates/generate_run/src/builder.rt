@@ -1,6 +1,6 @@
 //! A builder for queries without regular expressions.
 
-ghost use Rattle.std.specs.Prelude.{[]};
+ghost use Rattle.std.specs.Prelude.{⊤, []};
 
 use query_lang::{BuildFault, Builder};
 use regex::Regex;
@@ -13,6 +13,8 @@ pub struct NoList;
 
 impl Builder for NoList {
     ghost refused = { λ builder. [] };
+
+    ghost has_built = { λ builder text. ⊤ };
 
     fn build(&mut self, alloc: Global, pattern: &str) -> Result<Regex, BuildFault> {
         match Regex::new(alloc, pattern) {

@@ -1,59 +1,21 @@
 -- Terms and phrases by their front.
-use Rattle.std.proofs.Common.{ℕ, ◌≡◌, refl, sym, ap, Bool, true, false, List, [], ◌∷◌, ◌++◌, subst, ◌⊎◌, inl, inr, ◌<◌, length, arith}
-use Rattle.std.specs.Prelude.{◌==◌, ◌||◌, ◌&&◌, ◌↔◌, map, IsTrue}
+use Rattle.std.proofs.Common.{ℕ, ◌≡◌, refl, sym, Bool, true, false, List, [], ◌∷◌, subst, ◌<◌, length, arith}
+use Rattle.std.specs.Prelude.{◌==◌, ◌↔◌, map, IsTrue}
 use Rattle.std.specs.Str.{bytes_eq}
+use Rattle.std.proofs.lemmas.Bool.{and_parts}
+use Rattle.matching.proofs.SuffixLemmas.{SuffixHolds-tests, CharThen-tests}
 use Rattle.matching.specs.Suffixes.{SuffixHolds, CharThen}
 use Rattle.matching.specs.Steps.{folds_to}
 use Rattle.lucene_lang.specs.declared.query.Glyph.{Glyph}
 use Rattle.lucene_lang.specs.declared.query.Glyph.TheVariants.{Char, One, Run}
 use Rattle.lucene_lang.specs.Meaning.{kept_char, kept, kept_glyphs, term_fits, some_end, behind_one, is_nothing}
 
-and_true : (a b : Bool) → (a && b) ≡ true → (a ≡ true) × (b ≡ true)
-and_true true true h = (refl, refl)
-and_true true false h = absurd cc
-and_true false b h = absurd cc
-
-or_true : (a b : Bool) → (a || b) ≡ true → (a ≡ true) ⊎ (b ≡ true)
-or_true true b h = inl refl
-or_true false true h = inr refl
-or_true false false h = absurd cc
-
-true_left : (a b : Bool) → a ≡ true → (a || b) ≡ true
-true_left a b h = rw h refl
-
-true_right : (a b : Bool) → b ≡ true → (a || b) ≡ true
-true_right true b h = refl
-true_right false b h = h
-
 module _ (m : ℕ → ℕ) (fits : List ℕ → Bool) (holds : List ℕ → Type 0) (agrees : (rest : List ℕ) → (fits (map m rest) ≡ true) ↔ holds rest) where
-  run_found : (before suffix : List ℕ) → holds suffix → some_end fits (map m (before ++ suffix)) ≡ true
-  run_found [] [] h = (agrees []).1 h
-  run_found [] (c ∷ cs) h = true_left (fits (map m (c ∷ cs))) (some_end fits (map m cs)) ((agrees (c ∷ cs)).1 h)
-  run_found (c ∷ before) suffix h = true_right (fits (map m (c ∷ (before ++ suffix)))) (some_end fits (map m (before ++ suffix))) (run_found before suffix h)
-
-  run_is : (text : List ℕ) → some_end fits (map m text) ≡ true → SuffixHolds holds text
-  run_is [] h = record { before = []; suffix = []; shape = refl; holds_there = (agrees []).0 h }
-  run_is (c ∷ cs) h = by (or_true (fits (map m (c ∷ cs))) (some_end fits (map m cs)) h) (λ g. run_is cs g) where
-    by : (fits (map m (c ∷ cs)) ≡ true) ⊎ (some_end fits (map m cs) ≡ true) → (some_end fits (map m cs) ≡ true → SuffixHolds holds cs) → SuffixHolds holds (c ∷ cs)
-    by (inl here) more = record { before = []; suffix = c ∷ cs; shape = refl; holds_there = (agrees (c ∷ cs)).0 here }
-    by (inr later) more =
-        let s = more later in
-        record { before = c ∷ s.before; suffix = s.suffix; shape = ap (λ (ds : List ℕ). c ∷ ds) s.shape; holds_there = s.holds_there }
-
   run_agrees : (text : List ℕ) → (some_end fits (map m text) ≡ true) ↔ SuffixHolds holds text
-  run_agrees text = (run_is text, λ s. subst (λ (t : List ℕ). some_end fits (map m t) ≡ true) (sym s.shape) (run_found s.before s.suffix s.holds_there))
+  run_agrees text = SuffixHolds-tests (λ t. fits (map m t)) holds agrees (λ t. some_end fits (map m t)) refl (λ c cs. refl) text
 
-  -- a single character
   one_agrees : (is_so : ℕ → Bool) (text : List ℕ) → (behind_one is_so fits (map m text) ≡ true) ↔ CharThen (λ d. is_so (m d)) holds text
-  one_agrees is_so [] = (λ h. absurd cc, λ s. absurd (no_first s)) where
-    no_first : CharThen (λ d. is_so (m d)) holds [] → ⊥
-    no_first s = let e = s.shape in absurd cc
-  one_agrees is_so (c ∷ cs) = (
-    λ h. (let each = and_true (is_so (m c)) (fits (map m cs)) h in
-        record { first = c; rest = cs; shape = refl; passed = each.0; holds_then = (agrees cs).0 each.1 }),
-    λ s. (let passed = s.passed in let behind = (agrees s.rest).1 s.holds_then in
-        subst (λ (t : List ℕ). behind_one is_so fits (map m t) ≡ true) (sym s.shape) (rw (passed, behind) refl)),
-  )
+  one_agrees is_so text = CharThen-tests (λ t. fits (map m t)) holds agrees (λ d. is_so (m d)) (λ t. behind_one is_so fits (map m t)) refl (λ c cs. refl) text
 
 nothing_is : (m : ℕ → ℕ) (text : List ℕ) → (is_nothing (map m text) ≡ true) ↔ (text ≡ [])
 nothing_is m [] = (λ h. refl, λ h. refl)
@@ -96,7 +58,7 @@ phrase_char cased c rest cs is [] = rw is (λ h. absurd cc, λ s. absurd (no_fir
   no_first : CharThen (λ d. kept_char cased c == kept_char cased d) (Same cased rest) [] → ⊥
   no_first s = let e = s.shape in absurd cc
 phrase_char cased c rest cs is (d ∷ ds) = rw is (
-  λ h. (let each = and_true (kept_char cased c == kept_char cased d) (bytes_eq (kept cased rest) (kept cased ds)) h in
+  λ h. (let each = and_parts (kept_char cased c == kept_char cased d) (bytes_eq (kept cased rest) (kept cased ds)) h in
       record { first = d; rest = ds; shape = refl; passed = each.0; holds_then = each.1 }),
   λ s. back s.first s.rest s.shape s.passed s.holds_then,
 ) where

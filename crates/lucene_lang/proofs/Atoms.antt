@@ -3,6 +3,7 @@ use Rattle.std.proofs.Common.{ℕ, ◌≡◌, refl, Bool, true, false, List, [],
 use Rattle.std.specs.Prelude.{◌↔◌, Option, ℤ}
 use Rattle.std.specs.List.{list_any}
 use Rattle.std.proofs.lemmas.Slice.Eq.{bytes_eq-Decides}
+use Rattle.std.proofs.lemmas.Bool.{and_parts}
 use Rattle.event_schema.specs.Lists.{SomeOf, HasElement}
 use Rattle.event_schema.specs.Rows.{field_values, value_text}
 use Rattle.event_schema.specs.declared.value.Value.{Value}
@@ -11,7 +12,6 @@ use Rattle.lucene_lang.specs.declared.query.Glyph.{Glyph}
 use Rattle.lucene_lang.specs.declared.query.Glyph.TheVariants.{Run}
 use Rattle.lucene_lang.specs.Query.{Term, Phrase, Range, OfField}
 use Rattle.lucene_lang.specs.Meaning.{atom_holds, kept, kept_glyphs, term_fits, some_end, is_above, is_below, value_meets}
-use Rattle.lucene_lang.proofs.Both.{both_true}
 
 -- some value passes a test, exactly where one is what the test says
 module _ (p : Value → Bool) (P : Value → Type 0) (says : (v : Value) → (p v ≡ true) ↔ P v) where
@@ -69,6 +69,6 @@ range_is row k cased low low_in high high_in =
           ↔ ((n : ℤ) × (v ≡ values.Whole n) × (is_above low low_in n ≡ true) × (is_below high high_in n ≡ true))
       meets (values.Text t) = (λ h. absurd cc, λ h. let e = h.1 in absurd cc)
       meets (values.Whole n) = (
-        λ h. let each = both_true (is_above low low_in n) (is_below high high_in n) h in (n, refl, each.0, each.1),
+        λ h. let each = and_parts (is_above low low_in n) (is_below high high_in n) h in (n, refl, each.0, each.1),
         λ h. let e : n ≡ h.0 = let same = h.1 in cc in let above = h.2 in let below = h.3 in rw (e, above, below) refl,
       )

@@ -1,6 +1,5 @@
 pub mod Complete
 mod Read
-mod Both
 pub mod Runs
 mod Atoms
 mod Selected

@@ -1,12 +1,12 @@
 -- Which events a group selects, clause by clause.
 use Rattle.std.proofs.Common.{◌≡◌, refl, Bool, true, false, List, [], ◌||◌, ◌&&◌, inl, inr}
 use Rattle.std.specs.Prelude.{◌↔◌, ⊤, not}
+use Rattle.std.proofs.lemmas.Bool.{and_parts}
 use Rattle.event_schema.specs.declared.value.Value.{Value}
 use Rattle.lucene_lang.specs.declared.query.Word.TheVariants.{And, Or}
 use Rattle.lucene_lang.specs.Query.{a_group, Clauses, no_clauses, a_clause, Atom}
 use Rattle.lucene_lang.specs.Meaning.{lists, is_none, all_hold, one_holds, atom_holds, LuceneSelects}
 use Rattle.lucene_lang.specs.Selection.{EachClause, SomeClause}
-use Rattle.lucene_lang.proofs.Both.{both_true}
 
 module _ (row : List (List Value)) where
   abbrev Holds : Atom → Type 0
@@ -51,7 +51,7 @@ module _ (row : List (List Value)) where
   each_and no_clauses h = tt
   each_and (a_clause true a cs) h = (λ e. absurd cc, each_and cs h)
   each_and (a_clause false a cs) h =
-      let both = both_true (atom_holds row a) (all_hold (lists row And cs).required) h in (λ e. both.0, each_and cs both.1)
+      let both = and_parts (atom_holds row a) (all_hold (lists row And cs).required) h in (λ e. both.0, each_and cs both.1)
 
   and_each : (cs : Clauses) → EachClause false Holds cs → all_hold (lists row And cs).required ≡ true
   and_each no_clauses each = refl
@@ -102,16 +102,16 @@ module _ (row : List (List Value)) where
 
   -- ---- both
 
-  and_parts : (p r n o : Bool) → ((not p && r) && (not n || o)) ≡ true → o ≡ false → (p ≡ false) × (r ≡ true) × (n ≡ false)
-  and_parts false true false o h none = (refl, refl, refl)
-  and_parts false true true o h none = absurd cc
-  and_parts false false n o h none = absurd cc
-  and_parts true r n o h none = absurd cc
+  three_parts : (p r n o : Bool) → ((not p && r) && (not n || o)) ≡ true → o ≡ false → (p ≡ false) × (r ≡ true) × (n ≡ false)
+  three_parts false true false o h none = (refl, refl, refl)
+  three_parts false true true o h none = absurd cc
+  three_parts false false n o h none = absurd cc
+  three_parts true r n o h none = absurd cc
 
   pub and_is : (cs : Clauses) → (LuceneSelects (a_group And cs) row) ↔ (EachClause true Fails cs × EachClause false Holds cs × SomeClause false (λ a. ⊤) cs)
   and_is cs = (
     λ h.
-        let parts = and_parts (one_holds (lists row And cs).prohibited) (all_hold (lists row And cs).required) (is_none (lists row And cs).required)
+        let parts = three_parts (one_holds (lists row And cs).prohibited) (all_hold (lists row And cs).required) (is_none (lists row And cs).required)
         (one_holds (lists row And cs).optional) h (and_optional cs) in
         (none_and cs parts.0, each_and cs parts.1, some_and cs parts.2),
     λ h. let p = and_none cs h.0 in let r = and_each cs h.1 in let n = and_some cs h.2 in rw (p, r, n) refl,

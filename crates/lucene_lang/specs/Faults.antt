@@ -1,7 +1,7 @@
 -- What is left out of the language, and what is wrong with a query's words, names and kinds, in the order of the text.
 use Rattle.std.specs.Prelude.{ℕ, zero, suc, ◌^◌, Bool, true, false, not, ◌&&◌, ◌||◌, ◌==◌, nat_lt, List, [], ◌∷◌, ◌++◌, length, drop, Option, Some, None}
 use Rattle.std.specs.List.{list_any}
-use Rattle.sig_base.specs.Digits.{unsigned}
+use Rattle.sig_base.specs.Digits.{unsigned, digits_from}
 use Rattle.event_schema.specs.declared.schema.Field.{Field}
 use Rattle.event_schema.specs.declared.schema.FieldKind.{FieldKind}
 use Rattle.event_schema.specs.declared.schema.FieldKind.TheVariants as kinds
@@ -13,7 +13,7 @@ use Rattle.lucene_lang.specs.declared.written.Written.{Written}
 use Rattle.lucene_lang.specs.declared.written.Written.TheVariants.{Bare, Escaped}
 use Rattle.lucene_lang.specs.Tokens.{Sort, Wild, Decimal, Plain, Phrase, Opens, Closes, is_decimal}
 use Rattle.lucene_lang.specs.Grammar.{star, wild, exact, End, unbounded, bound, Value, a_term, a_phrase, a_range, Group, last, joined, Clause, asked, forbidden, Leaf, everything, sought, Atom, a_leaf, enclosed, spell_clause}
-use Rattle.lucene_lang.specs.Query.{digits_from, name_text, FieldName, found_in}
+use Rattle.lucene_lang.specs.Query.{name_text, FieldName, found_in}
 
 -- ---- what is left out of the language
 

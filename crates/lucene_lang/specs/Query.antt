@@ -1,6 +1,7 @@
 -- The query that a spelling is: fields by their numbers, one word for each group.
-use Rattle.std.specs.Prelude.{ℕ, zero, suc, ◌+◌, ◌-◌, ◌*◌, Bool, true, false, ◌==◌, if◌then◌else◌, List, [], ◌∷◌, ◌++◌, map, codes, Option, Some, None, ℤ, pos, negsuc}
+use Rattle.std.specs.Prelude.{ℕ, zero, suc, ◌-◌, ◌*◌, Bool, true, false, ◌==◌, if◌then◌else◌, List, [], ◌∷◌, map, codes, Option, Some, None, ℤ, pos, negsuc}
 use Rattle.std.specs.Str.{bytes_eq}
+use Rattle.sig_base.specs.Digits.{digits_from}
 use Rattle.event_schema.specs.Schemas.{twin}
 use Rattle.event_schema.specs.declared.schema.Field.{Field}
 use Rattle.lucene_lang.specs.declared.query.Glyph.{Glyph}
@@ -55,11 +56,6 @@ term_glyphs (wild w) = glyphs w
 term_glyphs (exact n) = map (λ c. Char c) (name_text n)
 
 -- ---- numbers
-
--- the number that these digits write behind n
-abbrev pub digits_from : ℕ → List ℕ → ℕ
-digits_from n [] = n
-digits_from n (c ∷ cs) = digits_from (10 * n + (c - 48)) cs
 
 abbrev pub negative : ℕ → ℤ
 negative zero = pos 0

@@ -6,6 +6,7 @@ use Rattle.std.specs.Str.{all_scalars, bytes_eq}
 use Rattle.std.proofs.Math.Utf8.{scalar}
 use Rattle.std.proofs.lemmas.Bool.Decides.{nat_tests}
 use Rattle.std.proofs.lemmas.Slice.Eq.{bytes_eq-Decides}
+use Rattle.std.proofs.lemmas.Bool.{and_parts, or_cases, cases_Bool}
 use Rattle.sig_base.specs.Digits.{is_digit}
 use Rattle.query_tokens.specs.Places.{origin}
 use Rattle.query_tokens.specs.Tokens.{sorts}
@@ -20,7 +21,7 @@ use Rattle.lucene_lang.specs.Query.{glyph, glyphs, name_text, term_glyphs}
 use Rattle.lucene_lang.specs.Faults.{is_left_out, is_plus_or_minus, begins_signed, begins_minus, is_outside}
 use Rattle.lucene_layout.specs.Escaped.{is_word_text, word_escaped, is_special, char_written, glyph_written, is_word, escape_first, no_word, pattern_written, as_char, name_written, term_as, name_as, term_for, name_for, characters}
 use Rattle.lucene_layout.specs.Layout.{written, token_text, in_run, is_empty, IsRunOf, HasText, text_leaf}
-use Rattle.lucene_layout.proofs.Scanned.{scans_token, at_end, both_true, by_test, as_bare, written_bare, one_true, DecimalIs, decimal_is, may_begin}
+use Rattle.lucene_layout.proofs.Scanned.{scans_token, at_end, as_bare, written_bare, DecimalIs, decimal_is, may_begin}
 
 -- ---- what a run's sort says of the run
 
@@ -174,7 +175,7 @@ digit_wild c h = grind (arith, nat_tests)
 digits_wild : (cs : List ℕ) → list_all is_digit cs ≡ true → list_any is_wildcard (map as_bare cs) ≡ false
 digits_wild [] all = refl
 digits_wild (c ∷ cs) all =
-    let each = both_true (is_digit c) (list_all is_digit cs) all in
+    let each = and_parts (is_digit c) (list_all is_digit cs) all in
     let here = digit_wild c each.0 in
     rw here (digits_wild cs each.1)
 
@@ -287,7 +288,7 @@ record PatternIs (gs : List Glyph) (w : List Written) : Type 0 where
 glyph_scalar : (g : Glyph) (gs : List Glyph) → all_scalars (characters (g ∷ gs)) ≡ true
     → (scalar (character (glyph_written g)) ≡ true) × (all_scalars (characters gs) ≡ true)
 glyph_scalar (Char c) gs h =
-    let each = both_true (scalar c) (all_scalars (characters gs)) h in
+    let each = and_parts (scalar c) (all_scalars (characters gs)) h in
     (ap scalar (char_is c).character ∙ each.0, each.1)
 glyph_scalar One gs h = (refl, h)
 glyph_scalar Run gs h = (refl, h)
@@ -415,7 +416,7 @@ no_backslash cs = list_all (λ c. not (c == 92)) cs
 
 bare_again : (w : List Written) → no_backslash (written w) ≡ true → w ≡ map as_bare (written w)
 bare_again [] h = refl
-bare_again (Bare c ∷ w) h = ap (λ (v : List Written). Bare c ∷ v) (bare_again w (both_true (not (c == 92)) (no_backslash (written w)) h).1)
+bare_again (Bare c ∷ w) h = ap (λ (v : List Written). Bare c ∷ v) (bare_again w (and_parts (not (c == 92)) (no_backslash (written w)) h).1)
 bare_again (Escaped c ∷ w) h = absurd cc
 
 from_text : (w : List Written) (cs : List ℕ) → bytes_eq (written w) cs ≡ true → no_backslash cs ≡ true → w ≡ map as_bare cs
@@ -430,9 +431,9 @@ data WordIs (w : List Written) : Type 0 where
   not_is : w ≡ map as_bare (codes "NOT") → WordIs w
 
 word_is : (w : List Written) → is_word_text (written w) ≡ true → WordIs w
-word_is w h = elim (one_true (bytes_eq (written w) (codes "AND")) _ h) [
+word_is w h = elim (or_cases (bytes_eq (written w) (codes "AND")) _ h) [
   | inl first ↦ and_is (from_text w (codes "AND") first refl)
-  | inr more ↦ elim (one_true (bytes_eq (written w) (codes "OR")) (bytes_eq (written w) (codes "NOT")) more) [
+  | inr more ↦ elim (or_cases (bytes_eq (written w) (codes "OR")) (bytes_eq (written w) (codes "NOT")) more) [
     | inl second ↦ or_is (from_text w (codes "OR") second refl)
     | inr third ↦ not_is (from_text w (codes "NOT") third refl)
   ]
@@ -458,7 +459,7 @@ text_of_word w _ (is_wild e) h = absurd cc
 text_of_word w _ (is_plain e) h = absurd cc
 
 run_text : (w : List Written) → RunText w
-run_text w = elim (by_test (is_word_text (written w))) [ inl yes' ↦ word_text w (word_is w yes') | inr no' ↦ kept (is_word (run_sort w)) refl no' ] where
+run_text w = elim (cases_Bool (is_word_text (written w))) [ inl yes' ↦ word_text w (word_is w yes') | inr no' ↦ kept (is_word (run_sort w)) refl no' ] where
   kept : (b : Bool) → is_word (run_sort w) ≡ b → is_word_text (written w) ≡ false → written (if b then escape_first w else w) ≡ word_escaped (written w)
   kept true is none = let both : true ≡ false = sym (text_of_word w (run_sort w) (sort_is w) is) ∙ none in absurd cc
   kept false is none = rw none refl

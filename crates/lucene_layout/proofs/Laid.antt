@@ -5,6 +5,7 @@ use Rattle.std.specs.List.{list_all}
 use Rattle.std.specs.Str.{all_scalars}
 use Rattle.std.proofs.Math.Utf8.{scalar}
 use Rattle.std.proofs.lemmas.Bool.Decides.{nat_tests}
+use Rattle.std.proofs.lemmas.Bool.{and_parts, or_parts}
 use Rattle.sig_base.specs.Digits.{is_digit}
 use Rattle.event_schema.specs.declared.schema.Field.{Field}
 use Rattle.event_schema.specs.declared.schema.Schema.{Schema}
@@ -21,7 +22,7 @@ use Rattle.lucene_lang.specs.Faults.{is_outside, ranged_behind, differs, first_w
 use Rattle.lucene_lang.specs.Reading.{LuceneReads, ReadsWithin, first_outside, opens_too_far}
 use Rattle.lucene_layout.specs.Layout.{written, token_text, HasText, EachHasText, text_value, text_leaf, text_group, text_clause, text_atom}
 use Rattle.lucene_layout.specs.Trees.{Tree, leaf, all, any, negated, Trees, no_trees, a_tree, Form, form_of_group, form_of_not, all_forbidden, with_everything, behind_everything, form, some_of, each_of, layout, layout_text, group_depth, clause_depth, atom_depth, colons, group_clauses, clause_clauses, atom_clauses, has_outside, IsSound, EachLeaf, EachOfTrees}
-use Rattle.lucene_layout.proofs.Scanned.{both_true, DecimalIs, decimal_is, may_begin, group_scanned}
+use Rattle.lucene_layout.proofs.Scanned.{DecimalIs, decimal_is, may_begin, group_scanned}
 
 -- ---- groups of sound leaves, each with one word
 
@@ -107,11 +108,6 @@ module _ (fields : List Field) where
   inside_joined : (ss us : List Sort) → Inside ss → Inside us → Inside (ss ++ us)
   inside_joined ss us a b ts = ap (λ (vs : List Sort). has_outside false vs) (append_assoc ss us ts) ∙ (a (us ++ ts) ∙ b ts)
 
-  no_true : (a b : Bool) → (a || b) ≡ false → (a ≡ false) × (b ≡ false)
-  no_true false false h = (refl, refl)
-  no_true false true h = absurd cc
-  no_true true b h = absurd cc
-
   -- the leaf's tokens end outside brackets
   name_inside : (n : Name) (ts : List Sort) → is_outside false (spell_name n) ≡ false → has_outside false (spell_name n ∷ Colon ∷ ts) ≡ has_outside false ts
   unfolding has_outside
@@ -122,17 +118,17 @@ module _ (fields : List Field) where
   name_apart : (n : Name) (ts : List Sort) → has_outside false (spell_name n ∷ Colon ∷ ts) ≡ false → (is_outside false (spell_name n) ≡ false) × (has_outside false ts ≡ false)
   unfolding has_outside
   name_apart to ts h = (refl, h)
-  name_apart (decimal w) ts h = no_true _ _ h
-  name_apart (plain w) ts h = no_true _ _ h
+  name_apart (decimal w) ts h = or_parts _ _ h
+  name_apart (plain w) ts h = or_parts _ _ h
 
   value_inside : (v : Value) → has_outside false (spell_value v) ≡ false → Inside (spell_value v)
   unfolding has_outside
   value_inside (a_term star) h ts = refl
-  value_inside (a_term (wild w)) h ts = let a = (no_true (is_outside false (Wild w)) false h).0 in rw a refl
+  value_inside (a_term (wild w)) h ts = let a = (or_parts (is_outside false (Wild w)) false h).0 in rw a refl
   value_inside (a_term (exact to)) h ts = refl
-  value_inside (a_term (exact (decimal w))) h ts = let a = (no_true (is_outside false (Decimal w)) false h).0 in rw a refl
-  value_inside (a_term (exact (plain w))) h ts = let a = (no_true (is_outside false (Plain w)) false h).0 in rw a refl
-  value_inside (a_phrase w) h ts = let a = (no_true (is_outside false (Phrase w)) false h).0 in rw a refl
+  value_inside (a_term (exact (decimal w))) h ts = let a = (or_parts (is_outside false (Decimal w)) false h).0 in rw a refl
+  value_inside (a_term (exact (plain w))) h ts = let a = (or_parts (is_outside false (Plain w)) false h).0 in rw a refl
+  value_inside (a_phrase w) h ts = let a = (or_parts (is_outside false (Phrase w)) false h).0 in rw a refl
   value_inside (a_range b unbounded unbounded c) h ts = refl
   value_inside (a_range b unbounded (bound w) c) h ts = refl
   value_inside (a_range b (bound v) unbounded c) h ts = refl
@@ -395,7 +391,7 @@ mutual
 scalars_joined : (a b : List ℕ) → all_scalars a ≡ true → all_scalars b ≡ true → all_scalars (a ++ b) ≡ true
 scalars_joined [] b first second = second
 scalars_joined (c ∷ a) b first second =
-    let each = both_true (scalar c) (all_scalars a) first in
+    let each = and_parts (scalar c) (all_scalars a) first in
     let more = scalars_joined a b each.1 second in
     let here = each.0 in
     rw here more
@@ -403,11 +399,11 @@ scalars_joined (c ∷ a) b first second =
 written_scalars : (w : List Written) → all_scalars (map character w) ≡ true → all_scalars (written w) ≡ true
 written_scalars [] h = refl
 written_scalars (Bare c ∷ w) h =
-    let each = both_true (scalar c) (all_scalars (map character w)) h in
+    let each = and_parts (scalar c) (all_scalars (map character w)) h in
     let here = each.0 in
     rw here (written_scalars w each.1)
 written_scalars (Escaped c ∷ w) h =
-    let each = both_true (scalar c) (all_scalars (map character w)) h in
+    let each = and_parts (scalar c) (all_scalars (map character w)) h in
     let here = each.0 in
     rw here (written_scalars w each.1)
 
@@ -417,7 +413,7 @@ digit_scalar c h = grind (arith, nat_tests)
 digits_scalars : (cs : List ℕ) → list_all is_digit cs ≡ true → all_scalars cs ≡ true
 digits_scalars [] h = refl
 digits_scalars (c ∷ cs) h =
-    let each = both_true (is_digit c) (list_all is_digit cs) h in
+    let each = and_parts (is_digit c) (list_all is_digit cs) h in
     let here = digit_scalar c each.0 in
     rw here (digits_scalars cs each.1)
 

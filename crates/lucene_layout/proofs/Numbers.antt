@@ -8,15 +8,15 @@ use Rattle.std.proofs.lemmas.List.Folds.{list_all-append}
 use Rattle.std.proofs.lemmas.Bool.Decides.{nat_tests}
 use Rattle.std.proofs.lemmas.Int.{ints}
 use Rattle.std.proofs.lemmas.Fmt.{decimal_by_steps}
-use Rattle.sig_base.specs.Digits.{is_digit, is_positive, unsigned}
+use Rattle.std.proofs.lemmas.Bool.{or_right, and_parts}
+use Rattle.sig_base.specs.Digits.{is_digit, is_positive, unsigned, digits_from}
 use Rattle.event_schema.specs.Events.{IsWholeNumber}
 use Rattle.lucene_lang.specs.declared.query.Glyph.TheVariants.{Run}
 use Rattle.lucene_lang.specs.Tokens.{is_decimal, run_sort}
 use Rattle.lucene_lang.specs.Grammar.{Term, a_term}
-use Rattle.lucene_lang.specs.Query.{digits_from}
 use Rattle.lucene_lang.specs.Faults.{is_ill, is_number}
 use Rattle.lucene_layout.specs.Escaped.{as_char, pattern_written, term_for}
-use Rattle.lucene_layout.proofs.Scanned.{both_true, DecimalIs, decimal_is}
+use Rattle.lucene_layout.proofs.Scanned.{DecimalIs, decimal_is}
 use Rattle.lucene_layout.proofs.Laid.{decimal_scalars}
 use Rattle.lucene_layout.proofs.Escapes.{exact_for, name_fine}
 
@@ -37,16 +37,12 @@ digit_of k small = grind (arith, nat_tests)
 positive_last : (ds : List ℕ) (d : ℕ) → is_positive ds ≡ true → is_digit d ≡ true → is_positive (ds ++ d ∷ []) ≡ true
 positive_last [] d first last = absurd cc
 positive_last (c ∷ ds) d first last =
-    let each = both_true (nat_le 49 c && nat_le c 57) (list_all is_digit ds) first in
+    let each = and_parts (nat_le 49 c && nat_le c 57) (list_all is_digit ds) first in
     let here = each.0 in
     let one : list_all is_digit (d ∷ []) ≡ true = rw last refl in
     let more = each.1 in
     let all : list_all is_digit (ds ++ d ∷ []) ≡ true = list_all-append is_digit ds (d ∷ []) ∙ rw (more, one) refl in
     rw (here, all) refl
-
-or_right : (a b : Bool) → b ≡ true → (a || b) ≡ true
-or_right true b h = refl
-or_right false b h = h
 
 one_positive : (n : ℕ) → n < 10 → (n == 0) ≡ false → (nat_le 49 (48 + n) && nat_le (48 + n) 57) ≡ true
 one_positive n small some = grind (arith, nat_tests)
@@ -133,7 +129,7 @@ star_taken = refl
 
 pub decimal_part : (cs : List ℕ) → is_number cs ≡ true → is_decimal cs ≡ true
 unfolding is_number
-decimal_part cs h = (both_true (is_decimal cs) _ h).0
+decimal_part cs h = (and_parts (is_decimal cs) _ h).0
 
 text_taken : (cs : List ℕ) → is_number cs ≡ true → is_ill true (a_term (term_for (map as_char cs))) ≡ false
 text_taken cs h = by cs (decimal_is cs (decimal_part cs h)) h where

@@ -1,15 +1,16 @@
 -- Ranges that are written are sound, and read as what they say.
-use Rattle.std.proofs.Common.{ℕ, suc, ◌≡◌, ◌^◌, ◌<◌, refl, sym, ◌∙◌, ap, Bool, true, false, List, [], ◌∷◌, ◌++◌, length, arith}
+use Rattle.std.proofs.Common.{ℕ, suc, ◌≡◌, ◌^◌, ◌<◌, refl, ◌∙◌, ap, Bool, true, false, List, [], ◌∷◌, ◌++◌, length, arith}
 use Rattle.std.specs.Prelude.{ℤ, pos, negsuc, ◌==◌, if◌then◌else◌, Option, Some, None}
 use Rattle.std.specs.Fmt.{decimal, signed_decimal}
 use Rattle.std.specs.Str.{all_scalars}
 use Rattle.std.proofs.lemmas.Int.{ints}
-use Rattle.sig_base.specs.Digits.{unsigned}
+use Rattle.std.proofs.lemmas.Bool.{and_parts}
+use Rattle.sig_base.specs.Digits.{unsigned, digits_from}
 use Rattle.event_schema.specs.Events.{IsWholeNumber}
 use Rattle.event_schema.specs.declared.schema.Field.{Field}
 use Rattle.lucene_lang.specs.Tokens.{Sort, Colon, is_decimal}
 use Rattle.lucene_lang.specs.Grammar.{Name, to, decimal as decimal_name, plain, a_range, sought, spell_name, spell_end, spell_value}
-use Rattle.lucene_lang.specs.Query.{FieldName, OfField, Sought, Range, digits_from, negative, number_of, end_number, found_in, leaf_of, field_atom, or_first, name_text, sought_of}
+use Rattle.lucene_lang.specs.Query.{FieldName, OfField, Range, negative, number_of, end_number, found_in, leaf_of, field_atom, or_first, name_text, sought_of}
 use Rattle.lucene_lang.specs.Faults.{is_ill, is_whole_at, is_outside, is_number, in_bounds, end_in_bounds}
 use Rattle.lucene_layout.specs.Escaped.{IsEnd, end_for, name_for, name_written}
 use Rattle.lucene_layout.specs.Layout.{HasText, text_leaf, text_value, written}
@@ -17,7 +18,6 @@ use Rattle.lucene_layout.specs.Trees.{has_outside, IsSound}
 use Rattle.lucene_layout.proofs.Escapes.{name_fine, name_text_is}
 use Rattle.lucene_layout.proofs.LeafRead.{found_none}
 use Rattle.lucene_layout.proofs.Numbers.{decimal_writes, canonical_unsigned, is_number_of, decimal_part}
-use Rattle.lucene_layout.proofs.Scanned.{both_true}
 
 -- ---- texts
 
@@ -58,7 +58,7 @@ end_has (Some z) whole = decimal_part (signed_decimal z) (is_number_of z whole)
 
 bounds_part : (w : List ℕ) → is_number w ≡ true → in_bounds w ≡ true
 unfolding is_number
-bounds_part w h = (both_true (is_decimal w) (in_bounds w) h).1
+bounds_part w h = (and_parts (is_decimal w) (in_bounds w) h).1
 
 end_within : (e : Option ℤ) → IsEnd e → end_in_bounds (end_for e) ≡ true
 end_within None whole = refl

@@ -1,10 +1,11 @@
 -- The text of a query is scanned as the query's spelling.
-use Rattle.std.proofs.Common.{ℕ, ◌≡◌, refl, sym, ◌∙◌, ap, Bool, true, false, List, [], ◌∷◌, ◌++◌, codes, append_assoc, append-nil, ◌&&◌, arith, ◌⊎◌, inl, inr, subst}
+use Rattle.std.proofs.Common.{ℕ, ◌≡◌, refl, sym, ◌∙◌, ap, Bool, true, false, List, [], ◌∷◌, ◌++◌, codes, append_assoc, append-nil, ◌&&◌, arith, inl, inr, subst}
 use Rattle.std.specs.Prelude.{◌==◌, ◌||◌, not, nat_le, if◌then◌else◌, Option, None, Some, map}
 use Rattle.std.specs.List.{list_all}
 use Rattle.std.specs.Str.{bytes_eq}
 use Rattle.std.proofs.lemmas.Bool.Decides.{nat_tests}
 use Rattle.std.proofs.lemmas.Slice.Eq.{bytes_eq-Decides}
+use Rattle.std.proofs.lemmas.Bool.{and_parts, or_cases}
 use Rattle.sig_base.specs.Digits.{is_digit, is_positive, unsigned}
 use Rattle.query_tokens.specs.Places.{At, origin, after}
 use Rattle.query_tokens.specs.Tokens.{sorts}
@@ -15,11 +16,6 @@ use Rattle.lucene_lang.specs.declared.written.Written.TheVariants.{Bare, Escaped
 use Rattle.lucene_lang.specs.Tokens.{Sort, Joins, Not, Star, Wild, To, Decimal, Plain, Phrase, Opening, Closing, Opens, Closes, Colon, Unclosed, Outside, InRun, InPhrase, goes_on, on_sign, start, ends_run, is_sign, sign_of, is_blank, scan, tokens, run_sort, is_decimal, character, is_bare, bare_sort}
 use Rattle.lucene_lang.specs.Grammar.{End, Value, a_term, a_phrase, a_range, Leaf, everything, sought, Group, last, joined, Clause, asked, forbidden, Atom, a_leaf, enclosed, spell_name, spell_term, spell_end, spell_value, spell_leaf, spell_group, spell_clause, spell_atom}
 use Rattle.lucene_layout.specs.Layout.{written, word_text, open_text, close_text, token_text, in_run, in_phrase, is_empty, IsRunOf, HasText, EachHasText, text_value, text_leaf, text_group, text_clause, text_atom}
-
-pub both_true : (a b : Bool) → (a && b) ≡ true → (a ≡ true) × (b ≡ true)
-both_true true true h = (refl, refl)
-both_true true false h = absurd cc
-both_true false b h = absurd cc
 
 pub not_true : (b : Bool) → not b ≡ true → b ≡ false
 not_true false h = refl
@@ -53,7 +49,7 @@ bare_goes : (w : List Written) (q p : At) (c : ℕ) (rest : List ℕ) → in_run
     → scan (InRun w q) p (c ∷ rest) ≡ scan (InRun (w ++ Bare c ∷ []) q) (after p c) rest
 unfolding scan
 bare_goes w q p c rest is =
-    let each = both_true (not (ends_run c)) (not (c == 92)) is in
+    let each = and_parts (not (ends_run c)) (not (c == 92)) is in
     let goes = not_true (ends_run c) each.0 in
     let other = not_true (c == 92) each.1 in
     rw (goes, other) refl
@@ -72,7 +68,7 @@ in_run_goes : (w v : List Written) (rest : List ℕ) → list_all in_run w ≡ t
 in_run_goes [] v rest all parts q p =
     (p, run_ends v q p rest parts ∙ ap (λ (x : List Written). run_sort x ∷ sorts (scan Outside p rest)) (sym (append-nil v)))
 in_run_goes (Bare c ∷ w) v rest all parts q p =
-    let each = both_true (in_run (Bare c)) (list_all in_run w) all in
+    let each = and_parts (in_run (Bare c)) (list_all in_run w) all in
     let more = in_run_goes w (v ++ Bare c ∷ []) rest each.1 parts q (after p c) in (
       more.0,
       ap sorts (bare_goes v q p c (written w ++ rest) each.0)
@@ -97,7 +93,7 @@ none_of true b c h = absurd cc
 
 bare_starts : (p : At) (c : ℕ) → in_run (Bare c) ≡ true → start p c ≡ goes_on (InRun (Bare c ∷ []) p)
 bare_starts p c is =
-    let each = both_true (not (ends_run c)) (not (c == 92)) is in
+    let each = and_parts (not (ends_run c)) (not (c == 92)) is in
     let none = none_of (is_blank c) (c == 34) (is_sign (sign_of c)) (not_true (ends_run c) each.0) in
     let blank = none.0 in
     let quote = none.1 in
@@ -117,7 +113,7 @@ escaped_begins p c rest = refl
 pub scans_run : (w : List Written) → is_empty w ≡ false → list_all in_run w ≡ true → Scans (written w) (run_sort w ∷ [])
 scans_run [] some all p rest parts = absurd cc
 scans_run (Bare c ∷ w) some all p rest parts =
-    let each = both_true (in_run (Bare c)) (list_all in_run w) all in
+    let each = and_parts (in_run (Bare c)) (list_all in_run w) all in
     let more = in_run_goes w (Bare c ∷ []) rest each.1 parts p (after p c) in
     (more.0, ap sorts (bare_begins p c (written w ++ rest) each.0) ∙ more.1)
 scans_run (Escaped c ∷ w) some all p rest parts =
@@ -171,7 +167,7 @@ digit_runs c h = grind (arith, nat_tests)
 pub digits_run : (w : List ℕ) → list_all is_digit w ≡ true → list_all in_run (map as_bare w) ≡ true
 digits_run [] all = refl
 digits_run (c ∷ w) all =
-    let each = both_true (is_digit c) (list_all is_digit w) all in
+    let each = and_parts (is_digit c) (list_all is_digit w) all in
     let here = digit_runs c each.0 in
     let more = digits_run w each.1 in
     rw here more
@@ -211,15 +207,6 @@ bare_run cs = let b = all_bare cs in rw b (ap (λ (v : List ℕ). bare_sort v (m
 decimal_sorted : (c : ℕ) (w : List ℕ) → is_plain_first c ≡ true → is_decimal (c ∷ w) ≡ true → run_sort (map as_bare (c ∷ w)) ≡ Decimal (c ∷ w)
 decimal_sorted c w first is = bare_run (c ∷ w) ∙ decimal_bare c w (map as_bare (c ∷ w)) first is
 
-pub by_test : (b : Bool) → (b ≡ true) ⊎ (b ≡ false)
-by_test true = inl refl
-by_test false = inr refl
-
-pub one_true : (a b : Bool) → (a || b) ≡ true → (a ≡ true) ⊎ (b ≡ true)
-one_true true b h = inl refl
-one_true false true h = inr refl
-one_true false false h = absurd cc
-
 pub three_true : (a b c : Bool) → (a && b && c) ≡ true → (a ≡ true) × (b ≡ true) × (c ≡ true)
 three_true true true true h = (refl, refl, refl)
 three_true true true false h = absurd cc
@@ -243,20 +230,20 @@ positive_begins c h = (grind (arith, nat_tests), grind (arith, nat_tests))
 positive_digits : (w : List ℕ) → is_positive w ≡ true → list_all is_digit w ≡ true
 positive_digits [] h = absurd cc
 positive_digits (c ∷ w) h =
-    let each = both_true (nat_le 49 c && nat_le c 57) (list_all is_digit w) h in
+    let each = and_parts (nat_le 49 c && nat_le c 57) (list_all is_digit w) h in
     let first = (positive_begins c each.0).1 in
     rw first each.1
 
 pub decimal_is : (w : List ℕ) → is_decimal w ≡ true → DecimalIs w
 unfolding is_decimal
-decimal_is w h = elim (one_true (bytes_eq w (codes "0")) (is_positive (unsigned w)) h) [
+decimal_is w h = elim (or_cases (bytes_eq w (codes "0")) (is_positive (unsigned w)) h) [
   | inl zero ↦ subst DecimalIs (sym ((bytes_eq-Decides w (codes "0")).0 zero)) (refl, refl)
   | inr positive ↦ by w positive
 ] where
   by_minus : (c : ℕ) (v : List ℕ) (b : Bool) → (c == 45) ≡ b → is_positive (if b then v else c ∷ v) ≡ true → DecimalIs (c ∷ v)
   by_minus c v true is p = subst (λ (d : ℕ). DecimalIs (d ∷ v)) (sym (equal_is c 45 is)) (refl, positive_digits v p)
   by_minus c v false is p =
-      let each = both_true (nat_le 49 c && nat_le c 57) (list_all is_digit v) p in
+      let each = and_parts (nat_le 49 c && nat_le c 57) (list_all is_digit v) p in
       ((positive_begins c each.0).0, each.1)
 
   by : (v : List ℕ) → is_positive (unsigned v) ≡ true → DecimalIs v
@@ -311,7 +298,7 @@ phrase_char : (w : List Written) (q p : At) (c : ℕ) (rest : List ℕ) → in_p
     → scan (InPhrase w q) p (c ∷ rest) ≡ scan (InPhrase (w ++ Bare c ∷ []) q) (after p c) rest
 unfolding scan
 phrase_char w q p c rest is =
-    let each = both_true (not (c == 34)) (not (c == 92)) is in
+    let each = and_parts (not (c == 34)) (not (c == 92)) is in
     let quote = not_true (c == 34) each.0 in
     let other = not_true (c == 92) each.1 in
     rw (quote, other) refl
@@ -330,7 +317,7 @@ in_phrase_goes : (w v : List Written) (rest : List ℕ) → list_all in_phrase w
 in_phrase_goes [] v rest all q p =
     (after p 34, phrase_ends v q p rest ∙ ap (λ (x : List Written). Phrase x ∷ sorts (scan Outside (after p 34) rest)) (sym (append-nil v)))
 in_phrase_goes (Bare c ∷ w) v rest all q p =
-    let each = both_true (in_phrase (Bare c)) (list_all in_phrase w) all in
+    let each = and_parts (in_phrase (Bare c)) (list_all in_phrase w) all in
     let more = in_phrase_goes w (v ++ Bare c ∷ []) rest each.1 q (after p c) in (
       more.0,
       ap sorts (phrase_char v q p c (written w ++ 34 ∷ rest) each.0)

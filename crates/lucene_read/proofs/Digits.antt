@@ -4,12 +4,9 @@ use Rattle.std.specs.Prelude.{min, if◌then◌else◌, Option, Some, None, ℤ,
 use Rattle.std.specs.Str.{chars}
 use Rattle.std.proofs.lemmas.Bool.{le-ltb}
 use Rattle.std.proofs.lemmas.Str.{chars-nil}
-use Rattle.lucene_lang.specs.Query.{digits_from}
+use Rattle.sig_base.specs.Digits.{digits_from}
+use Rattle.sig_base.proofs.DigitLemmas.{digits_from-le}
 use Rattle.lucene_read.specs.Known.{bounded, number_in}
-
-grows : (n : ℕ) (cs : List ℕ) → n ≤ digits_from n cs
-grows n [] = omega arith
-grows n (c ∷ cs) = let h = grows (10 * n + (c - 48)) cs in omega arith
 
 far : (n : ℕ) → 2 ^ 63 ≤ n → bounded n ≡ None
 far n large = ap (λ (b : Bool). if b then Some (pos n) else None) (le-ltb n (2 ^ 63) large)
@@ -26,8 +23,8 @@ capped n next rest is = by (less_or n (2 ^ 63)) where
   by : (n ≤ 2 ^ 63) ⊎ (2 ^ 63 ≤ n) → bounded (digits_from n rest) ≡ bounded (digits_from next rest)
   by (inl small) = ap (λ (m : ℕ). bounded (digits_from m rest)) (omega (arith, is, small))
   by (inr large) =
-      let g = grows n rest in
-      let h = grows next rest in
+      let g = digits_from-le n rest in
+      let h = digits_from-le next rest in
       far (digits_from n rest) (omega (arith, g, large)) ∙ sym (far (digits_from next rest) (omega (arith, h, is, large)))
 
 pub goes_on : (cs : List ℕ) (v c d next : ℕ) → Reads cs v → d ≡ c - 48 → next ≡ min (v * 10 + d) (2 ^ 63) → Reads (cs ++ c ∷ []) next

@@ -60,8 +60,9 @@ answered limits schema bytes (Ok g) never short ok refused = record {
   are = record { caused = tt; all = tt };
   unrefused = λ r h. never limits.lucene_depth schema bytes (group_view g) _ ok h.first;
 }
-answered limits schema bytes (Err Memory) never short ok refused = tt
+answered limits schema bytes (Err Memory) never short ok refused = refl
 answered limits schema bytes (Err (Refused r)) never short ok refused = record {
+  own = tt;
   places = [];
   are = record { caused = tt; all = tt };
   first = record { first = refused.0; plain = refused.1 };

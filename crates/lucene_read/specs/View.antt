@@ -17,7 +17,8 @@ use Rattle.lucene_read.specs.declared.partial.Wrong.{Wrong}
 use Rattle.lucene_read.specs.declared.partial.State.{State}
 use Rattle.lucene_read.specs.Known as known
 use Rattle.lucene_read.specs.Steps as steps
-pub use Rattle.lucene_scan.specs.View.{place_view, sort_view, token_view, tokens_view, place_if}
+pub use Rattle.query_tokens.specs.PlaceView.{place_view, place_if}
+pub use Rattle.lucene_scan.specs.View.{sort_view, token_view, tokens_view}
 
 abbrev pub name_view : Name → known.Name
 name_view n = known.name_at n.known (place_view n.place)

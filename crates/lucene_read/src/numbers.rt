@@ -2,7 +2,7 @@
 
 ghost use Rattle.std.specs.Prelude.{◌≡◌, ◌+◌, ◌*◌, ◌-◌, ◌^◌, ◌≤◌, min};
 ghost use Rattle.std.specs.Str.{chars};
-ghost use Rattle.lucene_lang.specs.Query.{digits_from};
+ghost use Rattle.sig_base.specs.Digits.{digits_from};
 ghost use Rattle.lucene_lang.specs.Faults as faults;
 ghost use Rattle.lucene_read.specs.Known.{bounded, number_in};
 

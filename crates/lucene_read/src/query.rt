@@ -15,7 +15,8 @@ use crate::partial::{Ill, Now, Partial, State, Wrong};
 use crate::transitions::{ended, no_clauses, step};
 use event_schema::{Field, Schema};
 use lucene_lang::Group;
-use lucene_scan::{Token, first_outside, opens_too_far, place_behind, scan};
+use lucene_scan::{Token, first_outside, opens_too_far, scan};
+use query_tokens::place_behind;
 use sig_base::{Code, Fault, Limits, Place, refused};
 use std::alloc::Global;
 

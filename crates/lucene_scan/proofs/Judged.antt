@@ -6,7 +6,8 @@ use Rattle.std.proofs.Math.ListN.{drop_of_length-le}
 use Rattle.lucene_lang.specs.Faults.{is_outside, ranged_behind}
 use Rattle.lucene_lang.specs.Reading.{first_outside}
 use Rattle.lucene_scan.specs.declared.token.Token.{Token}
-use Rattle.lucene_scan.specs.View.{sort_view, place_view, tokens_view}
+use Rattle.query_tokens.specs.PlaceView.{place_view}
+use Rattle.lucene_scan.specs.View.{sort_view, tokens_view}
 
 -- what is left to look at decides as the whole
 abbrev pub Decides : Bool → List Token → ℕ → Type 0

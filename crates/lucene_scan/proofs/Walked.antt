@@ -1,7 +1,6 @@
 -- Scanning character by character.
-use Rattle.std.proofs.Common.{ℕ, suc, ◌+◌, ◌≤◌, ◌≡◌, refl, sym, ◌∙◌, ap, Bool, true, false, List, [], ◌∷◌, ◌++◌, length, append_assoc, append-nil, arith}
-use Rattle.std.specs.Prelude.{◌==◌, if◌then◌else◌}
-use Rattle.query_tokens.specs.Places.{At, after, place_after, origin}
+use Rattle.std.proofs.Common.{ℕ, ◌+◌, ◌≡◌, refl, sym, ◌∙◌, ap, List, [], ◌∷◌, ◌++◌, append_assoc, append-nil}
+use Rattle.query_tokens.specs.Places.{At, after, origin}
 use Rattle.lucene_lang.specs.Tokens.{Token, Mode, Outside, turn, scan, last, tokens}
 use Rattle.lucene_scan.specs.declared.token.Token as declared
 use Rattle.lucene_scan.specs.View.{token_view, tokens_view}
@@ -24,19 +23,6 @@ scan_turn cs c tokens more mode next place later before ended same here rest =
     ∙ (sym (append_assoc tokens (turn mode place c).ended (scan (turn mode place c).mode (after place c) rest))
     ∙ (ap (λ (ts : List Token). ts ++ scan (turn mode place c).mode (after place c) rest) (sym ended)
     ∙ (ap (λ (m : Mode). more ++ scan m (after place c) rest) (sym same) ∙ ap (λ (p : At). more ++ scan next p rest) (sym here)))))
-
-pub place_turn : (p : At) (cs : List ℕ) (c : ℕ) → place_after p (cs ++ c ∷ []) ≡ after (place_after p cs) c
-place_turn p [] c = refl
-place_turn p (d ∷ cs) c = place_turn (after p d) cs c
-
-pub place_near : (p : At) (cs : List ℕ) → ((place_after p cs).line ≤ p.line + length cs) × ((place_after p cs).column ≤ p.column + length cs + 1)
-place_near p [] = (omega arith, omega arith)
-place_near p (c ∷ cs) = by (c == 10) (λ q. place_near q cs) where
-  by : (b : Bool) → ((q : At) → ((place_after q cs).line ≤ q.line + length cs) × ((place_after q cs).column ≤ q.column + length cs + 1))
-      → ((place_after (if b then record { line = suc p.line; column = 1 } else record { line = p.line; column = suc p.column }) cs).line ≤ p.line + suc (length cs))
-      × ((place_after (if b then record { line = suc p.line; column = 1 } else record { line = p.line; column = suc p.column }) cs).column ≤ p.column + suc (length cs) + 1)
-  by true near = let n = near (record { line = suc p.line; column = 1 }) in (omega (arith, n.0), omega (arith, n.1))
-  by false near = let n = near (record { line = p.line; column = suc p.column }) in (omega (arith, n.0), omega (arith, n.1))
 
 pub scan_end : (cs all : List ℕ) (tokens' more : List Token) (mode : Mode) (place : At) → Scanned cs tokens' mode place → cs ≡ all → more ≡ tokens' ++ last mode → more ≡ tokens all
 unfolding scan tokens

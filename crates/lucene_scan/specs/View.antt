@@ -1,20 +1,12 @@
 -- Tokens and modes of the scanner as the definitions have them.
 use Rattle.std.specs.Prelude.{Bool, true, false, List, map, Option, Some, None}
-use Rattle.sig_base.specs.declared.refusal.Place.{Place}
-use Rattle.query_tokens.specs.Places.{At}
+use Rattle.query_tokens.specs.PlaceView.{place_view}
 use Rattle.lucene_lang.specs.Tokens as tokens
 use Rattle.lucene_scan.specs.declared.token.Sort.{Sort}
 use Rattle.lucene_scan.specs.declared.token.Sort.TheVariants as sorts
 use Rattle.lucene_scan.specs.declared.token.Token.{Token}
 use Rattle.lucene_scan.specs.declared.mode.Mode.{Mode}
 use Rattle.lucene_scan.specs.declared.mode.Mode.TheVariants as modes
-
-abbrev pub place_view : Place → At
-place_view p = record { line = p.line; column = p.column }
-
-abbrev pub place_if : Option Place → Option At
-place_if None = None
-place_if (Some p) = Some (place_view p)
 
 abbrev pub sort_view : Sort → tokens.Sort
 sort_view (sorts.Joins w) = tokens.Joins w

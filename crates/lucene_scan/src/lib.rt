@@ -2,7 +2,6 @@
 #![tactic(auto)]
 
 mod mode;
-mod places;
 mod refusals;
 mod run_kinds;
 mod runs;
@@ -11,7 +10,6 @@ mod token;
 mod tokens;
 
 pub use mode::Mode;
-pub use places::place_behind;
 pub use refusals::{first_outside, opens_too_far};
 pub use run_kinds::{is_decimal, text_of};
 pub use runs::Run;

@@ -6,7 +6,8 @@ ghost use Rattle.lucene_lang.specs.Faults as faults;
 ghost use Rattle.lucene_lang.specs.Reading as reading;
 ghost use Rattle.query_tokens.specs.Tokens.{sorts};
 ghost use Rattle.lucene_scan.specs.View as view;
-ghost use Rattle.lucene_scan.specs.View.{sort_view, place_if, tokens_view};
+ghost use Rattle.query_tokens.specs.PlaceView.{place_if};
+ghost use Rattle.lucene_scan.specs.View.{sort_view, tokens_view};
 
 use crate::token::{Sort, Token};
 use lucene_lang::Written;

@@ -3,15 +3,16 @@
 ghost use Rattle.std.specs.Prelude.{◌≡◌, ◌<◌, ◌^◌, length, ◌++◌, ◌∷◌, [], IfOk, IfErr, OnOk};
 ghost use Rattle.std.specs.Str.{chars};
 ghost use Rattle.lucene_lang.specs.Tokens as specs;
-ghost use Rattle.lucene_scan.specs.View.{sign_view, place_view, tokens_view, mode_view};
+ghost use Rattle.query_tokens.specs.PlaceView.{place_view};
+ghost use Rattle.lucene_scan.specs.View.{sign_view, tokens_view, mode_view};
 
 use crate::mode::Mode;
-use crate::places::after;
 use crate::run_kinds::run_sort;
 use crate::runs::Run;
 use crate::token::Sort;
 use crate::tokens::Tokens;
 use lucene_lang::Written;
+use query_tokens::after;
 use sig_base::{Fault, Place};
 use std::alloc::Global;
 
@@ -191,7 +192,7 @@ fn last(alloc: Global, tokens: &mut Tokens, mode: Mode) -> Result<(), Fault>
 }
 
 /// The tokens of a text of fewer than 2^31 bytes, so that its places are numbers of 32 bits; only want of memory is answered.
-#[tactic(auto, using(crate::proofs::Walked::scan_turn, crate::proofs::Walked::place_turn, crate::proofs::Walked::place_near))]
+#[tactic(auto, using(crate::proofs::Walked::scan_turn, query_tokens::proofs::PlaceLemmas::place_turn, query_tokens::proofs::PlaceLemmas::place_near))]
 pub fn scan(alloc: Global, text: &str) -> Result<Tokens, Fault>
     requires { length text.now < 2 ^ 31 }
     ensures ok { IfOk result (λ tokens. tokens_view tokens ≡ specs.tokens (chars text.now)) }

@@ -2,7 +2,8 @@
 
 ghost use Rattle.std.specs.Prelude.{◌≡◌, [], ◌∷◌, ◌++◌, OnOk, IfErr};
 ghost use Rattle.lucene_lang.specs.Tokens.{token};
-ghost use Rattle.lucene_scan.specs.View.{sort_view, place_view, tokens_view};
+ghost use Rattle.query_tokens.specs.PlaceView.{place_view};
+ghost use Rattle.lucene_scan.specs.View.{sort_view, tokens_view};
 
 use crate::token::{Sort, Token};
 use sig_base::{Fault, Place};

@@ -11,7 +11,8 @@ use Rattle.lucene_writer.specs.declared.place.Standing.{Standing}
 use Rattle.lucene_writer.specs.declared.place.Standing.TheVariants.{Alone, InAnd}
 use Rattle.lucene_writer.specs.Counts.{one_if, add, tree_opens, parts_opens, items_opens, tree_clauses, parts_clauses, items_clauses}
 use Rattle.lucene_writer.specs.Pieces.{is_whole, all_denied}
-use Rattle.lucene_writer.proofs.Rows.{view-All, view-Any, denied_are}
+use Rattle.backend_core.proofs.Joining.{view-All, view-Any}
+use Rattle.lucene_writer.proofs.Rows.{denied_are}
 
 module _ (most : ℕ) where
   -- ---- parentheses

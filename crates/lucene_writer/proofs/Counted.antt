@@ -7,7 +7,8 @@ use Rattle.sig_strings.specs.declared.part.Part.TheVariants as parts
 use Rattle.lucene_lang.specs.declared.query.Word.TheVariants.{And}
 use Rattle.lucene_lang.specs.Grammar.{Group, joined}
 use Rattle.lucene_layout.specs.Trees.{Tree, all, Trees, no_trees, a_tree, form, some_of, each_of, layout, all_forbidden, with_everything, behind_everything, group_depth, clause_depth, atom_depth, group_clauses, clause_clauses, atom_clauses}
-use Rattle.backend_core.specs.Sound.{IsSoundPattern, IsSoundTest, IsSound, AreSound, kind_at}
+use Rattle.backend_core.specs.FieldAt.{kind_at, name_at}
+use Rattle.backend_core.specs.Sound.{IsSoundPattern, IsSoundTest, IsSound, AreSound}
 use Rattle.backend_core.specs.Trees.{Plain, Plains, no_parts, a_part}
 use Rattle.backend_core.specs.Trees as trees
 use Rattle.backend_core.specs.declared.tree.LeafTest.{LeafTest}
@@ -15,7 +16,7 @@ use Rattle.backend_core.specs.declared.tree.LeafTest.TheVariants as tests
 use Rattle.lucene_writer.specs.declared.place.Standing.TheVariants.{Whole, Alone, InAnd}
 use Rattle.lucene_writer.specs.Counts.{one_if, tree_opens, parts_opens, tree_clauses, parts_clauses}
 use Rattle.lucene_writer.specs.Pieces.{is_denied, are_denied}
-use Rattle.lucene_writer.specs.Told.{name_at, test_parts, joined_trees, Told, told, told_parts, each_told, some_told}
+use Rattle.lucene_writer.specs.Told.{test_parts, joined_trees, Told, told, told_parts, each_told, some_told}
 use Rattle.lucene_writer.proofs.Texts.{denied, denied_behind, each_denied, joined_denied, IsSome, a_tree_of, assoc}
 
 -- ---- parentheses

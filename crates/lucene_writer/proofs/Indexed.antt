@@ -14,7 +14,7 @@ use Rattle.backend_core.specs.Schemas.{IsNamed}
 use Rattle.lucene_lang.specs.Query.{named, is_twin, found_in}
 use Rattle.lucene_writer.specs.Lacking.{is_cased}
 use Rattle.lucene_writer.specs.Schemas.{is_named, AreNamed, IsIndexed}
-use Rattle.lucene_writer.specs.Told.{name_at}
+use Rattle.backend_core.specs.FieldAt.{name_at}
 
 same_itself : (name : List ℕ) → bytes_eq name name ≡ true
 same_itself name = (bytes_eq-Decides name name).1 refl

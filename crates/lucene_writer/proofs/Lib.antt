@@ -1,4 +1,3 @@
-mod Names
 mod Rows
 mod Signs
 mod Texts

@@ -6,6 +6,7 @@ use Rattle.std.specs.Int.Signed.{le_z_yes, lt_z_yes}
 use Rattle.std.specs.Fmt.{signed_decimal}
 use Rattle.std.specs.Str.{all_scalars}
 use Rattle.std.proofs.Math.Utf8.{scalar}
+use Rattle.std.proofs.lemmas.Bool.{and_parts}
 use Rattle.event_schema.specs.Events.{IsEvent, IsWholeNumber}
 use Rattle.event_schema.specs.Lists.{SomeOf, HasElement, HasNoElement}
 use Rattle.event_schema.specs.Rows.{field_values, value_text}
@@ -30,7 +31,8 @@ use Rattle.lucene_layout.specs.Trees as lucene
 use Rattle.backend_core.proofs.Checks as checks
 use Rattle.backend_core.specs.Holds.{Stands, ValueStands, TestHolds, TreeHolds, EachHolds, OneHolds}
 use Rattle.backend_core.specs.Lacks.{first_lack, leaf_refusal, lack_refusal, lacks_refusal}
-use Rattle.backend_core.specs.Sound.{IsSoundPattern, IsSoundTest, IsSound, AreSound, kind_at}
+use Rattle.backend_core.specs.FieldAt.{kind_at, name_at, is_many}
+use Rattle.backend_core.specs.Sound.{IsSoundPattern, IsSoundTest, IsSound, AreSound}
 use Rattle.backend_core.specs.Trees.{Plain, Plains, no_parts, a_part}
 use Rattle.backend_core.specs.Trees as trees
 use Rattle.backend_core.specs.declared.lack.Lack.{Lack}
@@ -40,9 +42,9 @@ use Rattle.backend_core.specs.declared.tree.LeafTest.TheVariants as tests
 use Rattle.backend_core.specs.declared.tree.Op.{Op}
 use Rattle.backend_core.specs.declared.tree.Op.TheVariants as ops
 use Rattle.lucene_writer.specs.Glyphs.{glyphs_of}
-use Rattle.lucene_writer.specs.Lacking.{is_cased, is_many, is_empty, pattern_asks, test_asks, lucene_lacks}
+use Rattle.lucene_writer.specs.Lacking.{is_cased, is_empty, pattern_asks, test_asks, lucene_lacks}
 use Rattle.lucene_writer.specs.Schemas.{is_named, AreNamed, IsIndexed}
-use Rattle.lucene_writer.specs.Told.{name_at, searched, Parts, one_part, term_leaf, has_leaf, some_leaf, Span, span_of, range_leaf, pattern_parts, never_parts, test_parts, joined_trees, Told, told, each_told, some_told}
+use Rattle.lucene_writer.specs.Told.{searched, Parts, one_part, term_leaf, has_leaf, some_leaf, Span, span_of, range_leaf, pattern_parts, never_parts, test_parts, joined_trees, Told, told, each_told, some_told}
 
 -- ---- true exactly where H holds
 
@@ -84,17 +86,12 @@ and_assoc : (a b c : Bool) → (a && (b && c)) ≡ ((a && b) && c)
 and_assoc true b c = refl
 and_assoc false b c = refl
 
-both_parts : (a b : Bool) → (a && b) ≡ true → (a ≡ true) × (b ≡ true)
-both_parts true true h = (refl, refl)
-both_parts true false h = absurd cc
-both_parts false b h = absurd cc
-
 -- ---- names and kinds
 
 scalars_joined : (a b : List ℕ) → all_scalars a ≡ true → all_scalars b ≡ true → all_scalars (a ++ b) ≡ true
 scalars_joined [] b first second = second
 scalars_joined (c ∷ a) b first second =
-    let each = both_parts (scalar c) (all_scalars a) first in
+    let each = and_parts (scalar c) (all_scalars a) first in
     let more = scalars_joined a b each.1 second in
     let here = each.0 in
     rw here more

@@ -1,16 +1,14 @@
 -- The parts of a tree, one behind the other, are those of its vector.
-use Rattle.std.proofs.Common.{ℕ, ◌+◌, ◌<◌, ◌≡◌, ◌≤◌, refl, sym, ◌∙◌, ap, Bool, true, false, ◌&&◌, List, [], ◌∷◌, ◌++◌, length, get_or, drop, append_assoc, append-nil, rules}
+use Rattle.std.proofs.Common.{ℕ, ◌+◌, ◌<◌, ◌≡◌, ◌≤◌, refl, sym, ◌∙◌, ap, Bool, true, false, ◌&&◌, List, [], ◌∷◌, ◌++◌, length, get_or, drop, append_assoc, append-nil}
 use Rattle.std.specs.Prelude.{codes, not}
 use Rattle.std.specs.declared.alloc.Global.{Global}
 use Rattle.std.specs.declared.vec.Vec.{Vec}
 use Rattle.std.proofs.lemmas.List.{drop_all, drop_more, at_drop_all}
 use Rattle.event_schema.specs.declared.schema.Field.{Field}
-use Rattle.backend_core.proofs.Copies.{row_plains}
-use Rattle.backend_core.specs.Trees.{all, any}
+use Rattle.backend_core.proofs.Joining.{view-All, view-Any}
 use Rattle.backend_core.specs.View.{tree_view, plains_of}
 use Rattle.backend_core.specs.declared.tree.Tree.{Tree}
 use Rattle.backend_core.specs.declared.tree.Tree as trees
-use Rattle.backend_core.specs.declared.tree.Tree.TheViews.{the_lemmas}
 use Rattle.lucene_writer.specs.declared.place.Standing.{Standing}
 use Rattle.lucene_writer.specs.declared.place.Standing.TheVariants.{Alone, InAnd}
 use Rattle.lucene_writer.specs.Pieces.{piece_if, enclosed_if, is_whole, tree_text, parts_text, items_text, all_text, any_text, is_alone, never_text, is_denied, are_denied, all_denied}
@@ -55,12 +53,6 @@ never_put out first second third at so is a b c =
     enclosed_text out first second third (codes "*:* AND NOT *:*") (never_text at) so a b c (ap (λ (s : Bool). enclosed_if s (codes "*:* AND NOT *:*")) (sym is))
 
 -- ---- the lists of a tree
-
-pub view-All : (v : Vec Tree Global) → tree_view (trees.All v) ≡ all (plains_of v.items)
-view-All v = search (rules, the_lemmas, row_plains)
-
-pub view-Any : (v : Vec Tree Global) → tree_view (trees.Any v) ≡ any (plains_of v.items)
-view-Any v = search (rules, the_lemmas, row_plains)
 
 items_are : (fields : List Field) (at : Standing) (word : List ℕ) (behind : Bool) (ts : List Tree)
     → parts_text fields at word behind (plains_of ts) ≡ items_text fields at word behind ts

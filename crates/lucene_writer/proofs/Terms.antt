@@ -1,5 +1,5 @@
 -- The term of a pattern holds of the texts that the pattern fits, and that of a number's decimal of this decimal.
-use Rattle.std.proofs.Common.{ℕ, suc, ◌≡◌, ◌+◌, ◌%◌, ◌^◌, ◌<◌, ◌≤◌, refl, sym, ◌∙◌, ap, Bool, true, false, List, [], ◌∷◌, ◌++◌, subst, ◌⊎◌, inl, inr, arith}
+use Rattle.std.proofs.Common.{ℕ, suc, ◌≡◌, ◌+◌, ◌%◌, ◌^◌, ◌<◌, ◌≤◌, refl, sym, ◌∙◌, ap, Bool, true, false, List, [], ◌∷◌, ◌++◌, arith}
 use Rattle.std.specs.Prelude.{◌==◌, ◌||◌, ◌&&◌, ◌↔◌, map, ℤ, pos, negsuc, nat_le, if◌then◌else◌}
 use Rattle.std.specs.Fmt.{decimal, signed_decimal}
 use Rattle.std.specs.List.{list_all}
@@ -9,7 +9,9 @@ use Rattle.std.proofs.lemmas.Bool.Decides.{nat_tests}
 use Rattle.std.proofs.lemmas.Fmt.{decimal_by_steps}
 use Rattle.std.proofs.lemmas.Int.{ints}
 use Rattle.std.proofs.lemmas.List.Folds.{list_all-append}
+use Rattle.std.proofs.lemmas.Bool.{and_parts}
 use Rattle.event_schema.specs.Events.{IsWholeNumber}
+use Rattle.matching.proofs.SuffixLemmas.{SuffixHolds-tests, CharThen-tests}
 use Rattle.matching.specs.Suffixes.{SuffixHolds, CharThen}
 use Rattle.sig_base.specs.Folding.{fold}
 use Rattle.sig_strings.specs.Edits.{all_written}
@@ -20,52 +22,12 @@ use Rattle.lucene_lang.specs.Meaning.{kept_char, kept, kept_glyphs, term_fits, s
 use Rattle.lucene_layout.specs.Escaped.{as_char}
 use Rattle.lucene_writer.specs.Glyphs.{glyphs_of}
 
-and_true : (a b : Bool) → (a && b) ≡ true → (a ≡ true) × (b ≡ true)
-and_true true true h = (refl, refl)
-and_true true false h = absurd cc
-and_true false b h = absurd cc
-
-or_true : (a b : Bool) → (a || b) ≡ true → (a ≡ true) ⊎ (b ≡ true)
-or_true true b h = inl refl
-or_true false true h = inr refl
-or_true false false h = absurd cc
-
-true_left : (a b : Bool) → a ≡ true → (a || b) ≡ true
-true_left a b h = rw h refl
-
-true_right : (a b : Bool) → b ≡ true → (a || b) ≡ true
-true_right true b h = refl
-true_right false b h = h
-
 module _ (m : ℕ → ℕ) (fits : List ℕ → Bool) (holds : List ℕ → Type 0) (agrees : (rest : List ℕ) → (fits (map m rest) ≡ true) ↔ holds rest) where
-  run_found : (before suffix : List ℕ) → holds suffix → some_end fits (map m (before ++ suffix)) ≡ true
-  run_found [] [] h = (agrees []).1 h
-  run_found [] (c ∷ cs) h = true_left (fits (map m (c ∷ cs))) (some_end fits (map m cs)) ((agrees (c ∷ cs)).1 h)
-  run_found (c ∷ before) suffix h = true_right (fits (map m (c ∷ (before ++ suffix)))) (some_end fits (map m (before ++ suffix))) (run_found before suffix h)
-
-  run_is : (text : List ℕ) → some_end fits (map m text) ≡ true → SuffixHolds holds text
-  run_is [] h = record { before = []; suffix = []; shape = refl; holds_there = (agrees []).0 h }
-  run_is (c ∷ cs) h = by (or_true (fits (map m (c ∷ cs))) (some_end fits (map m cs)) h) (λ g. run_is cs g) where
-    by : (fits (map m (c ∷ cs)) ≡ true) ⊎ (some_end fits (map m cs) ≡ true) → (some_end fits (map m cs) ≡ true → SuffixHolds holds cs) → SuffixHolds holds (c ∷ cs)
-    by (inl here) more = record { before = []; suffix = c ∷ cs; shape = refl; holds_there = (agrees (c ∷ cs)).0 here }
-    by (inr later) more =
-        let s = more later in
-        record { before = c ∷ s.before; suffix = s.suffix; shape = ap (λ (ds : List ℕ). c ∷ ds) s.shape; holds_there = s.holds_there }
-
   run_agrees : (text : List ℕ) → (some_end fits (map m text) ≡ true) ↔ SuffixHolds holds text
-  run_agrees text = (run_is text, λ s. subst (λ (t : List ℕ). some_end fits (map m t) ≡ true) (sym s.shape) (run_found s.before s.suffix s.holds_there))
+  run_agrees text = SuffixHolds-tests (λ t. fits (map m t)) holds agrees (λ t. some_end fits (map m t)) refl (λ c cs. refl) text
 
-  -- a single character
   one_agrees : (is_so : ℕ → Bool) (text : List ℕ) → (behind_one is_so fits (map m text) ≡ true) ↔ CharThen (λ d. is_so (m d)) holds text
-  one_agrees is_so [] = (λ h. absurd cc, λ s. absurd (no_first s)) where
-    no_first : CharThen (λ d. is_so (m d)) holds [] → ⊥
-    no_first s = let e = s.shape in absurd cc
-  one_agrees is_so (c ∷ cs) = (
-    λ h. (let each = and_true (is_so (m c)) (fits (map m cs)) h in
-        record { first = c; rest = cs; shape = refl; passed = each.0; holds_then = (agrees cs).0 each.1 }),
-    λ s. (let passed = s.passed in let behind = (agrees s.rest).1 s.holds_then in
-        subst (λ (t : List ℕ). behind_one is_so fits (map m t) ≡ true) (sym s.shape) (rw (passed, behind) refl)),
-  )
+  one_agrees is_so text = CharThen-tests (λ t. fits (map m t)) holds agrees (λ d. is_so (m d)) (λ t. behind_one is_so fits (map m t)) refl (λ c cs. refl) text
 
 nothing_is : (m : ℕ → ℕ) (text : List ℕ) → (is_nothing (map m text) ≡ true) ↔ (text ≡ [])
 nothing_is m [] = (λ h. refl, λ h. refl)
@@ -134,9 +96,9 @@ same_text [] [] h = (λ x. refl, λ x. refl)
 same_text [] (d ∷ ds) h = (λ x. absurd cc, λ x. absurd cc)
 same_text (c ∷ cs) [] h = (λ x. absurd cc, λ x. absurd cc)
 same_text (c ∷ cs) (d ∷ ds) h =
-    let each = and_true (is_sign c) (list_all is_sign cs) h in
+    let each = and_parts (is_sign c) (list_all is_sign cs) h in
     let more = same_text cs ds each.1 in (
-      λ x. (let both = and_true (fold c == fold d) (term_fits (kept_glyphs false (map as_char cs)) (kept false ds)) x in
+      λ x. (let both = and_parts (fold c == fold d) (term_fits (kept_glyphs false (map as_char cs)) (kept false ds)) x in
           let first = sign_of c d each.0 both.0 in
           let rest = more.0 both.1 in
           rw (first, rest) refl),
@@ -192,7 +154,7 @@ sign_scalar c h = grind (arith, nat_tests)
 signs_scalars : (cs : List ℕ) → list_all is_sign cs ≡ true → all_scalars cs ≡ true
 signs_scalars [] h = refl
 signs_scalars (c ∷ cs) h =
-    let each = and_true (is_sign c) (list_all is_sign cs) h in
+    let each = and_parts (is_sign c) (list_all is_sign cs) h in
     let here = sign_scalar c each.0 in
     rw here (signs_scalars cs each.1)
 

@@ -15,7 +15,8 @@ use Rattle.lucene_lang.specs.Grammar.{Group, joined, sought, a_term, a_range}
 use Rattle.lucene_layout.specs.Escaped.{is_special, char_written, glyph_written, as_char, pattern_written, name_written, word_escaped, name_for, term_for, end_for}
 use Rattle.lucene_layout.specs.Layout.{written, written_piece, text_value, text_leaf, text_group, text_clause, text_atom}
 use Rattle.lucene_layout.specs.Trees.{Tree, all, any, negated, Trees, no_trees, a_tree, form, some_of, each_of, layout, is_forbidden, all_forbidden, with_everything, behind_everything}
-use Rattle.backend_core.specs.Sound.{IsSoundPattern, IsSoundTest, IsSound, AreSound, kind_at}
+use Rattle.backend_core.specs.FieldAt.{kind_at, name_at}
+use Rattle.backend_core.specs.Sound.{IsSoundPattern, IsSoundTest, IsSound, AreSound}
 use Rattle.backend_core.specs.Trees.{Plain, Plains, no_parts, a_part}
 use Rattle.backend_core.specs.Trees as trees
 use Rattle.backend_core.specs.declared.tree.LeafTest.{LeafTest}
@@ -25,7 +26,7 @@ use Rattle.backend_core.specs.declared.tree.Op.TheVariants as ops
 use Rattle.lucene_writer.specs.declared.place.Standing.{Standing}
 use Rattle.lucene_writer.specs.declared.place.Standing.TheVariants.{Whole, Alone, InAnd}
 use Rattle.lucene_writer.specs.Glyphs.{glyphs_of}
-use Rattle.lucene_writer.specs.Told.{name_at, searched, Parts, one_part, term_leaf, has_leaf, some_leaf, span_of, range_leaf, pattern_parts, never_parts, test_parts, joined_trees, Told, told, told_tree, each_told, some_told}
+use Rattle.lucene_writer.specs.Told.{searched, Parts, one_part, term_leaf, has_leaf, some_leaf, span_of, range_leaf, pattern_parts, never_parts, test_parts, joined_trees, Told, told, told_tree, each_told, some_told}
 use Rattle.lucene_writer.specs.Pieces.{char_sign, part_sign, pattern_text, plain_text, has_text, not_text, empty_text, fits_text, range_start, range_end, compare_text, test_text, never_text, piece_if, is_denied, is_denied_test, are_denied, tree_text, parts_text}
 
 -- ---- characters

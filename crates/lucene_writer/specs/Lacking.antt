@@ -3,6 +3,7 @@
 use Rattle.std.specs.Prelude.{ℕ, zero, suc, Bool, true, false, not, ◌&&◌, List, [], ◌∷◌, Option}
 use Rattle.event_schema.specs.declared.schema.Field.{Field}
 use Rattle.sig_strings.specs.declared.part.Part.{Part}
+use Rattle.backend_core.specs.FieldAt.{is_many}
 use Rattle.backend_core.specs.Lacks.{Asks, first_lack}
 use Rattle.backend_core.specs.declared.lack.Lack.{Lack}
 use Rattle.backend_core.specs.declared.tree.Leaf.{Leaf}
@@ -10,16 +11,11 @@ use Rattle.backend_core.specs.declared.tree.LeafTest.{LeafTest}
 use Rattle.backend_core.specs.declared.tree.LeafTest.TheVariants as tests
 use Rattle.lucene_lang.specs.Faults.{is_whole_at}
 
--- whether field k keeps the case of its texts in a twin, and whether it may have several values
+-- whether field k keeps the case of its texts in a twin
 abbrev pub is_cased : List Field → ℕ → Bool
 is_cased [] k = false
 is_cased (field ∷ fields) zero = field.cased
 is_cased (field ∷ fields) (suc k) = is_cased fields k
-
-abbrev pub is_many : List Field → ℕ → Bool
-is_many [] k = false
-is_many (field ∷ fields) zero = field.many
-is_many (field ∷ fields) (suc k) = is_many fields k
 
 abbrev pub is_empty : List Part → Bool
 is_empty [] = true

@@ -15,7 +15,8 @@ use Rattle.backend_core.specs.Trees.{Plain, Plains, no_parts, a_part, all, any, 
 use Rattle.backend_core.specs.View.{tree_view}
 use Rattle.lucene_writer.specs.declared.place.Standing.{Standing}
 use Rattle.lucene_writer.specs.declared.place.Standing.TheVariants.{Whole, Alone, InAnd}
-use Rattle.lucene_writer.specs.Told.{name_at, searched}
+use Rattle.backend_core.specs.FieldAt.{name_at}
+use Rattle.lucene_writer.specs.Told.{searched}
 
 abbrev pub is_whole : Standing → Bool
 is_whole Whole = true

@@ -4,7 +4,8 @@ use Rattle.std.specs.Str.{all_scalars}
 use Rattle.event_schema.specs.declared.schema.Field.{Field}
 use Rattle.lucene_lang.specs.Query.{found_in, named}
 use Rattle.lucene_writer.specs.Lacking.{is_cased}
-use Rattle.lucene_writer.specs.Told.{name_at, searched}
+use Rattle.backend_core.specs.FieldAt.{name_at}
+use Rattle.lucene_writer.specs.Told.{searched}
 
 -- one character at least, and each is a scalar value
 abbrev pub is_named : List ℕ → Bool

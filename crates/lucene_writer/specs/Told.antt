@@ -1,5 +1,5 @@
 -- Which clauses a tree is in Lucene. What a leaf makes of itself is joined into an all around it.
-use Rattle.std.specs.Prelude.{ℕ, zero, suc, ℤ, Bool, true, false, List, [], ◌∷◌, map, Option, Some, None}
+use Rattle.std.specs.Prelude.{ℕ, ℤ, Bool, true, false, List, [], ◌∷◌, map, Option, Some, None}
 use Rattle.std.specs.Fmt.{signed_decimal}
 use Rattle.event_schema.specs.Schemas.{twin}
 use Rattle.event_schema.specs.declared.schema.Field.{Field}
@@ -8,6 +8,7 @@ use Rattle.lucene_lang.specs.declared.query.Glyph.TheVariants.{One, Run}
 use Rattle.lucene_lang.specs.Grammar.{everything, sought, a_term, a_range}
 use Rattle.lucene_layout.specs.Escaped.{name_for, term_for, end_for, as_char}
 use Rattle.lucene_layout.specs.Trees.{Tree, leaf, all, any, negated, Trees, no_trees, a_tree}
+use Rattle.backend_core.specs.FieldAt.{name_at}
 use Rattle.backend_core.specs.declared.tree.LeafTest.{LeafTest}
 use Rattle.backend_core.specs.declared.tree.LeafTest.TheVariants as tests
 use Rattle.backend_core.specs.declared.tree.Op.{Op}
@@ -15,12 +16,6 @@ use Rattle.backend_core.specs.declared.tree.Op.TheVariants as ops
 use Rattle.backend_core.specs.Trees.{Plain, Plains, no_parts, a_part}
 use Rattle.backend_core.specs.Trees as trees
 use Rattle.lucene_writer.specs.Glyphs.{glyphs_of}
-
--- the name of field k
-abbrev pub name_at : List Field → ℕ → List ℕ
-name_at [] k = []
-name_at (field ∷ fields) zero = field.name
-name_at (field ∷ fields) (suc k) = name_at fields k
 
 -- the name that is sought in: the field's own, or by case that of its twin
 abbrev pub searched : (cased : Bool) → List ℕ → List ℕ

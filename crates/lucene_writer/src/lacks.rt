@@ -6,7 +6,7 @@ ghost use Rattle.lucene_lang.specs.Faults as faults;
 ghost use Rattle.lucene_writer.specs.Lacking as spec;
 
 use crate::writer::LuceneText;
-use backend_core::{Lack, Lacking, Leaf, LeafTest};
+use backend_core::{Lack, Lacking, Leaf, LeafTest, is_many};
 use event_schema::{Field, FieldKind, Schema};
 
 /// Whether the field of this number keeps the case of its texts in a twin.
@@ -35,16 +35,6 @@ fn is_whole(fields: &[Field], number: u32) -> bool
 {
     match fields.get(number as usize) {
         Some(field) => is_whole_kind(&field.kind),
-        None => false,
-    }
-}
-
-/// Whether the field of this number may have several values.
-fn is_many(fields: &[Field], number: u32) -> bool
-    ensures { result ≡ spec.is_many fields.now number }
-{
-    match fields.get(number as usize) {
-        Some(field) => field.many,
         None => false,
     }
 }

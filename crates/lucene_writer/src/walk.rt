@@ -1,28 +1,17 @@
 //! The text of a tree.
 
 ghost use Rattle.std.specs.Prelude.{◌≡◌, ◌++◌, IfErr, OnOk};
-ghost use Rattle.std.specs.Str.{chars};
+ghost use Rattle.backend_core.specs.FieldAt.{name_at};
 ghost use Rattle.backend_core.specs.View.{tree_view};
 ghost use Rattle.lucene_writer.specs.Pieces as pieces;
-ghost use Rattle.lucene_writer.specs.Told as told;
 
 use crate::output::{put, put_if};
 use crate::place::{Standing, is_alone, is_in_and, is_whole};
 use crate::test_text::{put_never, put_test};
-use backend_core::{Leaf, LeafTest, Tree};
+use backend_core::{Leaf, LeafTest, Tree, name_of};
 use event_schema::Field;
 use sig_base::{Fault, Text};
 use std::alloc::Global;
-
-/// The name of a field, which is empty where there is no such field.
-fn name_of(fields: &[Field], field: u32) -> &str
-    ensures { chars result.now ≡ told.name_at fields.now field }
-{
-    match fields.get(field as usize) {
-        Some(field) => field.name.as_str(),
-        None => "",
-    }
-}
 
 fn put_leaf(
     alloc: Global,
@@ -31,7 +20,7 @@ fn put_leaf(
     leaf: &Leaf,
     at: Standing,
 ) -> Result<(), Fault>
-    ensures ok { OnOk result (out.new ≡ out.old ++ pieces.test_text at (told.name_at fields.now leaf.now.field) leaf.now.test) }
+    ensures ok { OnOk result (out.new ≡ out.old ++ pieces.test_text at (name_at fields.now leaf.now.field) leaf.now.test) }
     ensures err { IfErr result (λ e. e ≡ Fault.Memory) }
 {
     let name = name_of(fields, leaf.field);

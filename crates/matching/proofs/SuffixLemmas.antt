@@ -77,37 +77,38 @@ CharThen-from passes P c text passed h = record { first = c; rest = text; shape 
 pub CharThen-nil : (passes : ℕ → Bool) (P : List ℕ → Type 0) → CharThen passes P [] → ⊥
 CharThen-nil passes P h = let e : [] ≡ h.first ∷ h.rest = h.shape in cc
 
--- For definitions that are tests: a test of the text or of what is left of it behind some characters ..
-pub SuffixHolds-tests : (f g : List ℕ → Bool) → g [] ≡ f [] → ((c : ℕ) (cs : List ℕ) → g (c ∷ cs) ≡ (f (c ∷ cs) || g cs))
-    → (text : List ℕ) → (g text ≡ true) ↔ SuffixHolds (λ t. f t ≡ true) text
-SuffixHolds-tests f g at_end step [] = (
-  (λ h. SuffixHolds-here (λ t. f t ≡ true) [] (sym at_end ∙ h)),
-  (λ h. at_end ∙ SuffixHolds-nil (λ t. f t ≡ true) h),
-)
-SuffixHolds-tests f g at_end step (c ∷ cs) =
-    let behind : (g cs ≡ true) ↔ SuffixHolds (λ t. f t ≡ true) cs = SuffixHolds-tests f g at_end step cs in (
-      (λ h. elim (or_cases (f (c ∷ cs)) (g cs) (sym (step c cs) ∙ h)) [
-        | inl here ↦ SuffixHolds-here (λ t. f t ≡ true) (c ∷ cs) here
-        | inr later ↦ SuffixHolds-more (λ t. f t ≡ true) c cs (behind.0 later)
-      ]),
-      (λ h. step c cs ∙ elim (SuffixHolds-split (λ t. f t ≡ true) c cs h) [
-        | inl here ↦ or_left (f (c ∷ cs)) (g cs) here
-        | inr later ↦ or_right (f (c ∷ cs)) (g cs) (behind.1 later)
-      ]),
-    )
+-- For definitions that are tests, where a test agrees with what holds: a test of the text or of what is left of it behind some characters ..
+module _ (f : List ℕ → Bool) (holds : List ℕ → Type 0) (agrees : (text : List ℕ) → (f text ≡ true) ↔ holds text) where
+  pub SuffixHolds-tests : (g : List ℕ → Bool) → g [] ≡ f [] → ((c : ℕ) (cs : List ℕ) → g (c ∷ cs) ≡ (f (c ∷ cs) || g cs))
+      → (text : List ℕ) → (g text ≡ true) ↔ SuffixHolds holds text
+  SuffixHolds-tests g at_end step [] = (
+    (λ h. SuffixHolds-here holds [] ((agrees []).0 (sym at_end ∙ h))),
+    (λ h. at_end ∙ (agrees []).1 (SuffixHolds-nil holds h)),
+  )
+  SuffixHolds-tests g at_end step (c ∷ cs) =
+      let behind : (g cs ≡ true) ↔ SuffixHolds holds cs = SuffixHolds-tests g at_end step cs in (
+        (λ h. elim (or_cases (f (c ∷ cs)) (g cs) (sym (step c cs) ∙ h)) [
+          | inl here ↦ SuffixHolds-here holds (c ∷ cs) ((agrees (c ∷ cs)).0 here)
+          | inr later ↦ SuffixHolds-more holds c cs (behind.0 later)
+        ]),
+        (λ h. step c cs ∙ elim (SuffixHolds-split holds c cs h) [
+          | inl here ↦ or_left (f (c ∷ cs)) (g cs) ((agrees (c ∷ cs)).1 here)
+          | inr later ↦ or_right (f (c ∷ cs)) (g cs) (behind.1 later)
+        ]),
+      )
 
--- .. and a test of the first character and of the rest
-pub CharThen-tests : (passes : ℕ → Bool) (f g : List ℕ → Bool) → g [] ≡ false → ((c : ℕ) (cs : List ℕ) → g (c ∷ cs) ≡ (passes c && f cs))
-    → (text : List ℕ) → (g text ≡ true) ↔ CharThen passes (λ t. f t ≡ true) text
-CharThen-tests passes f g at_end step [] = (
-  (λ h. absurd (cc)),
-  (λ h. absurd (CharThen-nil passes (λ t. f t ≡ true) h)),
-)
-CharThen-tests passes f g at_end step (c ∷ cs) = (
-  (λ h.
-      let both : _ = and_parts (passes c) (f cs) (sym (step c cs) ∙ h) in
-      CharThen-from passes (λ t. f t ≡ true) c cs both.0 both.1),
-  (λ h.
-      let both : _ = CharThen-cons passes (λ t. f t ≡ true) c cs h in
-      step c cs ∙ and_from (passes c) (f cs) both.0 both.1),
-)
+  -- .. and a test of the first character and of the rest
+  pub CharThen-tests : (passes : ℕ → Bool) (g : List ℕ → Bool) → g [] ≡ false → ((c : ℕ) (cs : List ℕ) → g (c ∷ cs) ≡ (passes c && f cs))
+      → (text : List ℕ) → (g text ≡ true) ↔ CharThen passes holds text
+  CharThen-tests passes g at_end step [] = (
+    (λ h. absurd (cc)),
+    (λ h. absurd (CharThen-nil passes holds h)),
+  )
+  CharThen-tests passes g at_end step (c ∷ cs) = (
+    (λ h.
+        let both : _ = and_parts (passes c) (f cs) (sym (step c cs) ∙ h) in
+        CharThen-from passes holds c cs both.0 ((agrees cs).0 both.1)),
+    (λ h.
+        let both : _ = CharThen-cons passes holds c cs h in
+        step c cs ∙ and_from (passes c) (f cs) both.0 ((agrees cs).1 both.1)),
+  )

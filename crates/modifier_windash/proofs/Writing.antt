@@ -2,15 +2,12 @@
 use Rattle.std.proofs.Common.{◌≡◌, ℕ, Bool, true, false, ◌&&◌, ◌||◌, ◌==◌, List, [], ◌∷◌, refl, ap, ◌∙◌}
 use Rattle.std.specs.List.{flat_map, list_all}
 use Rattle.std.proofs.lemmas.List.Folds.{list_all-append}
+use Rattle.std.proofs.lemmas.Bool.{and_from}
 use Rattle.sig_strings.specs.Edits.{is_written, all_written}
 use Rattle.sig_strings.specs.declared.part.Part.{Part}
 use Rattle.sig_strings.specs.declared.part.Part.TheVariants.{Char, One, Run, Dash, Hole}
 use Rattle.modifier_windash.specs.Choices.{choices, before_each, dash_signs, dash_count, is_dash_place}
 use Rattle.modifier_windash.proofs.Counting.{as_before}
-
-both : (a b : Bool) → a ≡ true → b ≡ true → (a && b) ≡ true
-both true b x y = y
-both false b x y = x
 
 first_of : (a b : Bool) → (a && b) ≡ true → a ≡ true
 first_of true b h = refl
@@ -29,7 +26,7 @@ module _ (p : List Part → Bool) where
       → list_all p patterns ≡ true → list_all p (before_each part patterns) ≡ true
   kept part [] keeps all = refl
   kept part (parts ∷ patterns) keeps all =
-      both (p (part ∷ parts)) (list_all p (before_each part patterns)) (keeps parts (first_of (p parts) (list_all p patterns) all))
+      and_from (p (part ∷ parts)) (list_all p (before_each part patterns)) (keeps parts (first_of (p parts) (list_all p patterns) all))
       (kept part patterns keeps (second_of (p parts) (list_all p patterns) all))
 
   kept_rows : (signs : List ℕ) (patterns : List (List Part))
@@ -38,7 +35,7 @@ module _ (p : List Part → Bool) where
   kept_rows [] patterns keeps all = refl
   kept_rows (sign ∷ signs) patterns keeps all =
       list_all-append p (before_each (Char sign) patterns) (flat_map (λ s. before_each (Char s) patterns) signs)
-      ∙ both (list_all p (before_each (Char sign) patterns)) (list_all p (flat_map (λ s. before_each (Char s) patterns) signs))
+      ∙ and_from (list_all p (before_each (Char sign) patterns)) (list_all p (flat_map (λ s. before_each (Char s) patterns) signs))
       (kept (Char sign) patterns (keeps sign) all) (kept_rows signs patterns keeps all)
 
 abbrev has_none : List Part → Bool

@@ -1,8 +1,9 @@
 -- A whole rule stays whole.
-use Rattle.std.proofs.Common.{ℕ, suc, ◌<◌, ◌≤◌, ◌≡◌, Bool, true, false, cond, ◌||◌, length, List, [], ◌∷◌, ◌++◌, map, filter, refl, sym, subst, ap}
+use Rattle.std.proofs.Common.{ℕ, suc, ◌<◌, ◌≤◌, ◌≡◌, Bool, true, false, cond, length, List, [], ◌∷◌, ◌++◌, map, filter, refl, sym, subst, ap}
 use native.Mathlib.Omega.{arith}
 use Rattle.std.specs.Prelude.{None, Some, if◌then◌else◌, not}
 use Rattle.std.specs.List.{list_any}
+use Rattle.std.proofs.lemmas.Bool.{or_parts}
 use Rattle.event_schema.specs.Lists.{EachOf, HasElement}
 use Rattle.event_schema.specs.Names.{IsName}
 use Rattle.sig_base.specs.Judged.{first}
@@ -81,10 +82,6 @@ module _ (step : Step) where
   some_left : (items : List Item) → is_empty items ≡ false → HasElement items
   some_left [] e = absurd cc
   some_left (i ∷ is) e = tt
-
-  or_parts : (a b : Bool) → (a || b) ≡ false → (a ≡ false) × (b ≡ false)
-  or_parts true b e = absurd cc
-  or_parts false b e = (refl, e)
 
   whole_alternatives : (alternatives : List (List Item)) → EachOf IsWholeAlternative alternatives → list_any is_empty (map (kept_items step) alternatives) ≡ false
       → EachOf IsWholeAlternative (map (kept_items step) alternatives)

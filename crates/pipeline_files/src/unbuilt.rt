@@ -4,7 +4,7 @@ ghost use Rattle.std.specs.Prelude.{◌≡◌, ◌++◌, IfOk, IfErr, OnOk};
 ghost use Rattle.std.specs.List.{flat_map};
 ghost use Rattle.pipeline_files.specs.Places.{pipeline_expressions};
 ghost use Rattle.pipeline_model.specs.Checks.{added_in as spec_added_in};
-ghost use Rattle.rule_regex.specs.Building.{FoundUnbuilt, places_in};
+ghost use Rattle.rule_regex.specs.Building.{FoundUnbuilt, AreBuiltOrFound, places_in};
 ghost use Rattle.rule_detections.specs.Expressions.{item_expressions};
 ghost use Rattle.yaml_tree.specs.View.{node_view, nodes_view};
 
@@ -50,7 +50,8 @@ pub(crate) fn find_unbuilt<B: Builder>(
     node: &Node,
     builder: &mut B,
 ) -> Result<Vec<Place>, Fault>
-    ensures { FoundUnbuilt (pipeline_expressions limits.now (node_view node.now)) (B.refused builder.old) (B.refused builder.new) (places_in result) }
+    ensures found { FoundUnbuilt (pipeline_expressions limits.now (node_view node.now)) (B.refused builder.old) (B.refused builder.new) (places_in result) }
+    ensures built { IfOk result (λ places. AreBuiltOrFound (B.has_built builder.new) places.items (pipeline_expressions limits.now (node_view node.now))) }
 {
     let expressions = find_expressions(alloc, limits, node)?;
     find_unbuilt_among(alloc, expressions.as_slice(), builder)

@@ -3,6 +3,7 @@ use Rattle.std.proofs.Common.{ℕ, ◌≡◌, Bool, true, false, cond, ◌||◌,
 use Rattle.std.specs.Prelude.{if◌then◌else◌, drop, Option, Some, None, Result, Ok, Err, IfOk}
 use Rattle.std.specs.Str.{bytes_eq}
 use Rattle.std.proofs.lemmas.Slice.Eq.{bytes_eq-Decides}
+use Rattle.std.proofs.lemmas.Bool.{or_right}
 use Rattle.sig_base.specs.declared.refusal.Fault.{Fault}
 use Rattle.pipeline_model.specs.Concerned.{is_among}
 use Rattle.pipeline_model.specs.declared.step.Action.{Action}
@@ -15,10 +16,6 @@ use Rattle.pipeline_rename.proofs.NameLists.{with_append}
 use Rattle.pipeline_rename.proofs.Fronts.{each_alone}
 
 -- ---- a name that is there stays, and one that is added is there
-
-or_right : (a b : Bool) → b ≡ true → (a || b) ≡ true
-or_right true b h = refl
-or_right false b h = h
 
 same_name : (name : List ℕ) → bytes_eq name name ≡ true
 same_name name = (bytes_eq-Decides name name).1 refl

@@ -1,7 +1,8 @@
 -- Pipelines of steps on names.
 use Rattle.std.proofs.Common.{◌≡◌, ◌↔◌, Bool, true, false, List, [], ◌∷◌, ◌++◌, refl, sym, ap, subst, ◌∙◌}
-use Rattle.std.specs.Prelude.{if◌then◌else◌, ◌&&◌, Ok}
+use Rattle.std.specs.Prelude.{if◌then◌else◌, Ok}
 use Rattle.std.specs.List.{list_all}
+use Rattle.std.proofs.lemmas.Bool.{and_parts, and_from}
 use Rattle.event_schema.specs.declared.schema.Field.{Field}
 use Rattle.event_schema.specs.declared.value.Value.{Value}
 use Rattle.rule_model.specs.Matching.{Matches}
@@ -21,14 +22,6 @@ use Rattle.pipeline_run.specs.View.{is_on_names, steps_of, are_on_names, view}
 use Rattle.pipeline_run.proofs.Keeping.{same_made, goes, unrefused}
 
 -- ---- lists
-
-and_parts : (a b : Bool) → (a && b) ≡ true → (a ≡ true) × (b ≡ true)
-and_parts true b h = (refl, h)
-and_parts false b h = absurd cc
-
-and_from : (a b : Bool) → a ≡ true → b ≡ true → (a && b) ≡ true
-and_from true b h k = k
-and_from false b h k = h
 
 are_both : (xs ys : List Step) → list_all (λ (step : Step). is_on_names step.action) (xs ++ ys) ≡ true
     → (list_all (λ (step : Step). is_on_names step.action) xs ≡ true) × (list_all (λ (step : Step). is_on_names step.action) ys ≡ true)

@@ -1,21 +1,17 @@
 -- Characters with a line feed behind them, and their bytes.
-use Rattle.std.proofs.Common.{ℕ, ◌≡◌, refl, sym, ap, ◌∙◌, ◌≤◌, ◌+◌, Bool, true, false, ◌&&◌, List, [], ◌∷◌, length, arith}
+use Rattle.std.proofs.Common.{ℕ, ◌≡◌, refl, sym, ap, ◌∙◌, ◌≤◌, ◌+◌, true, List, [], ◌∷◌, length, arith}
 use Rattle.std.proofs.Math.Utf8.{scalar}
 use Rattle.std.proofs.lemmas.List.{length-append}
 use Rattle.std.proofs.lemmas.Str.{encodes-append}
 use Rattle.std.specs.Str.{all_scalars}
+use Rattle.std.proofs.lemmas.Bool.{and_parts}
 use Rattle.query_tokens.specs.Places.{IsText}
 use Rattle.query_lang.specs.Ended.{with_line_feed}
-
-both_true : (a b : Bool) → (a && b) ≡ true → (a ≡ true) × (b ≡ true)
-both_true true true h = (refl, refl)
-both_true true false h = absurd cc
-both_true false b h = absurd cc
 
 scalars_behind : (cs : List ℕ) → all_scalars cs ≡ true → all_scalars (with_line_feed cs) ≡ true
 scalars_behind [] h = refl
 scalars_behind (c ∷ cs) h =
-    let each = both_true (scalar c) (all_scalars cs) h in
+    let each = and_parts (scalar c) (all_scalars cs) h in
     let here = each.0 in
     rw here (scalars_behind cs each.1)
 

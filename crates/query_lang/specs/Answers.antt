@@ -1,19 +1,21 @@
 -- What a query language answers.
-use Rattle.std.specs.Prelude.{ℕ, ◌≡◌, ◌↔◌, Bool, true, false, List, [], ◌++◌, Result, Ok, Err, ⊤}
+use Rattle.std.specs.Prelude.{ℕ, ◌≡◌, ◌↔◌, Bool, true, false, List, [], ◌++◌, Result, Ok, Err}
 use Rattle.sig_base.specs.declared.refusal.Fault.{Fault}
 use Rattle.sig_base.specs.declared.refusal.Fault.TheVariants.{Memory, Refused}
 use Rattle.sig_base.specs.declared.refusal.Refusal.{Refusal}
 use Rattle.event_schema.specs.Lists.{SomeOf}
-use Rattle.query_lang.specs.RefusedPlaces.{PatternAt, is_of_pattern, IsAmong, IsCause, AreRefused}
+use Rattle.query_lang.specs.RefusedPlaces.{PatternAt, is_of_pattern, IsAmong, IsCause, AreOfPatterns, AreRefused}
 use Rattle.query_tokens.specs.Places.{At, CodeAt}
 
 abbrev pub place_of : Refusal → At
 place_of r = record { line = r.place.line; column = r.place.column }
 
--- A refusal is the first one, for a list of places refused for their regular expressions. With 47 or 48 the builder refused the
--- expression at its place in this call; with any other code the bytes are no query within the limits.
+-- A refusal is the first one, for a list of places refused for their regular expressions. What the builder refused in this call are
+-- regular expressions of the bytes. With 47 or 48 it refused the expression at its place; with any other code the bytes are no query
+-- within the limits.
 pub record IsFirst {Query : Type 0} (is_query is_within : Query → Type 0) (refuses : List CodeAt → Refusal → Type 0)
     (patterns : List PatternAt) (gained : List (List ℕ)) (r : Refusal) : Type 0 where
+  pub own : AreOfPatterns patterns gained
   pub places : List CodeAt
   pub are : AreRefused patterns gained places
   pub first : refuses places r
@@ -31,11 +33,11 @@ pub record IsRead {Query : Type 0} (is_query is_within : Query → Type 0) (refu
   pub are : AreRefused patterns gained places
   pub unrefused : (r : Refusal) → refuses places r → ⊥
 
--- what is answered, with the texts that the builder refused in this call
+-- what is answered, with the texts that the builder refused in this call: none where memory is missing
 abbrev pub IsAnswer : {Query : Type 0} → (is_query is_within : Query → Type 0) → (List CodeAt → Refusal → Type 0)
     → List PatternAt → List (List ℕ) → Result Query Fault → Type 0
 IsAnswer is_query is_within refuses patterns gained (Ok q) = IsRead is_query is_within refuses patterns gained q
-IsAnswer is_query is_within refuses patterns gained (Err Memory) = ⊤
+IsAnswer is_query is_within refuses patterns gained (Err Memory) = gained ≡ []
 IsAnswer is_query is_within refuses patterns gained (Err (Refused r)) = IsFirst is_query is_within refuses patterns gained r
 
 -- with what the builder's list of refused texts gained

@@ -15,6 +15,10 @@ is_of_pattern code = code == 47 || code == 48
 abbrev pub IsAmong : List ℕ → List (List ℕ) → Type 0
 IsAmong pattern refused = SomeOf (λ text. text ≡ pattern) refused
 
+-- each of these texts is a regular expression that stands there
+abbrev pub AreOfPatterns : List PatternAt → List (List ℕ) → Type 0
+AreOfPatterns patterns texts = EachOf (λ text. SomeOf (λ p. p.pattern ≡ text) patterns) texts
+
 -- 47 is of a text that is no pattern, 48 of one that the builder refused
 pub data IsCause (refused : List (List ℕ)) (pattern : List ℕ) (code : ℕ) : Type 0 where
   no_pattern : code ≡ 47 → is_pattern pattern ≡ false → IsCause refused pattern code

@@ -1,6 +1,6 @@
 //! The builder of the program.
 
-ghost use Rattle.std.specs.Prelude.{◌≡◌, [], IsErr};
+ghost use Rattle.std.specs.Prelude.{◌≡◌, ⊤, [], IsErr};
 ghost use Rattle.std.specs.Str.{chars};
 ghost use Rattle.query_lang.specs.Built.{CanRefuse, BuildAnswers};
 
@@ -61,6 +61,8 @@ impl CrateBuilder {
 
 impl Builder for CrateBuilder {
     ghost refused = { λ b. b };
+
+    ghost has_built = { λ b text. ⊤ };
 
     fn build(&mut self, alloc: Global, pattern: &str) -> Result<Regex, BuildFault> {
         self.calls = self.calls.saturating_add(1);

@@ -6,7 +6,7 @@ use Rattle.event_schema.specs.Lists.{EachOf, SomeOf}
 use Rattle.event_schema.specs.declared.schema.Schema.{Schema}
 use Rattle.query_lang.specs.Answers.{ReadAnswers, place_of}
 use Rattle.query_lang.specs.Patterns.{is_pattern}
-use Rattle.query_lang.specs.RefusedPlaces.{PatternAt, is_of_pattern, IsAmong, IsCause, no_pattern, AreRefused}
+use Rattle.query_lang.specs.RefusedPlaces.{PatternAt, is_of_pattern, IsAmong, IsCause, no_pattern, AreOfPatterns, AreRefused}
 use Rattle.query_read.specs.Answers.{AskAnswers}
 use Rattle.query_read.specs.Asked.{IsAsked, IsNotAsked, too_large, unread, most_bytes}
 use Rattle.sig_base.specs.Files.{file_start}
@@ -99,19 +99,25 @@ module _ {Query Plain : Type 0} (plain : Query → Plain) (is_query : Schema →
   too_many large same = record {
     gained = [];
     follows = same ∙ sym (append-nil before);
+    own = tt;
     answer = ((let some = some_places patterns [] in (some.0, some.1, too_large large refl)), (λ of. absurd (not_both (sym of))));
   }
+
+  none_gained : {gained : List (List ℕ)} → gained ≡ [] → AreOfPatterns patterns gained
+  none_gained none = subst (AreOfPatterns patterns) (sym none) tt
 
   pub asks : length bytes ≤ limits.query_bytes + 1 → (result : Result Query Fault)
       → ReadAnswers (λ q. is_query schema bytes (plain q)) (λ q. is_within limits schema bytes (plain q)) (refuses limits schema bytes) patterns before after result → Asks result
   asks few (Ok q) read = let a = read.answers in record {
     gained = read.gained;
     follows = read.follows;
+    own = none_gained a.built;
     answer = ((a.places, a.are, record { short = few; reads = a.query; within = a.within; unrefused = a.unrefused }), a.built);
   }
-  asks few (Err Memory) read = record { gained = read.gained; follows = read.follows; answer = tt }
+  asks few (Err Memory) read = record { gained = read.gained; follows = read.follows; own = none_gained read.answers; answer = read.answers }
   asks few (Err (Refused r)) read = let a = read.answers in record {
     gained = read.gained;
     follows = read.follows;
+    own = a.own;
     answer = ((a.places, a.are, unread few a.first), a.built);
   }

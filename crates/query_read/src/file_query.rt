@@ -1,7 +1,8 @@
 //! Reading the query of a file.
 
+ghost use Rattle.std.specs.Prelude.{◌≡◌, ◌<◌, length};
 ghost use Rattle.query_read.specs.Answers.{AskAnswers};
-ghost use Rattle.query_read.specs.Asked.{IsAsked, IsNotAsked};
+ghost use Rattle.query_read.specs.Asked.{IsAsked, IsNotAsked, most_bytes};
 
 use event_schema::Schema;
 use query_lang::{Builder, Language};
@@ -17,9 +18,10 @@ pub fn read_query<L: Language, B: Builder>(
     bytes: &[u8],
     builder: &mut B,
 ) -> Result<L::Query, Fault>
-    ensures { AskAnswers (λ places q. IsAsked L.is_query L.is_within L.refuses limits.now schema.now places bytes.now (L.plain q))
+    ensures answers { AskAnswers (λ places q. IsAsked L.is_query L.is_within L.refuses limits.now schema.now places bytes.now (L.plain q))
         (λ places r. IsNotAsked L.is_query L.is_within L.refuses limits.now schema.now places bytes.now r)
         (L.patterns bytes.now) (B.refused builder.old) (B.refused builder.new) result }
+    ensures large { most_bytes limits.now < length bytes.now → B.refused builder.new ≡ B.refused builder.old }
 {
     if bytes.len() > limits.query_bytes + 1 {
         return Err(refused(Code::TOO_LARGE, Place::START));

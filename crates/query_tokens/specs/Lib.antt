@@ -1,3 +1,4 @@
 pub mod Places
+pub mod PlaceView
 pub mod Tokens
 pub mod Spelled

@@ -5,5 +5,7 @@
 #![tactic(auto)]
 
 mod laws;
+mod places;
 
 pub use laws::text_or_bad_place;
+pub use places::{after, place_behind};

@@ -1,10 +1,11 @@
 -- Whole rules that fit a schema: each item passes, and each test stands on a field of a kind that takes it.
 use Rattle.std.proofs.Common.{ℕ, suc, ◌≡◌, ◌↔◌, ◌+◌, ◌<◌, ◌≤◌, nat_lt, cond, arith, Bool, true, false, ◌||◌, ◌&&◌, not, if◌then◌else◌, List, [], ◌∷◌, ◌++◌, length, refl, sym, ap, ◌∙◌}
-use Rattle.std.specs.Prelude.{Option, Some, None, unwrap_or, ⊤}
+use Rattle.std.specs.Prelude.{Some, None, unwrap_or, ⊤}
 use Rattle.std.specs.List.{flat_map, list_any, list_all, position_or_len}
 use Rattle.std.proofs.lemmas.Bool.Decides.{nat_tests}
 use Rattle.std.specs.Str.{bytes_eq}
-use Rattle.backend_core.specs.Sound.{kind_at}
+use Rattle.std.proofs.lemmas.Bool.{or_left, or_right}
+use Rattle.backend_core.specs.FieldAt.{kind_at}
 use Rattle.event_schema.specs.Events.{IsWholeNumber}
 use Rattle.event_schema.specs.Lists.{EachOf}
 use Rattle.event_schema.specs.declared.schema.Field.{Field}
@@ -123,13 +124,6 @@ module _ (fields : List Field) where
   patterns_met kind [] h = tt
   patterns_met kind (t ∷ ts) h = (pattern_met kind t h.0, patterns_met kind ts h.1)
 
-left_true : (a b : Bool) → a ≡ true → (a || b) ≡ true
-left_true a b is = rw is refl
-
-right_true : (a b : Bool) → b ≡ true → (a || b) ≡ true
-right_true true b is = refl
-right_true false b is = is
-
 -- the name that a test compares with, as `references_in` lists it
 abbrev one_named : Test → List (List ℕ)
 one_named test = listed (reference_of test)
@@ -151,8 +145,8 @@ module _ (fields : List Field) (kind : FieldKind) where
   tests_met [] plain asked like = tt
   tests_met (t ∷ ts) plain asked like =
       let parts = (each_append (IsLike fields kind) (one_named t) (flat_map one_named ts)).0 like in (
-        test_met t plain.0 (λ is. asked (left_true (asks_address t) (list_any asks_address ts) is)) parts.0,
-        tests_met ts plain.1 (λ is. asked (right_true (asks_address t) (list_any asks_address ts) is)) parts.1,
+        test_met t plain.0 (λ is. asked (or_left (asks_address t) (list_any asks_address ts) is)) parts.0,
+        tests_met ts plain.1 (λ is. asked (or_right (asks_address t) (list_any asks_address ts) is)) parts.1,
       )
 
   values_met : (values : List (List Test)) → EachOf IsWholeValue values → (some_asks asks_address values ≡ true → kind ≡ kinds.Address)
@@ -160,8 +154,8 @@ module _ (fields : List Field) (kind : FieldKind) where
   values_met [] whole asked like = tt
   values_met (ts ∷ values) whole asked like =
       let parts = (each_append (IsLike fields kind) (flat_map one_named ts) (flat_map (λ us. flat_map one_named us) values)).0 like in (
-        tests_met ts whole.0.each (λ is. asked (left_true (list_any asks_address ts) (some_asks asks_address values) is)) parts.0,
-        values_met values whole.1 (λ is. asked (right_true (list_any asks_address ts) (some_asks asks_address values) is)) parts.1,
+        tests_met ts whole.0.each (λ is. asked (or_left (list_any asks_address ts) (some_asks asks_address values) is)) parts.0,
+        values_met values whole.1 (λ is. asked (or_right (list_any asks_address ts) (some_asks asks_address values) is)) parts.1,
       )
 
 -- the place of the first field of a name, or the number of fields

@@ -5,7 +5,7 @@ use Rattle.std.specs.List.{flat_map}
 use Rattle.std.proofs.Math.Nat.{mul-suc, add-mul}
 use Rattle.std.proofs.lemmas.List.{length-map}
 use Rattle.std.proofs.lemmas.List.Sums.{sum_by-cons, sum_by-append}
-use Rattle.backend_core.specs.Sound.{kind_at}
+use Rattle.backend_core.specs.FieldAt.{kind_at}
 use Rattle.backend_core.specs.Trees.{Plain, all, any, negated, leaf, never, Plains, no_parts, a_part}
 use Rattle.backend_core.specs.declared.tree.LeafTest.{LeafTest}
 use Rattle.event_schema.specs.declared.schema.Field.{Field}

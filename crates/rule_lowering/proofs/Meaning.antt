@@ -2,7 +2,7 @@
 use Rattle.std.proofs.Common.{ℕ, zero, suc, ◌≡◌, ◌<◌, ◌≤◌, ◌^◌, ◌↔◌, Bool, true, false, inl, inr, List, [], ◌∷◌, length, map, refl, subst}
 use Rattle.std.specs.Prelude.{Option, Some, None, unwrap_or}
 use Rattle.backend_core.specs.Holds.{TreeHolds}
-use Rattle.backend_core.specs.Sound.{kind_at}
+use Rattle.backend_core.specs.FieldAt.{kind_at}
 use Rattle.backend_core.specs.Trees.{Plain}
 use Rattle.event_schema.specs.Addresses.{IsAddress}
 use Rattle.event_schema.specs.Events.{IsOfKind, IsEvent}

@@ -4,7 +4,8 @@ use Rattle.std.specs.Prelude.{Option, Some, None, option_map, ⊤}
 use Rattle.std.specs.Fmt.{signed_decimal}
 use Rattle.std.specs.List.{flat_map, list_all}
 use Rattle.std.proofs.lemmas.Bool.{and_parts}
-use Rattle.backend_core.specs.Sound.{IsSoundPattern, kind_at, IsSoundTest, AreTwo, IsSound, AreSound}
+use Rattle.backend_core.specs.FieldAt.{kind_at}
+use Rattle.backend_core.specs.Sound.{IsSoundPattern, IsSoundTest, AreTwo, IsSound, AreSound}
 use Rattle.backend_core.specs.Trees.{Plain, all, any, negated, leaf, never, Plains, no_parts, a_part}
 use Rattle.backend_core.specs.declared.tree.LeafTest.{LeafTest}
 use Rattle.backend_core.specs.declared.tree.LeafTest.TheVariants as leaf_tests

@@ -1,23 +1,14 @@
 -- The trees of vectors, and their parts.
-use Rattle.std.proofs.Common.{◌≡◌, rules, refl, sym, ap, ◌∙◌, List, [], ◌∷◌, ◌++◌, length, map, arith}
-use Rattle.std.specs.declared.alloc.Global.{Global}
-use Rattle.std.specs.declared.vec.Vec.{Vec}
-use Rattle.std.proofs.lemmas.List.{map-append}
-use Rattle.backend_core.specs.Trees.{Plain, all, any, Plains, a_part}
+use Rattle.std.proofs.Common.{◌≡◌, refl, sym, ap, ◌∙◌, List, [], ◌∷◌, ◌++◌, length, map, arith}
+use Rattle.std.specs.Prelude.{Result, Ok, Err, OnOk}
+use Rattle.backend_core.specs.Joins.{append, all_parts, any_parts}
+use Rattle.backend_core.specs.Trees.{Plain, all, any, negated, leaf, never, Plains, no_parts, a_part}
 use Rattle.backend_core.specs.View.{tree_view, plains_of}
 use Rattle.backend_core.specs.declared.tree.Tree.{Tree}
 use Rattle.backend_core.specs.declared.tree.Tree as trees
-use Rattle.backend_core.specs.declared.tree.Tree.TheViews.{the_lemmas}
-use Rattle.backend_core.proofs.Copies.{row_plains}
 use Rattle.modifier_words.specs.declared.modifier.Joined.{Joined}
 use Rattle.modifier_words.specs.declared.modifier.Joined.TheVariants.{All, Any}
 use Rattle.rule_lowering.specs.Joining.{plains, listed, parts_of, tree_with, closed}
-
-pub view-All : (v : Vec Tree Global) → tree_view (trees.All v) ≡ all (plains_of v.items)
-view-All v = search (rules, the_lemmas, row_plains)
-
-pub view-Any : (v : Vec Tree Global) → tree_view (trees.Any v) ≡ any (plains_of v.items)
-view-Any v = search (rules, the_lemmas, row_plains)
 
 pub plains_are : (ts : List Tree) → plains_of ts ≡ plains (map tree_view ts)
 plains_are [] = refl
@@ -27,17 +18,38 @@ pub listed_again : (ts : List Plain) → listed (plains ts) ≡ ts
 listed_again [] = refl
 listed_again (t ∷ ts) = ap (λ (us : List Plain). t ∷ us) (listed_again ts)
 
-pub parts-All : (v : Vec Tree Global) → parts_of All (tree_view (trees.All v)) ≡ map tree_view v.items
-parts-All v = ap (parts_of All) (view-All v) ∙ (ap listed (plains_are v.items) ∙ listed_again (map tree_view v.items))
+listed_trees : (ts : List Tree) → listed (plains_of ts) ≡ map tree_view ts
+listed_trees ts = ap listed (plains_are ts) ∙ listed_again (map tree_view ts)
 
-pub parts-Any : (v : Vec Tree Global) → parts_of Any (tree_view (trees.Any v)) ≡ map tree_view v.items
-parts-Any v = ap (parts_of Any) (view-Any v) ∙ (ap listed (plains_are v.items) ∙ listed_again (map tree_view v.items))
+listed_joined : (ts us : Plains) → listed (append ts us) ≡ listed ts ++ listed us
+listed_joined no_parts us = refl
+listed_joined (a_part t ts) us = ap (λ (vs : List Plain). t ∷ vs) (listed_joined ts us)
 
--- an inner list moves over
-pub moves_over : (j : Joined) (old inner new : List Tree) (t : Plain) → parts_of j t ≡ map tree_view inner → new ≡ old ++ inner
-    → map tree_view new ≡ map tree_view old ++ parts_of j t
-moves_over j old inner new t p e =
-    ap (map tree_view) e ∙ (map-append tree_view old inner ∙ ap (λ (ts : List Plain). map tree_view old ++ ts) (sym p))
+pub listed_all : (t : Plain) → listed (all_parts t) ≡ parts_of All t
+listed_all (all ts) = refl
+listed_all (any ts) = refl
+listed_all (negated t) = refl
+listed_all (leaf l) = refl
+listed_all never = refl
+
+pub listed_any : (t : Plain) → listed (any_parts t) ≡ parts_of Any t
+listed_any (all ts) = refl
+listed_any (any ts) = refl
+listed_any (negated t) = refl
+listed_any (leaf l) = refl
+listed_any never = refl
+
+-- a list of parts is joined with these
+joined_as : (old new : List Tree) (added : Plains) (parts : List Plain) → listed added ≡ parts → plains_of new ≡ append (plains_of old) added
+    → map tree_view new ≡ map tree_view old ++ parts
+joined_as old new added parts are joined =
+    sym (listed_trees new) ∙ (ap listed joined ∙ (listed_joined (plains_of old) added ∙ (ap (λ (ts : List Plain). ts ++ listed added) (listed_trees old)
+    ∙ ap (λ (ts : List Plain). map tree_view old ++ ts) are)))
+
+pub adds : {A E : Type 0} (result : Result A E) (old new : List Tree) (t : Plain) (j k : Joined) (parts : Plain → Plains) → j ≡ k → listed (parts t) ≡ parts_of k t
+    → OnOk result (plains_of new ≡ append (plains_of old) (parts t)) → OnOk result (map tree_view new ≡ map tree_view old ++ parts_of j t)
+adds (Ok x) old new t j k parts is are joined = joined_as old new (parts t) (parts_of j t) (are ∙ ap (λ (i : Joined). parts_of i t) (sym is)) joined
+adds (Err e) old new t j k parts is are joined = tt
 
 -- the end of a list of parts that isn't one
 with_rest : (j : Joined) (ts : List Tree) → (length ts ≡ 1 → ⊥) → tree_with j (plains_of ts) ≡ closed j (map tree_view ts)

@@ -2,7 +2,7 @@
 #![tactic(auto, using(crate::proofs::Levels::level_ends))]
 
 ghost use Rattle.std.specs.Prelude.{◌≡◌, map, IfOk, IfErr};
-ghost use Rattle.backend_core.specs.Sound.{kind_at};
+ghost use Rattle.backend_core.specs.FieldAt.{kind_at};
 ghost use Rattle.backend_core.specs.View.{tree_view};
 ghost use Rattle.rule_lowering.specs.Joining.{join};
 ghost use Rattle.schema_index.specs.Numbered.{AreNumbered};
@@ -12,10 +12,9 @@ ghost use Rattle.rule_detections.specs.declared.item.Fields.TheVariants.{Keyword
 ghost use Rattle.modifier_words.specs.declared.modifier.Joined.TheVariants.{Any};
 ghost use Rattle.rule_detections.specs.declared.test.Test.TheVariants.{Fits, Inside};
 
-use crate::field_kind::kind_of;
 use crate::joins::{add_part, close_parts};
 use crate::leaf_tests::leaf_test;
-use backend_core::{Leaf, LeafTest, Tree};
+use backend_core::{Leaf, LeafTest, Tree, kind_of};
 use event_schema::Field;
 use modifier_windash::{choice, dash_count};
 use modifier_words::Joined;

@@ -4,57 +4,10 @@ ghost use Rattle.std.specs.Prelude.{◌≡◌, ◌++◌, OnOk, map};
 ghost use Rattle.backend_core.specs.View.{tree_view, plains_of};
 ghost use Rattle.rule_lowering.specs.Joining as spec;
 ghost use Rattle.rule_lowering.specs.Joining.{parts_of, closed};
-ghost use Rattle.modifier_words.specs.declared.modifier.Joined.TheVariants.{All, Any};
 
-use backend_core::Tree;
+use backend_core::{Tree, add_to_all, add_to_any};
 use modifier_words::Joined;
 use std::alloc::AllocError;
-
-fn add_to_all(parts: &mut Vec<Tree>, tree: Tree) -> Result<(), AllocError>
-    ensures { OnOk result (map tree_view parts.new.items ≡ map tree_view parts.old.items ++ parts_of All (tree_view tree)) }
-{
-    match tree {
-        Tree::All(mut inner) => {
-            parts.append(&mut inner)?;
-        }
-        Tree::Any(inner) => {
-            parts.push(Tree::Any(inner))?;
-        }
-        Tree::Not(inner) => {
-            parts.push(Tree::Not(inner))?;
-        }
-        Tree::Leaf(leaf) => {
-            parts.push(Tree::Leaf(leaf))?;
-        }
-        Tree::Never => {
-            parts.push(Tree::Never)?;
-        }
-    }
-    Ok(())
-}
-
-fn add_to_any(parts: &mut Vec<Tree>, tree: Tree) -> Result<(), AllocError>
-    ensures { OnOk result (map tree_view parts.new.items ≡ map tree_view parts.old.items ++ parts_of Any (tree_view tree)) }
-{
-    match tree {
-        Tree::All(inner) => {
-            parts.push(Tree::All(inner))?;
-        }
-        Tree::Any(mut inner) => {
-            parts.append(&mut inner)?;
-        }
-        Tree::Not(inner) => {
-            parts.push(Tree::Not(inner))?;
-        }
-        Tree::Leaf(leaf) => {
-            parts.push(Tree::Leaf(leaf))?;
-        }
-        Tree::Never => {
-            parts.push(Tree::Never)?;
-        }
-    }
-    Ok(())
-}
 
 /// Adds a tree to the parts of an All, or of an Any: of a tree of the same kind its parts, else the tree itself.
 pub fn add_part(joined: Joined, parts: &mut Vec<Tree>, tree: Tree) -> Result<(), AllocError>

@@ -5,7 +5,6 @@ pub use laws::{tree_is_sound, tree_means_rule};
 pub use rule::lower;
 
 mod detection_trees;
-mod field_kind;
 mod formula;
 mod joins;
 mod laws;

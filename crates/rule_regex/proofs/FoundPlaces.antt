@@ -1,9 +1,10 @@
 -- The places of regular expressions that aren't built, one after another.
-use Rattle.std.proofs.Common.{ℕ, ◌≡◌, ◌∙◌, Bool, true, false, List, [], ◌∷◌, ◌++◌, inl, refl, sym, ap, subst, append-nil, append_assoc}
+use Rattle.std.proofs.Common.{ℕ, ◌≡◌, ◌∙◌, Bool, true, false, List, [], ◌∷◌, ◌++◌, ◌⊎◌, inl, inr, refl, sym, ap, subst, append-nil, append_assoc}
 use Rattle.std.specs.Prelude.{Ok, Err}
+use Rattle.event_schema.specs.Lists.{SomeOf}
 use Rattle.query_lang.specs.Patterns.{is_pattern}
 use Rattle.query_lang.specs.RefusedPlaces.{IsAmong}
-use Rattle.rule_regex.specs.Building.{TellsBuilt, FoundUnbuilt}
+use Rattle.rule_regex.specs.Building.{TellsBuilt, FoundUnbuilt, AreBuiltOrFound}
 use Rattle.rule_regex.specs.Unbuilt.{ArePlacesOf, IsOneOf, AreIllRefused}
 use Rattle.rule_detections.specs.declared.expression.Expression.{Expression}
 use Rattle.sig_base.specs.declared.refusal.Fault.{Fault}
@@ -67,3 +68,18 @@ found_no_memory es more all before now after places f whole found same is = reco
   follows = same ∙ found.follows;
   finds = (is, places, subst (λ (xs : List Expression). ArePlacesOf (IsOneOf xs) found.refused places) whole (wider es more found.refused places found.finds.0));
 }
+
+-- ---- what is built, or found not to be
+
+-- with one more that is built, or whose place is found
+pub one_more : (Old New : List ℕ → Type 0) → ((text : List ℕ) → Old text → New text) → (places all : List Place)
+    → ((p : Place) → SomeOf (λ q. q ≡ p) places → SomeOf (λ q. q ≡ p) all) → (es : List Expression) (e : Expression) → AreBuiltOrFound Old places es
+    → New e.text ⊎ SomeOf (λ q. q ≡ e.place) all → AreBuiltOrFound New all (es ++ e ∷ [])
+one_more Old New keeps places all wide es e each one =
+    each_joined (λ (x : Expression). New x.text ⊎ SomeOf (λ q. q ≡ x.place) all) es (e ∷ [])
+    (each_map (λ (x : Expression). Old x.text ⊎ SomeOf (λ q. q ≡ x.place) places) (λ (x : Expression). New x.text ⊎ SomeOf (λ q. q ≡ x.place) all) es
+    (λ x is. elim is [
+      | inl built ↦ inl (keeps x.text built)
+      | inr found ↦ inr (wide x.place found)
+    ]) each)
+    (one, tt)

@@ -1,5 +1,5 @@
 -- What building regular expressions answers, by the texts that the builder had refused before and those that it has refused after.
-use Rattle.std.specs.Prelude.{◌≡◌, ℕ, Bool, true, false, List, [], ◌∷◌, ◌++◌, Result, Ok, Err}
+use Rattle.std.specs.Prelude.{◌≡◌, ℕ, Bool, true, false, List, [], ◌∷◌, ◌++◌, ◌⊎◌, Result, Ok, Err}
 use Rattle.std.specs.declared.alloc.Global.{Global}
 use Rattle.std.specs.declared.vec.Vec.{Vec}
 use Rattle.event_schema.specs.Lists.{EachOf, SomeOf}
@@ -17,6 +17,14 @@ abbrev pub TellsBuilt : List (List ℕ) → List (List ℕ) → List ℕ → Res
 TellsBuilt before after text (Ok true) = (after ≡ before) × (is_pattern text ≡ true)
 TellsBuilt before after text (Ok false) = after ≡ before ++ text ∷ []
 TellsBuilt before after text (Err e) = (after ≡ before) × (e ≡ Memory)
+
+-- all of these are built, where a builder has built the texts of which it holds
+abbrev pub AreBuilt : (List ℕ → Type 0) → List Expression → Type 0
+AreBuilt HasBuilt expressions = EachOf (λ e. HasBuilt e.text) expressions
+
+-- each of these is built, or its place is among these places
+abbrev pub AreBuiltOrFound : (List ℕ → Type 0) → List Place → List Expression → Type 0
+AreBuiltOrFound HasBuilt places expressions = EachOf (λ e. HasBuilt e.text ⊎ SomeOf (λ p. p ≡ e.place) places) expressions
 
 abbrev pub places_in : Result (Vec Place Global) Fault → Result (List Place) Fault
 places_in (Ok places) = Ok places.items

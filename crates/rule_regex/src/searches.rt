@@ -1,7 +1,7 @@
 //! Building the regular expressions of a rule.
 
-ghost use Rattle.std.specs.Prelude.{◌≡◌, ◌∷◌, [], map};
-ghost use Rattle.rule_regex.specs.Building.{Builds};
+ghost use Rattle.std.specs.Prelude.{◌≡◌, ◌∷◌, [], map, IfOk};
+ghost use Rattle.rule_regex.specs.Building.{Builds, AreBuilt};
 ghost use Rattle.rule_model.specs.Expressions.{rule_expressions};
 ghost use Rattle.rule_model.specs.Plain.{rule_view};
 
@@ -53,7 +53,8 @@ fn build_all<B: Builder>(
     builder: &mut B,
     expressions: &[Expression],
 ) -> Result<(), Fault>
-    ensures { Builds (λ done. Unit {0}) expressions.now (B.refused builder.old) (B.refused builder.new) result }
+    ensures builds { Builds (λ done. Unit {0}) expressions.now (B.refused builder.old) (B.refused builder.new) result }
+    ensures built { IfOk result (λ done. AreBuilt (B.has_built builder.new) expressions.now) }
 {
     for expression in expressions {
         if !is_built(alloc, builder, &expression.text)? {
@@ -66,7 +67,8 @@ fn build_all<B: Builder>(
 /// Builds the regular expressions that a rule's items search for, in their order. Where the builder refuses one, 48 is answered
 /// at its item's place.
 pub fn build_items<B: Builder>(alloc: Global, rule: &Rule, builder: &mut B) -> Result<(), Fault>
-    ensures { Builds (λ done. Unit {0}) (rule_expressions (rule_view rule.now)) (B.refused builder.old) (B.refused builder.new) result }
+    ensures builds { Builds (λ done. Unit {0}) (rule_expressions (rule_view rule.now)) (B.refused builder.old) (B.refused builder.new) result }
+    ensures built { IfOk result (λ done. AreBuilt (B.has_built builder.new) (rule_expressions (rule_view rule.now))) }
 {
     let expressions = rule.expressions(alloc)?;
     build_all(alloc, builder, expressions.as_slice())

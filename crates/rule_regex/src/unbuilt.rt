@@ -1,7 +1,7 @@
 //! Where the regular expressions of a document aren't built.
 
-ghost use Rattle.std.specs.Prelude.{◌≡◌};
-ghost use Rattle.rule_regex.specs.Building.{TellsBuilt, FoundUnbuilt, places_in};
+ghost use Rattle.std.specs.Prelude.{◌≡◌, ℕ, true, List, IfOk};
+ghost use Rattle.rule_regex.specs.Building.{TellsBuilt, FoundUnbuilt, AreBuiltOrFound, places_in};
 ghost use Rattle.rule_model.specs.Expressions.{document_expressions};
 ghost use Rattle.yaml_tree.specs.View.{node_view};
 
@@ -18,7 +18,9 @@ pub(crate) fn is_built<B: Builder>(
     builder: &mut B,
     text: &Text,
 ) -> Result<bool, Fault>
-    ensures { TellsBuilt (B.refused builder.old) (B.refused builder.new) text.now result }
+    ensures tells { TellsBuilt (B.refused builder.old) (B.refused builder.new) text.now result }
+    ensures built { IfOk result (λ yes. yes ≡ true → B.has_built builder.new text.now) }
+    ensures keeps { (built : List ℕ) → B.has_built builder.old built → B.has_built builder.new built }
 {
     match builder.build(alloc, text.as_str()) {
         Ok(_) => Ok(true),
@@ -34,7 +36,8 @@ pub fn find_unbuilt_among<B: Builder>(
     expressions: &[Expression],
     builder: &mut B,
 ) -> Result<Vec<Place>, Fault>
-    ensures { FoundUnbuilt expressions.now (B.refused builder.old) (B.refused builder.new) (places_in result) }
+    ensures found { FoundUnbuilt expressions.now (B.refused builder.old) (B.refused builder.new) (places_in result) }
+    ensures built { IfOk result (λ places. AreBuiltOrFound (B.has_built builder.new) places.items expressions.now) }
 {
     let mut unbuilt = Vec::new(alloc);
     for expression in expressions {
@@ -53,7 +56,8 @@ pub fn find_unbuilt<B: Builder>(
     node: &Node,
     builder: &mut B,
 ) -> Result<Vec<Place>, Fault>
-    ensures { FoundUnbuilt (document_expressions limits.now (node_view node.now)) (B.refused builder.old) (B.refused builder.new) (places_in result) }
+    ensures found { FoundUnbuilt (document_expressions limits.now (node_view node.now)) (B.refused builder.old) (B.refused builder.new) (places_in result) }
+    ensures built { IfOk result (λ places. AreBuiltOrFound (B.has_built builder.new) places.items (document_expressions limits.now (node_view node.now))) }
 {
     let expressions = find_expressions(alloc, limits, node)?;
     find_unbuilt_among(alloc, expressions.as_slice(), builder)

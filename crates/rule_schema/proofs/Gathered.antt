@@ -7,6 +7,7 @@ use Rattle.std.specs.Str.{bytes_eq}
 use Rattle.std.specs.declared.result.Result.{Result}
 use Rattle.std.proofs.lemmas.List.Folds.{list_any-append}
 use Rattle.std.proofs.lemmas.Slice.Eq.{bytes_eq-Decides}
+use Rattle.std.proofs.lemmas.Bool.{or_parts, cases_Bool}
 use Rattle.event_schema.specs.Lists.{EachOf}
 use Rattle.event_schema.specs.Schemas.{IsOther, AreApart}
 use Rattle.event_schema.specs.declared.schema.Field.{Field}
@@ -22,7 +23,7 @@ use Rattle.rule_schema.specs.Gathered.{Gathers, texts_of, folds_to, differs, cla
 use Rattle.rule_schema.specs.Inferred.{Use, item_uses, uses_of, items_of, distinct, asks_in, made_field, clashes, clash_behind}
 use Rattle.rule_schema.specs.Kinds.{Asks, opposed, kind_for}
 use Rattle.rule_schema.specs.declared.names.Named.{Named}
-use Rattle.rule_schema.proofs.Gathering.{choose, sure, clash}
+use Rattle.rule_schema.proofs.Gathering.{choose, clash}
 
 -- ---- Booleans and texts
 
@@ -57,10 +58,6 @@ and_either true true false = refl
 and_either true false false = refl
 and_either false b c = refl
 
-neither : (a b : Bool) → (a || b) ≡ false → (a ≡ false) × (b ≡ false)
-neither true b e = absurd cc
-neither false b e = (refl, e)
-
 true_false : true ≡ false → ⊥
 true_false e = cc
 
@@ -72,7 +69,7 @@ self a = (bytes_eq-Decides a a).1 refl
 
 -- texts that differ when folded differ
 apart : (a b : List ℕ) → (folded a ≡ folded b → ⊥) → bytes_eq a b ≡ false
-apart a b f = elim (sure (bytes_eq a b)) [
+apart a b f = elim (cases_Bool (bytes_eq a b)) [
   | inl h ↦ absurd (f (ap folded (equal a b h)))
   | inr h ↦ h
 ]
@@ -83,7 +80,7 @@ not_true false e = absurd cc
 
 -- no difference is none of the names
 one_name : (n : Named) (u : Use) → differs n u ≡ false → n.name ≡ u.name
-one_name n u e = equal n.name u.name (not_true (bytes_eq n.name u.name) (neither (not (bytes_eq n.name u.name)) (opposed (asks_view n.asked) u.asks) e).0)
+one_name n u e = equal n.name u.name (not_true (bytes_eq n.name u.name) (or_parts (not (bytes_eq n.name u.name)) (opposed (asks_view n.asked) u.asks) e).0)
 
 -- ---- tests of a name and of what is asked
 
@@ -102,7 +99,7 @@ some_used p us = list_any (λ u. p u.name u.asks) us
 
 some_with : (p : Tests) → Adds p → (ns : List Named) (u : Use) → clash_with ns u ≡ false → some_named p (with_use ns u) ≡ (some_named p ns || p u.name u.asks)
 some_with p adds [] u e = or_no (p u.name u.asks)
-some_with p adds (n ∷ ns) u e = by (sure (folds_to (folded u.name) n.name)) (some_with p adds ns u) where
+some_with p adds (n ∷ ns) u e = by (cases_Bool (folds_to (folded u.name) n.name)) (some_with p adds ns u) where
   here : folds_to (folded u.name) n.name ≡ true → n.name ≡ u.name
   here h = one_name n u (rw h at e)
 
@@ -135,7 +132,7 @@ behind_use ns ms u us e =
     ]
 
 free : (ns : List Named) (u : Use) → clash ns u ≡ false → clash_with ns u ≡ false
-free ns u e = (neither (opposed u.asks u.asks) (clash_with ns u) e).1
+free ns u e = (or_parts (opposed u.asks u.asks) (clash_with ns u) e).1
 
 some_gathered : (p : Tests) → Adds p → (ns ms : List Named) (us : List Use) → gathered ns us ≡ Ok ms → some_named p ms ≡ (some_named p ns || some_used p us)
 some_gathered p adds ns ms [] e = ap (some_named p) (sym (ok_same ns ms e)) ∙ sym (or_no (some_named p ns))
@@ -188,7 +185,7 @@ clash_adds x name a b = by (bytes_eq (folded name) (folded x.name)) (bytes_eq na
 none_alike : (name : List ℕ) (u : Use) (ns : List Named) → folded name ≡ folded u.name → IsOther name (texts_of ns) → some_named (clash_by u) ns ≡ false
 none_alike name u [] e o = refl
 none_alike name u (n ∷ ns) e o =
-    elim (sure (bytes_eq (folded n.name) (folded u.name))) [
+    elim (cases_Bool (bytes_eq (folded n.name) (folded u.name))) [
       | inl h ↦ absurd (o.0 (equal (folded n.name) (folded u.name) h ∙ sym e))
       | inr h ↦ rw h (none_alike name u ns e o.1)
     ]
@@ -197,7 +194,7 @@ none_alike name u (n ∷ ns) e o =
 clash_is : (ns : List Named) (u : Use) → AreApart (texts_of ns) → clash_with ns u ≡ some_named (clash_by u) ns
 clash_is [] u a = refl
 clash_is (n ∷ ns) u a =
-    elim (sure (bytes_eq (folded n.name) (folded u.name))) [
+    elim (cases_Bool (bytes_eq (folded n.name) (folded u.name))) [
       | inl h ↦
           let none = none_alike n.name u ns (equal (folded n.name) (folded u.name) h) a.0 in
           rw h (sym (or_no (differs n u)) ∙ ap (λ (b : Bool). differs n u || b) (sym none))
@@ -253,7 +250,7 @@ with_name names name = if list_any (λ other. bytes_eq other name) names then na
 
 names_with : (ns : List Named) (u : Use) → clash_with ns u ≡ false → texts_of (with_use ns u) ≡ with_name (texts_of ns) u.name
 names_with [] u e = refl
-names_with (n ∷ ns) u e = by (sure (folds_to (folded u.name) n.name)) (names_with ns u) where
+names_with (n ∷ ns) u e = by (cases_Bool (folds_to (folded u.name) n.name)) (names_with ns u) where
   first : (names : List (List ℕ)) (b : Bool) → list_any (λ other. bytes_eq other u.name) names ≡ b
       → n.name ∷ with_name names u.name ≡ (if false || b then n.name ∷ names else n.name ∷ (names ++ u.name ∷ []))
   first names true h = rw h refl
@@ -273,7 +270,7 @@ or_end : (p : List ℕ → Bool) (ns : List (List ℕ)) (x : List ℕ) → list_
 or_end p ns x = list_any-append p ns (x ∷ []) ∙ ap (λ (b : Bool). list_any p ns || b) (or_no (p x))
 
 turned : (a b : List ℕ) → bytes_eq a b ≡ bytes_eq b a
-turned a b = by (sure (bytes_eq a b)) (sure (bytes_eq b a)) where
+turned a b = by (cases_Bool (bytes_eq a b)) (cases_Bool (bytes_eq b a)) where
   by : (bytes_eq a b ≡ true) ⊎ (bytes_eq a b ≡ false) → (bytes_eq b a ≡ true) ⊎ (bytes_eq b a ≡ false) → bytes_eq a b ≡ bytes_eq b a
   by (inl h) k = h ∙ sym ((bytes_eq-Decides b a).1 (sym (equal a b h)))
   by (inr h) (inl k) = (bytes_eq-Decides a b).1 (sym (equal b a k)) ∙ sym k
@@ -296,14 +293,14 @@ behind_first false b f e = e
 there : (p : List ℕ → Bool) (name : List ℕ) (ns : List (List ℕ)) → list_any (λ other. bytes_eq other name) ns ≡ true → (list_any p ns || p name) ≡ list_any p ns
 there p name [] e = cc
 there p name (n ∷ ns) e =
-    elim (sure (bytes_eq n name)) [
+    elim (cases_Bool (bytes_eq n name)) [
       | inl h ↦ ap (λ (m : List ℕ). list_any p (n ∷ ns) || p m) (sym (equal n name h)) ∙ absorbed (p n) (list_any p ns)
       | inr h ↦ later (p n) (list_any p ns) (p name) (there p name ns (behind_first (bytes_eq n name) _ h e))
     ]
 
 -- with a name behind the others, a test passes where it did before or passes of the name
 with_any : (p : List ℕ → Bool) (ns : List (List ℕ)) (name : List ℕ) → list_any p (with_name ns name) ≡ (list_any p ns || p name)
-with_any p ns name = by (sure (list_any (λ other. bytes_eq other name) ns)) where
+with_any p ns name = by (cases_Bool (list_any (λ other. bytes_eq other name) ns)) where
   by : (list_any (λ other. bytes_eq other name) ns ≡ true) ⊎ (list_any (λ other. bytes_eq other name) ns ≡ false) → list_any p (with_name ns name) ≡ (list_any p ns || p name)
   by (inl h) = rw h (sym (there p name ns h))
   by (inr h) = rw h (or_end p ns name)

@@ -3,7 +3,7 @@ use Rattle.std.proofs.Common.{ℕ, suc, ◌+◌, ◌<◌, length, drop, get_or, 
 use Rattle.std.specs.Prelude.{if◌then◌else◌, Ok, Err, OnOk, IfErr, encode_utf8_all, String}
 use Rattle.std.specs.BTreeMap.{BTreeMap, get_by_text}
 use Rattle.std.proofs.Math.Seq.{map-set_same}
-use Rattle.std.proofs.lemmas.Bool.{lt-ltb, ltb-true}
+use Rattle.std.proofs.lemmas.Bool.{lt-ltb, ltb-true, or_right, cases_Bool}
 use Rattle.std.proofs.lemmas.List.{drop_more, map-append}
 use Rattle.std.proofs.lemmas.Option.{none-some}
 use Rattle.std.proofs.lemmas.Slice.Eq.{bytes_eq-Decides}
@@ -34,10 +34,6 @@ pub choose : {A : Type 0} (b : Bool) (x y z : A) → cond b x y ≡ z → ((b �
 choose true x y z e = inl (refl, e)
 choose false x y z e = inr (refl, e)
 
-pub sure : (b : Bool) → (b ≡ true) ⊎ (b ≡ false)
-sure true = inl refl
-sure false = inr refl
-
 some_same : (m n : ℕ) → Some m ≡ Some n → m ≡ n
 some_same m n e = cc
 
@@ -62,9 +58,9 @@ position_place t (n ∷ ns) =
       later false false m e = refl
 
       less : (m k : ℕ) → nat_lt (1 + m) (suc k) ≡ nat_lt m k
-      less m k = elim (sure (nat_lt m k)) [
+      less m k = elim (cases_Bool (nat_lt m k)) [
         | inl h ↦ let lt : m < k = ltb-true m k h in lt-ltb (1 + m) (suc k) (omega (arith, lt)) ∙ sym h
-        | inr h ↦ elim (sure (nat_lt (1 + m) (suc k))) [
+        | inr h ↦ elim (cases_Bool (nat_lt (1 + m) (suc k))) [
           | inl j ↦ let lt : 1 + m < suc k = ltb-true (1 + m) (suc k) j in absurd (true_false (sym (lt-ltb m k (omega (arith, lt))) ∙ h))
           | inr j ↦ j ∙ sym h
         ]
@@ -135,10 +131,7 @@ pub gathers_clash : (ns : List Named) (u : Use) (at : ℕ) (n : Named) → place
     → gathered ns (u ∷ []) ≡ Err (refusal 80 u.place)
 gathers_clash ns u at n e is d =
     let clash : clash_with ns u ≡ true = found_clash ns u at n e ∙ (sym (ap (λ (m : Named). differs m u) is) ∙ d) in
-    ap (λ (b : Bool). if b then Err (refusal 80 u.place) else Ok (with_use ns u)) (true_or (opposed u.asks u.asks) (clash_with ns u) clash) where
-      true_or : (a b : Bool) → b ≡ true → (a || b) ≡ true
-      true_or true b e = refl
-      true_or false b e = e
+    ap (λ (b : Bool). if b then Err (refusal 80 u.place) else Ok (with_use ns u)) (or_right (opposed u.asks u.asks) (clash_with ns u) clash)
 
 -- a clash is what is answered
 pub clash_gathers : (ns new : List Named) (u : Use) (e : Fault) → e ≡ Refused (refusal 80 u.place) → gathered ns (u ∷ []) ≡ Err (refusal 80 u.place) → Gathers (Err e) ns new (u ∷ [])
@@ -181,7 +174,7 @@ not_placed t (n ∷ names) name f = ap (λ (o : Option ℕ). if folds_to t n the
 placed_and : (names : List (List ℕ)) (name text : List ℕ) (old new : Option ℕ) → place_of (folded name) names ≡ None → old ≡ place_of text names
     → new ≡ (if bytes_eq (folded name) text then Some (length names) else old) → new ≡ place_of text (names ++ name ∷ [])
 placed_and names name text old new e o n =
-    elim (sure (bytes_eq (folded name) text)) [
+    elim (cases_Bool (bytes_eq (folded name) text)) [
       | inl t ↦
           let none : place_of text names ≡ None = ap (λ (x : List ℕ). place_of x names) (sym (same (folded name) text t)) ∙ e in
           n ∙ (rw t refl ∙ sym (last_placed text names name none t))

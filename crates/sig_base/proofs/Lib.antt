@@ -1,4 +1,5 @@
 pub mod Checks
+pub mod DigitLemmas
 pub mod Firsts
 pub mod Puts
 pub mod Same

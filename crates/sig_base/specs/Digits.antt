@@ -1,5 +1,5 @@
 -- Digits, and the decimals that they make.
-use Rattle.std.specs.Prelude.{ℕ, Bool, false, ◌&&◌, ◌==◌, nat_le, if◌then◌else◌, List, [], ◌∷◌}
+use Rattle.std.specs.Prelude.{ℕ, ◌+◌, ◌-◌, ◌*◌, Bool, false, ◌&&◌, ◌==◌, nat_le, if◌then◌else◌, List, [], ◌∷◌}
 use Rattle.std.specs.List.{list_all}
 
 -- 0 to 9, of a character's or a byte's number
@@ -15,3 +15,8 @@ is_positive (c ∷ cs) = nat_le 49 c && nat_le c 57 && list_all is_digit cs
 abbrev pub unsigned : List ℕ → List ℕ
 unsigned [] = []
 unsigned (c ∷ cs) = if c == 45 then cs else c ∷ cs
+
+-- the number that these digits write behind n
+abbrev pub digits_from : ℕ → List ℕ → ℕ
+digits_from n [] = n
+digits_from n (c ∷ cs) = digits_from (10 * n + (c - 48)) cs

@@ -23,10 +23,6 @@ pub first_is : (name : List ℕ) (names : List (List ℕ)) → first_number name
 first_is name names = position_from-zero (λ (t : List ℕ). bytes_eq t name) names ∙ number_is 0 name names
 
 -- a star takes what `them` does
-or_right : (a b : Bool) → b ≡ true → (a || b) ≡ true
-or_right true b h = refl
-or_right false b h = h
-
 any_suffix : (text : List ℕ) → some_suffix (fits []) text ≡ true
 any_suffix [] = refl
 any_suffix (c ∷ cs) = any_suffix cs

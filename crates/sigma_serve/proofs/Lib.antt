@@ -1,6 +1,5 @@
 pub mod Correlated
 pub mod Correlating
-pub mod Digits
 pub mod Documented
 pub mod Ended
 pub mod Filed

@@ -342,7 +342,7 @@ piped_cut limits file before after ended world piped Are Cut f places = record {
 
 query_cut : (backend : BackendName) (limits : Limits) (file : List ℕ) (before after : List (List ℕ)) (ended : Bool) (given : Schema) (world : World) (places : List CodeAt)
     → AreOfQuery backend limits file before after ended given world places → AreOfQuery backend limits file before after false given world places
-query_cut backend limits file before after ended given world places b = record { gained = b.gained; follows = b.follows; are = b.are; told = λ is. absurd (not_ended is) }
+query_cut backend limits file before after ended given world places b = record { gained = b.gained; follows = b.follows; own = b.own; are = b.are; told = λ is. absurd (not_ended is) }
 
 pub places_cut : (limits : Limits) (before after : List (List ℕ)) (ended : Bool) (request : Request) (world : World) (places : Places)
     → ArePlaces limits before after ended request world places → ArePlaces limits before after false request world places

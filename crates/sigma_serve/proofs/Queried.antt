@@ -1,8 +1,8 @@
 -- What asking the query of a file leaves, and that there is exactly one answer for each list of refused places.
-use Rattle.std.proofs.Common.{◌≡◌, ℕ, ◌+◌, ◌<◌, Bool, true, false, List, [], ◌∷◌, ◌++◌, length, take, refl, ap, sym, ◌∙◌, subst, arith, Option, Some, None, Result, Ok, Err, inl, inr}
+use Rattle.std.proofs.Common.{◌≡◌, ℕ, ◌+◌, ◌<◌, Bool, true, false, List, [], ◌∷◌, ◌++◌, length, take, refl, ap, sym, ◌∙◌, subst, arith, append-nil, Option, Some, None, Result, Ok, Err, inl, inr}
 use Rattle.std.specs.Prelude.{◌⊎◌, Contains}
 use Rattle.std.proofs.lemmas.Bool.{cases_lt}
-use Rattle.std.proofs.lemmas.List.{take_all, length-take-le}
+use Rattle.std.proofs.lemmas.List.{take_all, length-take-le, append_cancel_left}
 use Rattle.answer_writer.proofs.Behind.{ends_behind}
 use Rattle.answer_writer.proofs.Ending.{ends_nothing, ends_written}
 use Rattle.answer_writer.proofs.Lined.{each_answer, lines_one}
@@ -17,7 +17,7 @@ use Rattle.answer_writer.specs.declared.stop.Stop.{Stop}
 use Rattle.answer_writer.specs.declared.stop.Stop.TheVariants.{Memory}
 use Rattle.event_schema.specs.declared.schema.Schema.{Schema}
 use Rattle.event_schema.specs.declared.value.Value.{Value}
-use Rattle.query_lang.specs.RefusedPlaces.{PatternAt, is_of_pattern}
+use Rattle.query_lang.specs.RefusedPlaces.{PatternAt, is_of_pattern, AreOfPatterns}
 use Rattle.query_read.specs.Answers.{AtPlaces}
 use Rattle.query_read.specs.Asked.{IsAsked, IsNotAsked, too_large, unread, most_bytes}
 use Rattle.query_read.specs.Laws as asking
@@ -38,6 +38,9 @@ use Rattle.query_tokens.specs.Places.{CodeAt}
 not_ended : false ≡ true → ⊥
 not_ended h = cc
 
+pub none_gained : (before gained : List (List ℕ)) → before ++ gained ≡ before → gained ≡ []
+none_gained before gained same = append_cancel_left before gained [] (same ∙ sym (append-nil before))
+
 module _ {Query : Type 0} (is_query : Schema → List ℕ → Query → Type 0) (is_within : Limits → Schema → List ℕ → Query → Type 0)
     (picks : Query → List (List Value) → Type 0) (patterns : List ℕ → List PatternAt) (refuses : Limits → Schema → List ℕ → List CodeAt → Refusal → Type 0) where
   abbrev Asked : Limits → Schema → List CodeAt → List ℕ → Query → Type 0
@@ -52,12 +55,13 @@ module _ {Query : Type 0} (is_query : Schema → List ℕ → Query → Type 0) 
   -- ---- exactly one answer
 
   module _ (places_are : asking.SomePlaces) (each : asking.EachAsked is_query is_within refuses) (decided : (q : Query) → IsDecided (picks q)) where
-    -- whatever the builder refused, there is an answer that is cut off
-    pub each_queried : (limits : Limits) (file : List ℕ) (before after gained : List (List ℕ)) → after ≡ before ++ gained → EachUnder (By limits file before after false)
-    each_queried limits file before after gained follows None world = ([], refl)
-    each_queried limits file before after gained follows (Some given) world =
+    -- whichever regular expressions the builder refused, there is an answer that is cut off
+    pub each_queried : (limits : Limits) (file : List ℕ) (before after gained : List (List ℕ)) → after ≡ before ++ gained → (given : Option Schema) (world : World)
+        → AreOfPatterns (patterns (contents world.files file)) gained → (parts : List Part) × By limits file before after false given world parts
+    each_queried limits file before after gained follows None world own = ([], refl)
+    each_queried limits file before after gained follows (Some given) world own =
         let some = places_are (patterns (contents world.files file)) gained in
-        by some.0 (record { gained = gained; follows = follows; are = some.1; told = λ ended. absurd (not_ended ended) }) (each limits given some.0 (contents world.files file))
+        by some.0 (record { gained = gained; follows = follows; own = own; are = some.1; told = λ ended. absurd (not_ended ended) }) (each limits given some.0 (contents world.files file))
       where
         by : (places : List CodeAt) → AreOfQuery is_query is_within picks patterns refuses limits file before after false given world places
             → ((q : Query) × Asked limits given places (contents world.files file) q) ⊎ ((r : Refusal) × NotAsked limits given places (contents world.files file) r)
@@ -137,6 +141,16 @@ module _ {Query : Type 0} (is_query : Schema → List ℕ → Query → Type 0) 
       abbrev pub AsksQuery : Query → List ℕ → Type 0
       AsksQuery q bytes = AtPlaces (patterns bytes) gained (λ places. Asked limits given places bytes q)
 
+      -- what the builder refused are regular expressions of these bytes, and where there are too many it refused nothing
+      abbrev pub AreOwn : List ℕ → Type 0
+      AreOwn bytes = AreOfPatterns (patterns bytes) gained × (most_bytes limits < length bytes → gained ≡ [])
+
+      all_own : (all : List ℕ) → AreOwn (front all) → AreOwn all
+      all_own all own = elim (same_or_large all) [
+        | inl same ↦ subst AreOwn same own
+        | inr large ↦ (let none = own.1 large.1 in (subst (AreOfPatterns (patterns all)) (sym none) tt, λ more. none))
+      ]
+
       all_asked : (q : Query) (all : List ℕ) → AsksQuery q (front all) → AsksQuery q all
       all_asked q all asked = elim (same_or_large all) [
         | inl same ↦ subst (AsksQuery q) same asked
@@ -166,9 +180,9 @@ module _ {Query : Type 0} (is_query : Schema → List ℕ → Query → Type 0) 
 
       module _ (before after : List (List ℕ)) (follows : after ≡ before ++ gained) (bytes : List ℕ) (old new : State) (is_front : IsFront old.inputs.files file (most_bytes limits + 1) bytes) where
         -- the file isn't asked
-        pub query_refused : asking.OneCause is_query is_within refuses → (r : Refusal) (result : Result Bool Stop) → AsksNone r bytes
+        pub query_refused : asking.OneCause is_query is_within refuses → (r : Refusal) (result : Result Bool Stop) → AsksNone r bytes → AreOwn bytes
             → Writes (λ share. share ≡ refusal_share file r) result old new → Ends needs (By limits file before after (is_ended result) (Some given)) result old new
-        query_refused cause r result is wrote =
+        query_refused cause r result is own wrote =
             ends_written needs (By limits file before after (is_ended result) (Some given)) (λ share. share ≡ refusal_share file r) (Some (File file)) result old new
             (λ world told share same.
             let found = file_is (most_bytes limits + 1) (AsksNone r) file (all_not_asked r) old.inputs.files world.files bytes (told.files file there) is_front is in (
@@ -176,6 +190,7 @@ module _ {Query : Type 0} (is_query : Schema → List ℕ → Query → Type 0) 
               record {
                 gained = gained;
                 follows = follows;
+                own = (file_is (most_bytes limits + 1) AreOwn file all_own old.inputs.files world.files bytes (told.files file there) is_front own).0;
                 are = found.0.1;
                 told = λ ended other other_is. subst (λ (x : Refusal). is_of_pattern x.code ≡ true → IsOfBuilder (patterns (contents world.files file)) gained x)
                     (cause limits given found.0.0 (contents world.files file) r other found.0.2 other_is) found.1;
@@ -184,10 +199,10 @@ module _ {Query : Type 0} (is_query : Schema → List ℕ → Query → Type 0) 
             )) wrote
 
         -- the query is asked, and the lines of events are answered
-        pub query_answered : asking.NeverBoth is_query is_within refuses → (q : Query) (result : Result Bool Stop) → AsksQuery q bytes
+        pub query_answered : asking.NeverBoth is_query is_within refuses → (q : Query) (result : Result Bool Stop) → AsksQuery q bytes → gained ≡ []
             → Ends (record { names = []; events = true }) (EventLines (Selects given (picks q)) limits) result old new
             → Ends needs (By limits file before after (is_ended result) (Some given)) result old new
-        query_answered never q result asked e =
+        query_answered never q result asked none e =
             ends_behind needs (record { names = []; events = true }) (file_part file no_share ∷ []) refl none_there refl
             (EventLines (Selects given (picks q)) limits) (By limits file before after (is_ended result) (Some given)) result old new
             (λ world told ps lines.
@@ -196,6 +211,7 @@ module _ {Query : Type 0} (is_query : Schema → List ℕ → Query → Type 0) 
               record {
                 gained = gained;
                 follows = follows;
+                own = subst (AreOfPatterns (patterns (contents world.files file))) (sym none) tt;
                 are = found.1;
                 told = λ ended other other_is pattern. absurd (never limits given found.0 (contents world.files file) q other found.2 other_is);
               },

@@ -96,7 +96,7 @@ module _ (lone : EachLone) (file : yaml.EachVerdict) (piped : pipelined.EachFile
       (each_piped (RanBySome limits rule_file) limits pipelines built (λ ps. each_ran_cut ran limits rule_file ps built) piped) schema world in
       (a.0, run_places one never limits built built false schema pipelines rule_file world a.0 (λ _. refl) a.1)
   each_answer ran queried correlated outcomes made limits built (Query backend schema query) world =
-      let a = each_schema (AskedBy backend limits query built built false) limits (queried backend limits query built built [] (sym (append-nil built))) (Some schema) world in
+      let a = each_schema (AskedBy backend limits query built built false) limits (λ given w. queried backend limits query built built [] (sym (append-nil built)) given w tt) (Some schema) world in
       (a.0, query_places backend limits schema query built built false world a.0 (λ _. refl) a.1)
   each_answer ran queried correlated outcomes made limits built (Correlate schema pipelines rules) world =
       let own : EachUnder (PipedBuilder (FilesCorrelated limits rules) limits pipelines built built false) =

@@ -12,6 +12,7 @@ use Rattle.generate_run.specs.Lines.{IsGenerated}
 use Rattle.pipeline_run.specs.Kept.{IsWholePipeline}
 use Rattle.pipeline_files.specs.Outcomes.{AreCauses}
 use Rattle.pipeline_model.specs.declared.pipeline.Pipeline.{Pipeline}
+use Rattle.query_lang.specs.RefusedPlaces.{AreOfPatterns}
 use Rattle.rule_regex.specs.Unbuilt.{Unbuilt}
 use Rattle.rule_model.specs.Plain.{PlainRule}
 use Rattle.rule_model.specs.Rules.{lone_refusal, IsLoneRule}
@@ -25,7 +26,7 @@ use Rattle.sigma_serve.specs.Check.{CheckGives}
 use Rattle.sigma_serve.specs.Convert.{ConvertGives, ConvertMeans}
 use Rattle.sigma_serve.specs.Converted.{Converted, RulesAt}
 use Rattle.sigma_serve.specs.Correlated.{CorrelatedBy}
-use Rattle.sigma_serve.specs.Languages.{AskedBy, AskedAt}
+use Rattle.sigma_serve.specs.Languages.{patterns, AskedBy, AskedAt}
 use Rattle.sigma_serve.specs.Ran.{RunGives, RanUnder, PipedRun, Ran}
 use Rattle.sigma_serve.specs.RuleFiles.{ByTree, ByUnbuilt, DocumentGives, FileGivesAt, contents}
 use Rattle.sigma_serve.specs.UnderSchema.{BySchema}
@@ -57,10 +58,11 @@ EachRan = (limits : Limits) (unbuilt : Unbuilt) (file : List ℕ) (ps : List Pip
 abbrev pub EachSelected : Type 0
 EachSelected = (schema : Schema) (rule : PlainRule) → EachLine (RunGives schema rule)
 
--- said of the query that is asked, whatever the builder refused, of an answer that is cut off
+-- said of the query that is asked, whichever of its regular expressions the builder refused, of an answer that is cut off
 abbrev pub EachQueried : Type 0
 EachQueried = (backend : BackendName) (limits : Limits) (file : List ℕ) (before after gained : List (List ℕ)) → after ≡ before ++ gained
-    → EachUnder (AskedBy backend limits file before after false)
+    → (given : Option Schema) (world : World) → AreOfPatterns (patterns backend (contents world.files file)) gained
+    → (parts : List Part) × AskedBy backend limits file before after false given world parts
 
 -- said of what is answered once the files are read whose rules are correlated
 abbrev pub EachCorrelated : Type 0

@@ -7,7 +7,7 @@ use Rattle.event_schema.specs.Lists.{SomeOf}
 use Rattle.event_schema.specs.declared.schema.Schema.{Schema}
 use Rattle.event_schema.specs.declared.value.Value.{Value}
 use Rattle.query_lang.specs.Answers.{place_of}
-use Rattle.query_lang.specs.RefusedPlaces.{PatternAt, is_of_pattern, IsAmong, IsCause, AreRefused}
+use Rattle.query_lang.specs.RefusedPlaces.{PatternAt, is_of_pattern, IsAmong, IsCause, AreOfPatterns, AreRefused}
 use Rattle.query_read.specs.Asked.{IsAsked, IsNotAsked}
 use Rattle.answer_writer.specs.Selected.{Selects}
 use Rattle.sig_base.specs.declared.limits.Limits.{Limits}
@@ -36,11 +36,12 @@ module _ {Query : Type 0} (is_query : Schema → List ℕ → Query → Type 0) 
         → AskedUnder limits file given places world parts
 
   -- These places of the query are refused for their regular expressions, each with its cause, where the builder had refused the texts
-  -- `before` and then has refused the texts `after`: those that it gained are those that it refused in this run. Where the run came to its
-  -- end, a query is refused for a regular expression only if the builder refused this one.
+  -- `before` and then has refused the texts `after`: those that it gained are those that it refused in this run, regular expressions of the
+  -- query. Where the run came to its end, a query is refused for a regular expression only if the builder refused this one.
   pub record AreOfQuery (limits : Limits) (file : List ℕ) (before after : List (List ℕ)) (ended : Bool) (given : Schema) (world : World) (places : List CodeAt) : Type 0 where
     pub gained : List (List ℕ)
     pub follows : after ≡ before ++ gained
+    pub own : AreOfPatterns (patterns (contents world.files file)) gained
     pub are : AreRefused (patterns (contents world.files file)) gained places
     pub told : ended ≡ true → (r : Refusal) → IsNotAsked is_query is_within refuses limits given places (contents world.files file) r → is_of_pattern r.code ≡ true
         → IsOfBuilder (patterns (contents world.files file)) gained r

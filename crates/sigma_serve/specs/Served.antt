@@ -125,19 +125,27 @@ abbrev pub MayBeUnread : List (List ℕ) → Status → Option Input → Inputs 
 MayBeUnread words status None before after = status ≡ WriteFault → NoReadFailed before after
 MayBeUnread words status (Some input) before after = IsRead words input × WasUnread input before after
 
--- all that is said of a run: what the inputs told before it and tell after it, and the streams
+-- All that is said of a run: of what the inputs told before it and tell after it, and of the streams.
 pub record Serves (limits : Limits) (texts : RefusedTexts) (words : List (List ℕ)) (status : Status) (before after : Inputs) (old new : Streams) : Type 0 where
+  -- A run that comes to its end has written the answer to its words in each world that the inputs tell.
   pub answer : IsAnswered status → (world : World) → Tells words before world → Written limits texts words world status before after old new
   pub headline : IsAnswered status → (world : World) → Tells words before world → Headline limits texts words world old new
+  -- `Usage` comes exactly where the words aren't accepted and no fault ended the run.
   pub usage : IsAnswered status → IsUnaccepted words → status ≡ Usage
   pub unaccepted : status ≡ Usage → IsUnaccepted words
+  -- Each fault has its cause in this run, and a run that comes to its end met none.
   pub still : IsAnswered status → NoReadFailed before after × NoWriteFailed old new
   pub read_fault : status ≡ ReadFault → (input : Input) × IsRead words input × WasUnread input before after × NoWriteFailed old new
       × ((world : World) → Tells words before world → StandsUnread limits texts words world Unread input before after old new)
   pub write_fault : status ≡ WriteFault → SomeWriteFailed old new
+  -- What stands where the run was cut off. Where an input couldn't be read and its diagnostic not be written, all before that input
+  -- stands whole; else no reading had failed where writing did. Events that the answer which is cut off doesn't ask for stay.
   pub after_fault : IsCutOff status → (unread : Option Input) × (status ≡ Memory → unread ≡ None) × MayBeUnread words status unread before after
       × ((world : World) → Tells words before world → StandsAfter limits texts words world unread before after old new)
+  -- Events that the words' request doesn't read stay as they are, however the run ends.
   pub apart : ReadsNoEvents words → EventsStay before after
+  -- And so do all events, however the run ends, where the one answer for some places asks for none: where the schema or the rule is
+  -- refused, say.
   pub unasked : (world : World) → Tells words before world → Unasked limits texts words world before after
 
 -- what a shelf and a source tell

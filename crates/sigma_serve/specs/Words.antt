@@ -1,8 +1,7 @@
 -- The words that the program accepts, and the request that they are.
-use Rattle.std.specs.Prelude.{◌≡◌, ℕ, ◌+◌, ◌-◌, ◌*◌, ◌^◌, ◌<◌, Bool, false, ◌&&◌, ◌||◌, nat_le, nat_lt, if◌then◌else◌, List, [], ◌∷◌, length, map, codes, Option, Some, None, option_map, option_and_then, encode_utf8_all}
-use Rattle.std.specs.List.{list_all}
+use Rattle.std.specs.Prelude.{◌≡◌, ℕ, ◌-◌, ◌^◌, ◌<◌, Bool, ◌&&◌, ◌||◌, nat_le, nat_lt, if◌then◌else◌, List, [], ◌∷◌, length, map, codes, Option, Some, None, option_map, option_and_then, encode_utf8_all}
 use Rattle.std.specs.Str.{bytes_eq, chars}
-use Rattle.sig_base.specs.Digits.{is_positive}
+use Rattle.sig_base.specs.Digits.{is_positive, digits_from}
 use Rattle.command_line.specs.Computed.{given}
 use Rattle.command_line.specs.Given.{Item, value_of, names_of}
 use Rattle.command_line.specs.Table.{row_of, backend, schema, pipeline, seed, events, IsGiven}
@@ -56,11 +55,6 @@ only (name ∷ other ∷ others) = None
 -- a canonical decimal without a sign: 0, or a digit 1 to 9 and any digits
 abbrev pub is_canonical : List ℕ → Bool
 is_canonical word = bytes_eq word (codes "0") || is_positive word
-
--- the number that digits make, behind those that make n
-abbrev pub digits_from : ℕ → List ℕ → ℕ
-digits_from n [] = n
-digits_from n (c ∷ cs) = digits_from (n * 10 + (c - 48)) cs
 
 -- the number from 0 to the last one of which the word is the canonical decimal
 abbrev pub number_to : ℕ → List ℕ → Option ℕ

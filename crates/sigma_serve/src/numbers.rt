@@ -1,6 +1,7 @@
 //! Numbers on the command line.
 
 ghost use Rattle.std.specs.Prelude.{◌≡◌, ◌+◌, ◌-◌, ◌*◌, ◌≤◌, min, option_map, option_and_then};
+ghost use Rattle.sig_base.specs.Digits.{digits_from};
 ghost use Rattle.sigma_serve.specs.Words as accepted_words;
 
 use sig_base::is_positive;
@@ -8,9 +9,9 @@ use sig_base::is_positive;
 /// One more digit behind a number, where 2^32 stands for all that is larger.
 fn grown(value: u64, digit: u8) -> u64
     requires { value ≤ 4294967296 }
-    ensures { result ≡ min (value * 10 + (digit - 48)) 4294967296 }
+    ensures { result ≡ min (10 * value + (digit - 48)) 4294967296 }
 {
-    let next = value * 10 + u64::from(digit.saturating_sub(b'0'));
+    let next = 10 * value + u64::from(digit.saturating_sub(b'0'));
     if next > 4_294_967_296 {
         return 4_294_967_296;
     }
@@ -19,7 +20,7 @@ fn grown(value: u64, digit: u8) -> u64
 
 /// The number of these digits, where 2^32 stands for all that is larger.
 fn number_of(digits: &[u8]) -> u64
-    ensures { result ≡ min (accepted_words.digits_from 0 digits.now) 4294967296 }
+    ensures { result ≡ min (digits_from 0 digits.now) 4294967296 }
 {
     let mut value: u64 = 0;
     for digit in digits {

@@ -1,12 +1,10 @@
 //! The top call: the whole program over a shelf, a source and two sinks.
 
-ghost use Rattle.std.specs.Prelude.{◌≡◌, ℕ, List, Option};
-ghost use Rattle.answer_writer.specs.Input.{Input, World, WasUnread};
+ghost use Rattle.std.specs.Prelude.{◌≡◌, ℕ, List};
+ghost use Rattle.answer_writer.specs.Input.{World};
 ghost use Rattle.answer_writer.specs.Stands.{Ends};
-ghost use Rattle.answer_writer.specs.State.{NoWriteFailed, SomeWriteFailed, NoReadFailed};
-ghost use Rattle.answer_writer.specs.declared.stop.Stop.TheVariants.{Unread};
 ghost use Rattle.sigma_serve.specs.Answers.{Answers, needs_of};
-ghost use Rattle.sigma_serve.specs.Served.{RefusedTexts, Serves, IsAnswered, IsCutOff, Tells, IsRead, MayBeUnread, ReadsNoEvents, Written, Headline, StandsAfter, StandsUnread, Unasked, inputs_of, streams_of};
+ghost use Rattle.sigma_serve.specs.Served.{RefusedTexts, Serves, IsAnswered, Tells, Headline, inputs_of, streams_of};
 ghost use Rattle.sigma_serve.specs.UnderSchema.{is_ended};
 ghost use Rattle.sigma_serve.specs.Words.{IsUnaccepted};
 
@@ -37,55 +35,21 @@ pub fn serve<F: Shelf, S: Source, O: Sink, E: Sink, B: Builder>(
     err: &mut E,
     builder: &mut B,
 ) -> Status
-    // A run that comes to its end has written the answer to its words in each world that the inputs tell.
-    ensures answer { IsAnswered result → (world : World) → Tells words.now (inputs_of F.files F.failed S.left S.faults shelf.old events.old) world
-        → Written limits.now (record { before = B.refused builder.old; after = B.refused builder.new }) words.now world result
+    // All that is said of a run: what it has written where it comes to its end, when the words aren't accepted, the cause of each fault and
+    // what stands behind one, and which events stay.
+    ensures serves { Serves limits.now (record { before = B.refused builder.old; after = B.refused builder.new }) words.now result
         (inputs_of F.files F.failed S.left S.faults shelf.old events.old) (inputs_of F.files F.failed S.left S.faults shelf.new events.new)
         (streams_of O.taken O.faults E.taken E.faults out.old err.old) (streams_of O.taken O.faults E.taken E.faults out.new err.new) }
+
+    // And of it this first: each rule has its query, which means the rule, or its diagnostic.
     ensures headline { IsAnswered result → (world : World) → Tells words.now (inputs_of F.files F.failed S.left S.faults shelf.old events.old) world
         → Headline limits.now (record { before = B.refused builder.old; after = B.refused builder.new }) words.now world
         (streams_of O.taken O.faults E.taken E.faults out.old err.old) (streams_of O.taken O.faults E.taken E.faults out.new err.new) }
-
-    // `Usage` comes exactly where the words aren't accepted and no fault ended the run.
-    ensures usage { IsAnswered result → IsUnaccepted words.now → result ≡ Status.Usage }
-    ensures unaccepted { result ≡ Status.Usage → IsUnaccepted words.now }
-
-    // Each fault has its cause in this call, and a run that comes to its end met none.
-    ensures still { IsAnswered result
-        → NoReadFailed (inputs_of F.files F.failed S.left S.faults shelf.old events.old) (inputs_of F.files F.failed S.left S.faults shelf.new events.new)
-        × NoWriteFailed (streams_of O.taken O.faults E.taken E.faults out.old err.old) (streams_of O.taken O.faults E.taken E.faults out.new err.new) }
-    ensures read_fault { result ≡ Status.ReadFault → (input : Input) × IsRead words.now input
-        × WasUnread input (inputs_of F.files F.failed S.left S.faults shelf.old events.old) (inputs_of F.files F.failed S.left S.faults shelf.new events.new)
-        × NoWriteFailed (streams_of O.taken O.faults E.taken E.faults out.old err.old) (streams_of O.taken O.faults E.taken E.faults out.new err.new)
-        × ((world : World) → Tells words.now (inputs_of F.files F.failed S.left S.faults shelf.old events.old) world
-        → StandsUnread limits.now (record { before = B.refused builder.old; after = B.refused builder.new }) words.now world Unread input
-        (inputs_of F.files F.failed S.left S.faults shelf.old events.old) (inputs_of F.files F.failed S.left S.faults shelf.new events.new)
-        (streams_of O.taken O.faults E.taken E.faults out.old err.old) (streams_of O.taken O.faults E.taken E.faults out.new err.new)) }
-    ensures write_fault { result ≡ Status.WriteFault
-        → SomeWriteFailed (streams_of O.taken O.faults E.taken E.faults out.old err.old) (streams_of O.taken O.faults E.taken E.faults out.new err.new) }
-
-    // What stands where the run was cut off. Where an input couldn't be read and its diagnostic not be written, all before that input
-    // stands whole; else no reading had failed where writing did. Events that the answer which is cut off doesn't ask for stay.
-    ensures after_fault { IsCutOff result → (unread : Option Input) × (result ≡ Status.Memory → unread ≡ None)
-        × MayBeUnread words.now result unread (inputs_of F.files F.failed S.left S.faults shelf.old events.old) (inputs_of F.files F.failed S.left S.faults shelf.new events.new)
-        × ((world : World) → Tells words.now (inputs_of F.files F.failed S.left S.faults shelf.old events.old) world
-        → StandsAfter limits.now (record { before = B.refused builder.old; after = B.refused builder.new }) words.now world unread
-        (inputs_of F.files F.failed S.left S.faults shelf.old events.old) (inputs_of F.files F.failed S.left S.faults shelf.new events.new)
-        (streams_of O.taken O.faults E.taken E.faults out.old err.old) (streams_of O.taken O.faults E.taken E.faults out.new err.new)) }
-
-    // Events that the words' request doesn't read stay as they are, however the run ends.
-    ensures apart { ReadsNoEvents words.now → (S.left events.new ≡ S.left events.old) × (S.faults events.new ≡ S.faults events.old) }
-
-    // And so do all events, however the run ends, where the one answer for some places asks for none: where the schema or the rule is
-    // refused, say.
-    ensures unasked { (world : World) → Tells words.now (inputs_of F.files F.failed S.left S.faults shelf.old events.old) world
-        → Unasked limits.now (record { before = B.refused builder.old; after = B.refused builder.new }) words.now world
-        (inputs_of F.files F.failed S.left S.faults shelf.old events.old) (inputs_of F.files F.failed S.left S.faults shelf.new events.new) }
 {
     serve_lent(alloc, words, limits, shelf, events, out, err, builder)
 }
 
-/// The same, with all that is said of a run in one clause.
+/// The same, over what is lent as one.
 fn serve_lent<F: Shelf, S: Source, O: Sink, E: Sink, B: Builder>(
     alloc: Global,
     words: &[Text],

@@ -5,7 +5,7 @@ use Rattle.std.specs.List.{list_any}
 use Rattle.query_tokens.specs.Places.{At, origin, nth, CodeAt, code_at_if}
 use Rattle.sig_base.specs.declared.refusal.Place.{Place}
 use Rattle.sig_base.specs.declared.refusal.Refusal.{Refusal}
-use Rattle.sql_scan.specs.View.{place_view}
+use Rattle.query_tokens.specs.PlaceView.{place_view}
 use Rattle.event_schema.specs.declared.schema.Field.{Field}
 use Rattle.event_schema.specs.declared.schema.FieldKind.{FieldKind}
 use Rattle.sql_lang.specs.Tokens.{Op}

@@ -1,6 +1,6 @@
 //! The first fault of one test.
 
-ghost use Rattle.std.specs.Prelude.{◌≡◌, ◌+◌, ◌||◌, ◌&&◌, ◌++◌, ◌∷◌, [], length};
+ghost use Rattle.std.specs.Prelude.{◌≡◌, ◌+◌, ◌||◌, ◌&&◌, ◌++◌, ◌∷◌, []};
 ghost use Rattle.std.specs.List.{list_any};
 ghost use Rattle.query_tokens.specs.Places.{nth, code_at, code_at_if};
 ghost use Rattle.sql_lang.specs.Faults as faults;
@@ -8,7 +8,8 @@ ghost use Rattle.sql_lang.specs.Grammar as grammar;
 ghost use Rattle.sql_lang.specs.Names as names;
 ghost use Rattle.sql_parse.specs.View.{leaf_view, literal_view, literals_view, right_view};
 ghost use Rattle.sql_lang.specs.View.{collate_view, op_view};
-ghost use Rattle.sql_scan.specs.View.{place_view, places_view};
+ghost use Rattle.query_tokens.specs.PlaceView.{place_view};
+ghost use Rattle.sql_scan.specs.View.{places_view};
 ghost use Rattle.sql_check.specs.Kinds as kinds;
 ghost use Rattle.sql_check.specs.Refused.{refusal_of, refusal_if, first_fault};
 

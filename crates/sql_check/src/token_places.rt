@@ -4,7 +4,8 @@ ghost use Rattle.std.specs.Prelude.{◌≡◌, length};
 ghost use Rattle.query_tokens.specs.Places.{nth};
 ghost use Rattle.sql_lang.specs.Grammar.{spell_not, spell_collate};
 ghost use Rattle.sql_lang.specs.View.{collate_view};
-ghost use Rattle.sql_scan.specs.View.{place_view, places_view};
+ghost use Rattle.query_tokens.specs.PlaceView.{place_view};
+ghost use Rattle.sql_scan.specs.View.{places_view};
 
 use sig_base::Place;
 use sql_lang::Collate;

@@ -5,6 +5,7 @@ use Rattle.std.specs.List.{list_all}
 use Rattle.std.proofs.lemmas.List.{append_cancel_right}
 use Rattle.std.proofs.lemmas.List.Folds.{list_all-append}
 use Rattle.std.proofs.lemmas.Bool.Decides.{nat_tests}
+use Rattle.std.proofs.lemmas.Bool.{and_parts}
 use Rattle.event_schema.specs.declared.schema.Schema.{Schema}
 use Rattle.query_tokens.specs.Places.{At, CodeAt, code_at}
 use Rattle.sql_lang.specs.Tokens.{Token, Sort, Word, OR, AND, Closing, tokens}
@@ -16,7 +17,6 @@ use Rattle.sql_lang.specs.Reading.{ReadsWithin, IsRefusedPlace, Refuses, no_toke
 use Rattle.sql_lang.specs.Machine.{Begun, run, finish, Ends, reads, stops_at_end, stops}
 use Rattle.sql_lang.specs.Verdict.{on_faults, on_depth, on_query, on_nesting, on_other, verdict, IsVerdict}
 use Rattle.sql_lang.proofs.Complete.{one_spelled}
-use Rattle.sql_lang.proofs.Both.{both_true}
 use Rattle.sql_lang.proofs.Fewer.{fewer, first_refused}
 use Rattle.query_tokens.proofs.Stops.{one_stop_of, no_stop_of}
 use Rattle.sql_lang.proofs.Alive.{ends_so}
@@ -96,7 +96,7 @@ known_query q = known_both (spell_or q.condition) (spell_end q.ends) (known_or q
 no_other : (ts : List Token) → AreKnown (sorts ts) → first_other ts ≡ None
 no_other [] all = refl
 no_other (t ∷ ts) all =
-    let each = both_true (is_known t.sort) (list_all is_known (sorts ts)) all in
+    let each = and_parts (is_known t.sort) (list_all is_known (sorts ts)) all in
     let here : is_other t.sort ≡ false = not_known (is_other t.sort) each.0 in
     rw here (no_other ts each.1) where
       not_known : (b : Bool) → not b ≡ true → b ≡ false

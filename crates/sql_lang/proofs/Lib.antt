@@ -1,4 +1,3 @@
-pub mod Both
 pub mod Complete
 mod Read
 pub mod Runs

@@ -1,13 +1,13 @@
 -- Runs and single characters are what they say.
 use Rattle.std.proofs.Common.{ℕ, ◌≡◌, refl, sym, ap, Bool, true, false, List, [], ◌∷◌, ◌++◌, ◌||◌, inl, inr, subst}
 use Rattle.std.specs.Prelude.{◌↔◌}
+use Rattle.std.proofs.lemmas.Bool.{and_parts, cases_Bool}
 use Rattle.sql_lang.specs.Meaning.{some_end, behind_one}
-use Rattle.sql_lang.proofs.Both.{both_true, by_test}
 
 end_found : (fits : List ℕ → Bool) (before suffix : List ℕ) → fits suffix ≡ true → some_end fits (before ++ suffix) ≡ true
 end_found fits [] [] is = is
 end_found fits [] (c ∷ cs) is = rw is refl
-end_found fits (c ∷ before) suffix is = elim (by_test (fits (c ∷ (before ++ suffix))))
+end_found fits (c ∷ before) suffix is = elim (cases_Bool (fits (c ∷ (before ++ suffix))))
     [ inl here ↦ rw here refl | inr not ↦ rw not (end_found fits before suffix is) ]
 
 some_end_is : (fits : List ℕ → Bool) (text : List ℕ) → some_end fits text ≡ true
@@ -27,7 +27,7 @@ run_is fits text = (some_end_is fits text, λ h. subst (λ (cs : List ℕ). some
 one_found : (is_so : ℕ → Bool) (fits : List ℕ → Bool) (text : List ℕ) → behind_one is_so fits text ≡ true
     → (first : ℕ) × (rest : List ℕ) × (text ≡ first ∷ rest) × (is_so first ≡ true) × (fits rest ≡ true)
 one_found is_so fits [] h = absurd cc
-one_found is_so fits (c ∷ cs) h = let each = both_true (is_so c) (fits cs) h in (c, cs, refl, each.0, each.1)
+one_found is_so fits (c ∷ cs) h = let each = and_parts (is_so c) (fits cs) h in (c, cs, refl, each.0, each.1)
 
 pub one_is : (is_so : ℕ → Bool) (fits : List ℕ → Bool) (text : List ℕ)
     → (behind_one is_so fits text ≡ true) ↔ ((first : ℕ) × (rest : List ℕ) × (text ≡ first ∷ rest) × (is_so first ≡ true) × (fits rest ≡ true))

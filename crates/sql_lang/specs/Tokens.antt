@@ -1,10 +1,10 @@
 -- The tokens of a query's text, from the left, with their places. Words, names in double quotes, texts in single
 -- quotes and signs are SQLite's (its pages on keywords and on expressions).
-use Rattle.std.specs.Prelude.{ℕ, zero, suc, ◌+◌, ◌-◌, ◌*◌, ◌^◌, Bool, false, ◌&&◌, ◌||◌, ◌==◌, nat_lt, nat_le, if◌then◌else◌, List, [], ◌∷◌, ◌++◌, codes, Option, Some, None, ℤ, pos, negsuc}
+use Rattle.std.specs.Prelude.{ℕ, zero, suc, ◌+◌, ◌-◌, ◌^◌, Bool, false, ◌&&◌, ◌||◌, ◌==◌, nat_lt, if◌then◌else◌, List, [], ◌∷◌, ◌++◌, codes, Option, Some, None, ℤ, pos, negsuc}
 use Rattle.std.specs.Char.{is_ascii_alphanumeric}
 use Rattle.std.specs.List.{list_all}
 use Rattle.std.specs.Str.{bytes_eq}
-use Rattle.sig_base.specs.Digits.{is_digit, unsigned}
+use Rattle.sig_base.specs.Digits.{is_digit, unsigned, digits_from}
 use Rattle.sig_base.specs.Folding.{folded}
 use Rattle.query_tokens.specs.Places.{At, origin, after}
 use Rattle.query_tokens.specs.Tokens as texts
@@ -70,11 +70,6 @@ keywords =
 abbrev pub keyword_in : List (List ℕ × Keyword) → List ℕ → Option Keyword
 keyword_in [] w = None
 keyword_in (row ∷ rows) w = if bytes_eq w row.0 then Some row.1 else keyword_in rows w
-
--- the number that these digits write behind n
-abbrev pub digits_from : ℕ → List ℕ → ℕ
-digits_from n [] = n
-digits_from n (c ∷ cs) = digits_from (10 * n + (c - 48)) cs
 
 -- at least one digit, and nothing else
 abbrev pub are_digits : List ℕ → Bool

@@ -4,17 +4,17 @@ use Rattle.std.specs.List.{list_all}
 use Rattle.std.specs.Str.{all_scalars}
 use Rattle.std.proofs.Math.Utf8.{scalar}
 use Rattle.std.proofs.lemmas.Bool.Decides.{eqb_tells, nat_tests}
+use Rattle.std.proofs.lemmas.Bool.{and_parts}
 use Rattle.sig_base.specs.Digits.{is_digit, unsigned}
 use Rattle.sql_lang.specs.Tokens.{Keyword, SELECT, FROM, WHERE, OR, AND, NOT, IS, NULL, LIKE, ESCAPE, GLOB, REGEXP, IN, BETWEEN, COLLATE, NOCASE, BINARY, Op, Eq, Ne, Lt, Lte, Gt, Gte, Sort, Word, Name, Text, Number, Opening, Closing, Comma, Star, Semicolon, Compares, Unclosed, Other, are_digits, is_plain}
 use Rattle.sql_lang.specs.Grammar.{Ors, last_and, and_or, Ands, last_not, not_and, Nots, not_not, a_test, enclosed, Query, spell_test, spell_or, spell_and, spell_nots, spell_head, spell_end}
 use Rattle.sql_layout.specs.Layout.{doubled, in_quotes, keyword_text, op_text, token_text, has_text, spaced, text_or, text_and, text_not, text_end, text_query, is_writable}
-use Rattle.sql_lang.proofs.Both.{both_true}
 use Rattle.sql_layout.proofs.Scanned.{texts_parted, number_digits, minus_or}
 
 joined : (a b : List ℕ) → all_scalars a ≡ true → all_scalars b ≡ true → all_scalars (a ++ b) ≡ true
 joined [] b first second = second
 joined (c ∷ a) b first second =
-    let each = both_true (scalar c) (all_scalars a) first in
+    let each = and_parts (scalar c) (all_scalars a) first in
     let more = joined a b each.1 second in
     let here = each.0 in
     rw here more
@@ -22,7 +22,7 @@ joined (c ∷ a) b first second =
 doubled_scalars : (k : ℕ) (cs : List ℕ) → scalar k ≡ true → all_scalars cs ≡ true → all_scalars (doubled k cs) ≡ true
 doubled_scalars k [] quote all = refl
 doubled_scalars k (c ∷ cs) quote all =
-    let each = both_true (scalar c) (all_scalars cs) all in
+    let each = and_parts (scalar c) (all_scalars cs) all in
     let more = doubled_scalars k cs quote each.1 in
     let here = each.0 in
     elim (eqb_tells c k) [ inl same ↦ rw (same.0, quote) more | inr other ↦ rw (other.0, here) more ]
@@ -65,7 +65,7 @@ digit_scalar c h = grind (arith, nat_tests)
 digits_scalars : (v : List ℕ) → list_all is_digit v ≡ true → all_scalars v ≡ true
 digits_scalars [] all = refl
 digits_scalars (c ∷ v) all =
-    let each = both_true (is_digit c) (list_all is_digit v) all in
+    let each = and_parts (is_digit c) (list_all is_digit v) all in
     let here = digit_scalar c each.0 in
     let more = digits_scalars v each.1 in
     rw here more
@@ -78,7 +78,7 @@ number_scalars (c ∷ v) all = elim (minus_or c v all)
 token_scalars : (t : Sort) → has_text t ≡ true → all_scalars (token_text t) ≡ true
 token_scalars (Word k) has = keyword_scalars k
 token_scalars (Name n) has = quoted_scalars 34 n refl has
-token_scalars (Text t) has = quoted_scalars 39 t refl (both_true (all_scalars t) (is_plain t) has).0
+token_scalars (Text t) has = quoted_scalars 39 t refl (and_parts (all_scalars t) (is_plain t) has).0
 token_scalars (Number w) has = number_scalars w (number_digits w has)
 token_scalars Opening has = refl
 token_scalars Closing has = refl
@@ -91,9 +91,9 @@ token_scalars Other has = refl
 
 spaced_scalars : (ts : List Sort) → list_all has_text ts ≡ true → all_scalars (spaced ts) ≡ true
 spaced_scalars [] all = refl
-spaced_scalars (t ∷ []) all = token_scalars t (both_true (has_text t) true all).0
+spaced_scalars (t ∷ []) all = token_scalars t (and_parts (has_text t) true all).0
 spaced_scalars (t ∷ u ∷ ts) all =
-    let each = both_true (has_text t) (list_all has_text (u ∷ ts)) all in
+    let each = and_parts (has_text t) (list_all has_text (u ∷ ts)) all in
     joined (token_text t) (32 ∷ spaced (u ∷ ts)) (token_scalars t each.0) (spaced_scalars (u ∷ ts) each.1)
 
 mutual

@@ -22,8 +22,8 @@ use Rattle.sql_layout.proofs.Joined.{either_no, both_yes, value_or, value_and, v
 use Rattle.sql_layout.proofs.InHalves.{count_some, and_count_some, later_count, later_and_count, halves_value_or, halves_value_and}
 use Rattle.std.specs.Prelude.{nat_le}
 use Rattle.std.proofs.lemmas.Bool.Decides.{nat_tests}
-use Rattle.sql_lang.proofs.Both.{both_true}
 use Rattle.std.proofs.lemmas.Slice.Eq.{bytes_eq-Decides}
+use Rattle.std.proofs.lemmas.Bool.{and_parts}
 use Rattle.sig_base.specs.Folding.{folded}
 use Rattle.sql_lang.specs.Grammar.{Query}
 use Rattle.sql_lang.specs.Names.{is_named}
@@ -49,7 +49,7 @@ record IsFine (f : Form) : Type 0 where
 strong_or_join : (o p : Ors) → strong_or o ≡ true → strong_or p ≡ true → strong_or (or_join o p) ≡ true
 strong_or_join (last_and a) p first second = rw first second
 strong_or_join (and_or a o) p first second =
-    let each = both_true (fine_and a) (strong_or o) first in
+    let each = and_parts (fine_and a) (strong_or o) first in
     let more = strong_or_join o p each.1 second in
     let here = each.0 in
     rw here more
@@ -57,7 +57,7 @@ strong_or_join (and_or a o) p first second =
 strong_and_join : (a b : Ands) → strong_and a ≡ true → strong_and b ≡ true → strong_and (and_join a b) ≡ true
 strong_and_join (last_not n) b first second = rw first second
 strong_and_join (not_and n a) b first second =
-    let each = both_true (fine_part n) (strong_and a) first in
+    let each = and_parts (fine_part n) (strong_and a) first in
     let more = strong_and_join a b each.1 second in
     let here = each.0 in
     rw here more
@@ -67,7 +67,7 @@ long_if_or (last_and a) h = absurd cc
 long_if_or (and_or a o) h = refl
 
 part_after : (n : Nots) → fine_part n ≡ true → fine_after n ≡ true
-part_after (enclosed o) h = let each = both_true (is_long_or o) (fine_or o) h in let long = long_if_or o each.0 in let fine = each.1 in rw long fine
+part_after (enclosed o) h = let each = and_parts (is_long_or o) (fine_or o) h in let long = long_if_or o each.0 in let fine = each.1 in rw long fine
 part_after (not_not n) h = h
 part_after (a_test t) h = h
 
@@ -83,19 +83,19 @@ and_behind (not_and n a) h = h
 strong_ors : (o : Ors) → strong_or o ≡ true → fine_ors o ≡ true
 strong_ors (last_and a) h = and_behind a h
 strong_ors (and_or a o) h =
-    let each = both_true (fine_and a) (strong_or o) h in
+    let each = and_parts (fine_and a) (strong_or o) h in
     let here = and_behind a each.0 in
     let more = strong_ors o each.1 in
     rw here more
 
 strong_fine : (o : Ors) → strong_or o ≡ true → fine_or o ≡ true
 strong_fine (last_and a) h = h
-strong_fine (and_or a o) h = let each = both_true (fine_and a) (strong_or o) h in let here = each.0 in let more = strong_ors o each.1 in rw here more
+strong_fine (and_or a o) h = let each = and_parts (fine_and a) (strong_or o) h in let here = each.0 in let more = strong_ors o each.1 in rw here more
 
 strong_ands : (a : Ands) → strong_and a ≡ true → fine_ands a ≡ true
 strong_ands (last_not n) h = part_after n h
 strong_ands (not_and n a) h =
-    let each = both_true (fine_part n) (strong_and a) h in
+    let each = and_parts (fine_part n) (strong_and a) h in
     let here = part_after n each.0 in
     let more = strong_ands a each.1 in
     rw here more
@@ -103,7 +103,7 @@ strong_ands (not_and n a) h =
 -- as a chain, whose first part may be its last
 strong_chain : (a : Ands) → strong_and a ≡ true → fine_behind a ≡ true
 strong_chain (last_not n) h = h
-strong_chain (not_and n a) h = let each = both_true (fine_part n) (strong_and a) h in let here = each.0 in let more = strong_ands a each.1 in rw here more
+strong_chain (not_and n a) h = let each = and_parts (fine_part n) (strong_and a) h in let here = each.0 in let more = strong_ands a each.1 in rw here more
 
 chain_fine : (a : Ands) → fine_behind a ≡ true → is_long (last_and a) ≡ true → fine_and a ≡ true
 chain_fine (last_not n) h long = absurd cc
@@ -113,44 +113,44 @@ chain_fine (not_and n a) h long = h
 ors_and_part : (o : Ors) (b : Ands) → fine_ors o ≡ true → fine_behind b ≡ true → fine_ors (or_join o (last_and b)) ≡ true
 ors_and_part (last_and a) b first second = rw first second
 ors_and_part (and_or a o) b first second =
-    let each = both_true (fine_behind a) (fine_ors o) first in let here = each.0 in let more = ors_and_part o b each.1 second in rw here more
+    let each = and_parts (fine_behind a) (fine_ors o) first in let here = each.0 in let more = ors_and_part o b each.1 second in rw here more
 
 or_and_part : (o : Ors) (b : Ands) → fine_or o ≡ true → fine_behind b ≡ true → fine_or (or_join o (last_and b)) ≡ true
 or_and_part (last_and a) b first second = rw first second
 or_and_part (and_or a o) b first second =
-    let each = both_true (fine_and a) (fine_ors o) first in let here = each.0 in let more = ors_and_part o b each.1 second in rw here more
+    let each = and_parts (fine_and a) (fine_ors o) first in let here = each.0 in let more = ors_and_part o b each.1 second in rw here more
 
 ands_and_part : (a : Ands) (n : Nots) → fine_ands a ≡ true → fine_after n ≡ true → fine_ands (and_join a (last_not n)) ≡ true
 ands_and_part (last_not m) n first second = rw first second
 ands_and_part (not_and m a) n first second =
-    let each = both_true (fine_after m) (fine_ands a) first in let here = each.0 in let more = ands_and_part a n each.1 second in rw here more
+    let each = and_parts (fine_after m) (fine_ands a) first in let here = each.0 in let more = ands_and_part a n each.1 second in rw here more
 
 and_and_part : (a : Ands) (n : Nots) → fine_behind a ≡ true → fine_after n ≡ true → fine_behind (and_join a (last_not n)) ≡ true
 and_and_part (last_not m) n first second = rw first second
 and_and_part (not_and m a) n first second =
-    let each = both_true (fine_part m) (fine_ands a) first in let here = each.0 in let more = ands_and_part a n each.1 second in rw here more
+    let each = and_parts (fine_part m) (fine_ands a) first in let here = each.0 in let more = ands_and_part a n each.1 second in rw here more
 
 strong_first_ors : (k : ℕ) (o : Ors) → strong_or o ≡ true → strong_or (first_ors k o) ≡ true
 strong_first_ors k (last_and a) h = h
-strong_first_ors zero (and_or a o) h = (both_true (fine_and a) (strong_or o) h).0
+strong_first_ors zero (and_or a o) h = (and_parts (fine_and a) (strong_or o) h).0
 strong_first_ors (suc k) (and_or a o) h =
-    let each = both_true (fine_and a) (strong_or o) h in let here = each.0 in let more = strong_first_ors k o each.1 in rw here more
+    let each = and_parts (fine_and a) (strong_or o) h in let here = each.0 in let more = strong_first_ors k o each.1 in rw here more
 
 strong_later_ors : (k : ℕ) (o : Ors) → strong_or o ≡ true → strong_or (later_ors k o) ≡ true
 strong_later_ors k (last_and a) h = h
-strong_later_ors zero (and_or a o) h = (both_true (fine_and a) (strong_or o) h).1
-strong_later_ors (suc k) (and_or a o) h = strong_later_ors k o (both_true (fine_and a) (strong_or o) h).1
+strong_later_ors zero (and_or a o) h = (and_parts (fine_and a) (strong_or o) h).1
+strong_later_ors (suc k) (and_or a o) h = strong_later_ors k o (and_parts (fine_and a) (strong_or o) h).1
 
 strong_first_ands : (k : ℕ) (a : Ands) → strong_and a ≡ true → strong_and (first_ands k a) ≡ true
 strong_first_ands k (last_not n) h = h
-strong_first_ands zero (not_and n a) h = (both_true (fine_part n) (strong_and a) h).0
+strong_first_ands zero (not_and n a) h = (and_parts (fine_part n) (strong_and a) h).0
 strong_first_ands (suc k) (not_and n a) h =
-    let each = both_true (fine_part n) (strong_and a) h in let here = each.0 in let more = strong_first_ands k a each.1 in rw here more
+    let each = and_parts (fine_part n) (strong_and a) h in let here = each.0 in let more = strong_first_ands k a each.1 in rw here more
 
 strong_later_ands : (k : ℕ) (a : Ands) → strong_and a ≡ true → strong_and (later_ands k a) ≡ true
 strong_later_ands k (last_not n) h = h
-strong_later_ands zero (not_and n a) h = (both_true (fine_part n) (strong_and a) h).1
-strong_later_ands (suc k) (not_and n a) h = strong_later_ands k a (both_true (fine_part n) (strong_and a) h).1
+strong_later_ands zero (not_and n a) h = (and_parts (fine_part n) (strong_and a) h).1
+strong_later_ands (suc k) (not_and n a) h = strong_later_ands k a (and_parts (fine_part n) (strong_and a) h).1
 
 long_join_or : (o p : Ors) → is_long_or (or_join o p) ≡ true
 long_join_or (last_and a) p = refl

@@ -7,10 +7,10 @@ use Rattle.std.proofs.lemmas.List.Folds.{list_all-append}
 use Rattle.std.proofs.lemmas.Bool.Decides.{nat_tests}
 use Rattle.std.proofs.lemmas.Int.{ints}
 use Rattle.std.proofs.lemmas.Fmt.{decimal_by_steps}
-use Rattle.sig_base.specs.Digits.{is_digit, unsigned}
+use Rattle.std.proofs.lemmas.Bool.{and_parts}
+use Rattle.sig_base.specs.Digits.{is_digit, unsigned, digits_from}
 use Rattle.event_schema.specs.Events.{IsWholeNumber}
-use Rattle.sql_lang.proofs.Both.{both_true}
-use Rattle.sql_lang.specs.Tokens.{digits_from, are_digits, is_number, negative, number_of}
+use Rattle.sql_lang.specs.Tokens.{are_digits, is_number, negative, number_of}
 
 record Writes (n : ℕ) (ds : List ℕ) : Type 0 where
   digits : are_digits ds ≡ true
@@ -45,7 +45,7 @@ digit_no_minus : (c : ℕ) → is_digit c ≡ true → (c == 45) ≡ false
 digit_no_minus c h = grind (arith, nat_tests)
 
 first_no_minus : (c : ℕ) (v : List ℕ) → are_digits (c ∷ v) ≡ true → (c == 45) ≡ false
-first_no_minus c v all = digit_no_minus c (both_true (is_digit c) (list_all is_digit v) all).0
+first_no_minus c v all = digit_no_minus c (and_parts (is_digit c) (list_all is_digit v) all).0
 
 plain_unsigned : (ds : List ℕ) → are_digits ds ≡ true → unsigned ds ≡ ds
 plain_unsigned [] all = refl

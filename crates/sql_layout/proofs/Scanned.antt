@@ -5,12 +5,12 @@ use Rattle.std.specs.List.{list_all}
 use Rattle.std.specs.Str.{all_scalars}
 use Rattle.std.proofs.lemmas.List.Folds.{list_all-append}
 use Rattle.std.proofs.lemmas.Bool.Decides.{eqb_tells, nat_tests}
+use Rattle.std.proofs.lemmas.Bool.{and_parts}
 use Rattle.sig_base.specs.Digits.{is_digit, unsigned}
 use Rattle.query_tokens.specs.Places.{At, after, origin}
 use Rattle.sql_lang.specs.Tokens.{Keyword, SELECT, FROM, WHERE, OR, AND, NOT, IS, NULL, LIKE, ESCAPE, GLOB, REGEXP, IN, BETWEEN, COLLATE, NOCASE, BINARY, Op, Eq, Ne, Lt, Lte, Gt, Gte, Sort, Word, Name, Text, Number, Opening, Closing, Comma, Star, Semicolon, Compares, Unclosed, Other, Mode, Outside, Whole, InRun, InQuotes, AfterQuotes, start, scan, tokens, run_sort, text_sort, quoted_sort, is_run_char, is_number, are_digits, is_plain}
 use Rattle.query_tokens.specs.Tokens.{sorts}
 use Rattle.sql_lang.specs.Grammar.{Ors, last_and, and_or, Ands, last_not, not_and, Nots, not_not, a_test, enclosed, Query, spell_test, spell_or, spell_and, spell_nots, spell_head, spell_end, spell_query}
-use Rattle.sql_lang.proofs.Both.{both_true}
 use Rattle.sql_layout.specs.Layout.{doubled, in_quotes, keyword_text, op_text, token_text, has_text, spaced, text_or, text_and, text_not, text_end, text_query, is_writable}
 
 -- what goes on so can't lengthen the token before it
@@ -43,7 +43,7 @@ in_run : (v w : List ℕ) (q p : At) (rest : List ℕ) → list_all is_run_char 
 in_run [] w q p rest all parts =
     (p, run_ends w q p rest parts ∙ ap (λ (x : List ℕ). run_sort x ∷ sorts (scan Outside p rest)) (sym (append-nil w)))
 in_run (c ∷ v) w q p rest all parts =
-    let each = both_true (is_run_char c) (list_all is_run_char v) all in
+    let each = and_parts (is_run_char c) (list_all is_run_char v) all in
     let more = in_run v (w ++ c ∷ []) q (after p c) rest each.1 parts in
     let regrouped : (w ++ c ∷ []) ++ v ≡ w ++ c ∷ v = append_assoc w (c ∷ []) v in
     (more.0, ap sorts (run_goes w q p c (v ++ rest) each.0) ∙ (more.1 ∙ ap (λ (x : List ℕ). run_sort x ∷ sorts (scan Outside more.0 rest)) regrouped))
@@ -86,7 +86,7 @@ digit_runs c h = grind (arith, nat_tests)
 run_of : (v : List ℕ) → list_all is_digit v ≡ true → list_all is_run_char v ≡ true
 run_of [] all = refl
 run_of (c ∷ v) all =
-    let each = both_true (is_digit c) (list_all is_digit v) all in
+    let each = and_parts (is_digit c) (list_all is_digit v) all in
     let here = digit_runs c each.0 in
     let more = run_of v each.1 in
     rw here more
@@ -94,7 +94,7 @@ run_of (c ∷ v) all =
 scans_digits : (v : List ℕ) → are_digits v ≡ true → Scans v (run_sort v ∷ [])
 scans_digits [] all = absurd cc
 scans_digits (c ∷ v) all =
-    let each = both_true (is_digit c) (list_all is_digit v) all in
+    let each = and_parts (is_digit c) (list_all is_digit v) all in
     scans_run c v (digit_begins c each.0) (run_of v each.1)
 
 pub minus_or : (c : ℕ) (v : List ℕ) → are_digits (unsigned (c ∷ v)) ≡ true
@@ -117,7 +117,7 @@ number_sort w is = rw is refl
 
 pub number_digits : (w : List ℕ) → is_number w ≡ true → are_digits (unsigned w) ≡ true
 unfolding is_number
-number_digits w is = (both_true _ _ is).0
+number_digits w is = (and_parts _ _ is).0
 
 scans_number : (w : List ℕ) → is_number w ≡ true → Scans w (Number w ∷ [])
 scans_number w is = subst (λ (s : Sort). Scans w (s ∷ [])) (number_sort w is) (scans_signed w (number_digits w is))
@@ -244,7 +244,7 @@ plain_text : (t : List ℕ) → has_text (Text t) ≡ true → text_sort t ≡ T
 unfolding text_sort
 plain_text t has =
     elim (is_plain t) as (λ b. b ≡ true → (if b then Text t else Other) ≡ Text t) [ true ↦ λ h. refl | false ↦ λ h. absurd cc ]
-    (both_true (all_scalars t) (is_plain t) has).1
+    (and_parts (all_scalars t) (is_plain t) has).1
 
 scans_text : (t : List ℕ) → has_text (Text t) ≡ true → Scans (in_quotes 39 t) (Text t ∷ [])
 unfolding scan
@@ -281,15 +281,15 @@ then_spaced a b ss ts first second p rest parts =
 
 scans_spaced : (ts : List Sort) → list_all has_text ts ≡ true → Scans (spaced ts) ts
 scans_spaced [] all = λ p rest parts. (p, refl)
-scans_spaced (t ∷ []) all = scans_token t (both_true (has_text t) true all).0
+scans_spaced (t ∷ []) all = scans_token t (and_parts (has_text t) true all).0
 scans_spaced (t ∷ u ∷ ts) all =
-    let each = both_true (has_text t) (list_all has_text (u ∷ ts)) all in
+    let each = and_parts (has_text t) (list_all has_text (u ∷ ts)) all in
     then_spaced (token_text t) (spaced (u ∷ ts)) (t ∷ []) (u ∷ ts) (scans_token t each.0) (scans_spaced (u ∷ ts) each.1)
 
 -- ---- queries
 
 pub texts_parted : (ss ts : List Sort) → list_all has_text (ss ++ ts) ≡ true → (list_all has_text ss ≡ true) × (list_all has_text ts ≡ true)
-texts_parted ss ts all = both_true (list_all has_text ss) (list_all has_text ts) (sym (list_all-append has_text ss ts) ∙ all)
+texts_parted ss ts all = and_parts (list_all has_text ss) (list_all has_text ts) (sym (list_all-append has_text ss ts) ∙ all)
 
 scans_enclosed : (o : Ors) → Scans (text_or o) (spell_or o) → Scans (text_not (enclosed o)) (spell_nots (enclosed o))
 unfolding scan

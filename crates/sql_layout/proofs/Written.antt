@@ -5,11 +5,11 @@ use Rattle.std.specs.List.{list_all}
 use Rattle.std.specs.Str.{all_scalars}
 use Rattle.std.proofs.Math.Utf8.{scalar}
 use Rattle.std.proofs.lemmas.Bool.Decides.{nat_tests}
+use Rattle.std.proofs.lemmas.Bool.{and_parts, cases_Bool}
 use Rattle.event_schema.specs.Events.{IsPlainText}
 use Rattle.sql_lang.specs.Faults.{is_bad_escape, is_bad_bracket, is_bad_like, is_bad_glob}
 use Rattle.sql_lang.specs.Meaning.{Part, AnyRun, AnyOne, Exactly, like_part, like_from, like_parts, glob_part, glob_from, glob_parts}
 use Rattle.sql_layout.specs.Escaped.{is_like_sign, like_text, is_glob_sign, glob_text, characters}
-use Rattle.sql_lang.proofs.Both.{both_true, by_test}
 
 -- ---- LIKE
 
@@ -38,7 +38,7 @@ unfolding like_from
 like_reads [] = refl
 like_reads (AnyRun ∷ ps) = plain_like 37 (like_text ps) refl ∙ ap (λ (qs : List Part). AnyRun ∷ qs) (like_reads ps)
 like_reads (AnyOne ∷ ps) = plain_like 95 (like_text ps) refl ∙ ap (λ (qs : List Part). AnyOne ∷ qs) (like_reads ps)
-like_reads (Exactly c ∷ ps) = elim (by_test (is_like_sign c)) [
+like_reads (Exactly c ∷ ps) = elim (cases_Bool (is_like_sign c)) [
   | inl sign ↦ ap (like_parts (Some 92)) (like_sign_text c ps sign) ∙ (escaped_like c (like_text ps) ∙ ap (λ (qs : List Part). Exactly c ∷ qs) (like_reads ps))
   | inr plain ↦ ap (like_parts (Some 92)) (like_plain_text c ps plain)
       ∙ (plain_like c (like_text ps) (no_like_sign c plain).0
@@ -58,7 +58,7 @@ unfolding is_bad_escape
 like_is_good [] = refl
 like_is_good (AnyRun ∷ ps) = good_plain_like 37 (like_text ps) refl ∙ like_is_good ps
 like_is_good (AnyOne ∷ ps) = good_plain_like 95 (like_text ps) refl ∙ like_is_good ps
-like_is_good (Exactly c ∷ ps) = elim (by_test (is_like_sign c)) [
+like_is_good (Exactly c ∷ ps) = elim (cases_Bool (is_like_sign c)) [
   | inl sign ↦ ap (is_bad_like 92) (like_sign_text c ps sign) ∙ (good_escaped_like c (like_text ps) sign ∙ like_is_good ps)
   | inr plain ↦ ap (is_bad_like 92) (like_plain_text c ps plain) ∙ (good_plain_like c (like_text ps) (no_like_sign c plain).0 ∙ like_is_good ps)
 ]
@@ -90,7 +90,7 @@ unfolding glob_from
 glob_reads [] = refl
 glob_reads (AnyRun ∷ ps) = plain_glob 42 (glob_text ps) refl ∙ ap (λ (qs : List Part). AnyRun ∷ qs) (glob_reads ps)
 glob_reads (AnyOne ∷ ps) = plain_glob 63 (glob_text ps) refl ∙ ap (λ (qs : List Part). AnyOne ∷ qs) (glob_reads ps)
-glob_reads (Exactly c ∷ ps) = elim (by_test (is_glob_sign c)) [
+glob_reads (Exactly c ∷ ps) = elim (cases_Bool (is_glob_sign c)) [
   | inl sign ↦ ap glob_parts (glob_sign_text c ps sign) ∙ (bracketed_glob c (glob_text ps) ∙ ap (λ (qs : List Part). Exactly c ∷ qs) (glob_reads ps))
   | inr plain ↦ ap glob_parts (glob_plain_text c ps plain)
       ∙ (plain_glob c (glob_text ps) (no_glob_sign c plain).0
@@ -110,7 +110,7 @@ unfolding is_bad_bracket
 glob_is_good [] = refl
 glob_is_good (AnyRun ∷ ps) = good_plain_glob 42 (glob_text ps) refl ∙ glob_is_good ps
 glob_is_good (AnyOne ∷ ps) = good_plain_glob 63 (glob_text ps) refl ∙ glob_is_good ps
-glob_is_good (Exactly c ∷ ps) = elim (by_test (is_glob_sign c)) [
+glob_is_good (Exactly c ∷ ps) = elim (cases_Bool (is_glob_sign c)) [
   | inl sign ↦ ap is_bad_glob (glob_sign_text c ps sign) ∙ (good_bracketed_glob c (glob_text ps) sign ∙ glob_is_good ps)
   | inr plain ↦ ap is_bad_glob (glob_plain_text c ps plain) ∙ (good_plain_glob c (glob_text ps) (no_glob_sign c plain).0 ∙ glob_is_good ps)
 ]
@@ -122,8 +122,8 @@ more_plain c cs is above plain = let a = plain.0 in let b = plain.1 in (rw is a,
 
 first_plain : (c : ℕ) (cs : List ℕ) → IsPlainText (c ∷ cs) → (scalar c ≡ true) × (nat_lt 0 c ≡ true) × IsPlainText cs
 first_plain c cs plain =
-    let a = both_true (scalar c) (all_scalars cs) plain.0 in
-    let b = both_true (nat_lt 0 c) (list_all (λ d. nat_lt 0 d) cs) plain.1 in
+    let a = and_parts (scalar c) (all_scalars cs) plain.0 in
+    let b = and_parts (nat_lt 0 c) (list_all (λ d. nat_lt 0 d) cs) plain.1 in
     (a.0, b.0, (a.1, b.1))
 
 pub like_plain : (ps : List Part) → IsPlainText (characters ps) → IsPlainText (like_text ps)
@@ -133,7 +133,7 @@ like_plain (AnyOne ∷ ps) plain = more_plain 95 (like_text ps) refl refl (like_
 like_plain (Exactly c ∷ ps) plain =
     let f = first_plain c (characters ps) plain in
     let more = more_plain c (like_text ps) f.0 f.1 (like_plain ps f.2) in
-    elim (by_test (is_like_sign c)) [
+    elim (cases_Bool (is_like_sign c)) [
       | inl sign ↦ subst IsPlainText (sym (like_sign_text c ps sign)) (more_plain 92 (c ∷ like_text ps) refl refl more)
       | inr other ↦ subst IsPlainText (sym (like_plain_text c ps other)) more
     ]
@@ -145,7 +145,7 @@ glob_plain (AnyOne ∷ ps) plain = more_plain 63 (glob_text ps) refl refl (glob_
 glob_plain (Exactly c ∷ ps) plain =
     let f = first_plain c (characters ps) plain in
     let rest = glob_plain ps f.2 in
-    elim (by_test (is_glob_sign c)) [
+    elim (cases_Bool (is_glob_sign c)) [
       | inl sign ↦ subst IsPlainText (sym (glob_sign_text c ps sign))
           (more_plain 91 (c ∷ 93 ∷ glob_text ps) refl refl (more_plain c (93 ∷ glob_text ps) f.0 f.1 (more_plain 93 (glob_text ps) refl refl rest)))
       | inr other ↦ subst IsPlainText (sym (glob_plain_text c ps other)) (more_plain c (glob_text ps) f.0 f.1 rest)

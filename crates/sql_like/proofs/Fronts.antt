@@ -21,11 +21,11 @@ module _ (same : ℕ → ℕ → Bool) (ps : List Part) (text : List ℕ) where
 
   any_one : (qs : List Part) → qs ≡ AnyOne ∷ ps → (fits_parts same qs text ≡ true) ↔ CharThen (λ d. true) Behind text
   unfolding fits_parts
-  any_one qs is = rw is (one_agrees (λ d. true) (fits_parts same ps) Behind text (λ rest. (λ h. h, λ h. h)))
+  any_one qs is = rw is (one_agrees (fits_parts same ps) Behind text (λ rest. (λ h. h, λ h. h)) (λ d. true))
 
   exactly : (qs : List Part) (c : ℕ) → qs ≡ Exactly c ∷ ps → (fits_parts same qs text ≡ true) ↔ CharThen (same c) Behind text
   unfolding fits_parts
-  exactly qs c is = rw is (one_agrees (same c) (fits_parts same ps) Behind text (λ rest. (λ h. h, λ h. h)))
+  exactly qs c is = rw is (one_agrees (fits_parts same ps) Behind text (λ rest. (λ h. h, λ h. h)) (same c))
 
 is_equal : (c k : ℕ) → c ≡ k → (c == k) ≡ true
 is_equal c k h = grind (arith, nat_tests)

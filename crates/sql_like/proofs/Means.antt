@@ -1,6 +1,7 @@
 -- The parts of LIKE and GLOB fit what the parts of a pattern fit.
 use Rattle.std.proofs.Common.{ℕ, ◌≡◌, refl, Bool, true, false, List, [], ◌∷◌}
 use Rattle.std.specs.Prelude.{◌↔◌, Some}
+use Rattle.matching.proofs.SuffixLemmas.{SuffixHolds-tests, CharThen-tests}
 use Rattle.matching.specs.Suffixes.{SuffixHolds, CharThen}
 use Rattle.sig_strings.specs.declared.part.Part.{Part}
 use Rattle.sig_strings.specs.declared.part.Part.TheVariants.{Char, One, Run, Dash, Hole}
@@ -8,7 +9,6 @@ use Rattle.sig_strings.specs.Fits.{same_char, Fits}
 use Rattle.sql_lang.specs.Meaning.{some_end, behind_one, is_nothing, fits_parts, like_fits, glob_fits}
 use Rattle.sql_layout.specs.Escaped.{like_text, glob_text}
 use Rattle.sql_layout.proofs.Written.{like_reads, glob_reads}
-use Rattle.sql_lang.proofs.Runs.{run_is, one_is}
 use Rattle.sql_like.specs.Writable.{is_writable, sql_parts}
 
 pub nothing_is : (text : List ℕ) → (is_nothing text ≡ true) ↔ (text ≡ [])
@@ -16,30 +16,21 @@ nothing_is [] = (λ h. refl, λ h. refl)
 nothing_is (c ∷ cs) = (λ h. absurd cc, λ h. absurd cc)
 
 -- a run, and a single character, where what stands behind them agrees
-pub run_agrees : (fits : List ℕ → Bool) (holds : List ℕ → Type 0) (text : List ℕ) → ((rest : List ℕ) → (fits rest ≡ true) ↔ holds rest)
-    → (some_end fits text ≡ true) ↔ SuffixHolds holds text
-run_agrees fits holds text agrees = (
-  λ h. (let r = (run_is fits text).0 h in record { before = r.0; suffix = r.1; shape = r.2; holds_there = (agrees r.1).0 r.3 }),
-  λ s. (run_is fits text).1 (s.before, s.suffix, s.shape, (agrees s.suffix).1 s.holds_there),
-)
+module _ (fits : List ℕ → Bool) (holds : List ℕ → Type 0) (text : List ℕ) (agrees : (rest : List ℕ) → (fits rest ≡ true) ↔ holds rest) where
+  pub run_agrees : (some_end fits text ≡ true) ↔ SuffixHolds holds text
+  run_agrees = SuffixHolds-tests fits holds agrees (some_end fits) refl (λ c cs. refl) text
 
-pub one_agrees : (is_so : ℕ → Bool) (fits : List ℕ → Bool) (holds : List ℕ → Type 0) (text : List ℕ) → ((rest : List ℕ) → (fits rest ≡ true) ↔ holds rest)
-    → (behind_one is_so fits text ≡ true) ↔ CharThen is_so holds text
-one_agrees is_so fits holds text agrees = (
-  λ h. (let r = (one_is is_so fits text).0 h in record { first = r.0; rest = r.1; shape = r.2; passed = r.3; holds_then = (agrees r.1).0 r.4 }),
-  λ s. (one_is is_so fits text).1 (s.first, s.rest, s.shape, s.passed, (agrees s.rest).1 s.holds_then),
-)
+  pub one_agrees : (is_so : ℕ → Bool) → (behind_one is_so fits text ≡ true) ↔ CharThen is_so holds text
+  one_agrees is_so = CharThen-tests fits holds agrees is_so (behind_one is_so fits) refl (λ c cs. refl) text
 
 parts_agree : (cased : Bool) (parts : List Part) (text : List ℕ) → is_writable parts ≡ true
     → (fits_parts (same_char cased) (sql_parts parts) text ≡ true) ↔ Fits parts text cased
 unfolding fits_parts
 parts_agree cased [] text written = nothing_is text
 parts_agree cased (Char c ∷ parts) text written =
-    one_agrees (same_char cased c) (fits_parts (same_char cased) (sql_parts parts)) (λ rest. Fits parts rest cased) text
-    (λ rest. parts_agree cased parts rest written)
+    one_agrees (fits_parts (same_char cased) (sql_parts parts)) (λ rest. Fits parts rest cased) text (λ rest. parts_agree cased parts rest written) (same_char cased c)
 parts_agree cased (One ∷ parts) text written =
-    one_agrees (λ d. true) (fits_parts (same_char cased) (sql_parts parts)) (λ rest. Fits parts rest cased) text
-    (λ rest. parts_agree cased parts rest written)
+    one_agrees (fits_parts (same_char cased) (sql_parts parts)) (λ rest. Fits parts rest cased) text (λ rest. parts_agree cased parts rest written) (λ d. true)
 parts_agree cased (Run ∷ parts) text written =
     run_agrees (fits_parts (same_char cased) (sql_parts parts)) (λ rest. Fits parts rest cased) text (λ rest. parts_agree cased parts rest written)
 parts_agree cased (Dash ∷ parts) text written = absurd cc

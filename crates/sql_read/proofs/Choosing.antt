@@ -8,7 +8,7 @@ use Rattle.sig_base.specs.declared.refusal.Refusal.{Refusal}
 use Rattle.event_schema.specs.Lists.{EachOf, SomeOf}
 use Rattle.query_lang.specs.Answers.{place_of}
 use Rattle.query_lang.specs.Patterns.{is_pattern}
-use Rattle.query_lang.specs.RefusedPlaces.{PatternAt, is_of_pattern, IsAmong, IsCause, no_pattern, not_built, AreRefused}
+use Rattle.query_lang.specs.RefusedPlaces.{PatternAt, is_of_pattern, IsAmong, IsCause, no_pattern, not_built, AreOfPatterns, AreRefused}
 use Rattle.query_tokens.specs.Places.{At, CodeAt, code_at, code_at_if}
 use Rattle.query_tokens.specs.Tokens.{places}
 use Rattle.sql_lang.specs.Faults.{same_place, is_refused, refused_at}
@@ -161,12 +161,16 @@ bad_past p (q ∷ qs) h =
 
 -- ---- the list
 
+abbrev IsOf : List PatternAt → List ℕ → Type 0
+IsOf patterns text = SomeOf (λ (p : PatternAt). p.pattern ≡ text) patterns
+
 abbrev pub Cause : List (List ℕ) → Refusal → PatternAt → Type 0
 Cause gained r q = (q.place ≡ place_of r) × IsAmong q.pattern gained × IsCause gained q.pattern r.code
 
 pub record Chosen (before after : List (List ℕ)) (r : Refusal) (cs : List Check) : Type 0 where
   pub gained : List (List ℕ)
   pub follows : after ≡ before ++ gained
+  pub own : AreOfPatterns (patterns_of cs) gained
   pub places : List CodeAt
   pub are : AreRefused (patterns_of cs) gained places
   pub more : List CodeAt
@@ -179,6 +183,7 @@ module _ (before after : List (List ℕ)) where
   at_fault f cs own same = record {
     gained = [];
     follows = same ∙ sym (append-nil before);
+    own = tt;
     places = bad (patterns_of cs);
     are = record { caused = bad_caused [] (patterns_of cs); all = bad_placed (patterns_of cs) };
     more = faults_of (bad (patterns_of cs)) cs;
@@ -197,6 +202,7 @@ module _ (before after : List (List ℕ)) where
       record {
         gained = gained;
         follows = follows;
+        own = (inl refl, tt);
         places = own ∷ rest;
         are = record {
           caused = (inl (refl, cause), each_map (Caused gained (patterns_of cs)) (Caused gained (p ∷ patterns_of cs)) (λ r h. inr h) rest (bad_caused gained (patterns_of cs)));
@@ -220,6 +226,7 @@ module _ (before after : List (List ℕ)) where
   later r p cs behind is c = record {
     gained = c.gained;
     follows = c.follows;
+    own = each_map (IsOf (patterns_of cs)) (IsOf (p ∷ patterns_of cs)) (λ text h. inr h) c.gained c.own;
     places = c.places;
     are = record {
       caused = each_map (Caused c.gained (patterns_of cs)) (Caused c.gained (p ∷ patterns_of cs)) (λ x h. inr h) c.places c.are.caused;

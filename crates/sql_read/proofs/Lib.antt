@@ -4,7 +4,6 @@ mod Choosing
 mod Going
 mod Past
 mod Leaf
-mod Placed
 mod Wholes
 mod Verdicts
 mod Deciding

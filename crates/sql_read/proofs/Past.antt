@@ -5,7 +5,7 @@ use Rattle.sig_base.specs.declared.refusal.Place.{Place}
 use Rattle.query_tokens.specs.Places.{At}
 use Rattle.sql_lang.specs.Tokens.{Word, Opening, Closing, IN}
 use Rattle.sql_lang.specs.Grammar.{Collate, Literal, Leaf, one_of, spell_not, spell_collate, spell_literal, spell_before, spell_test}
-use Rattle.sql_scan.specs.View.{place_view}
+use Rattle.query_tokens.specs.PlaceView.{place_view}
 use Rattle.sql_read.specs.Answers.{place_or}
 
 before_length : (ls : List Literal) → length (spell_before ls) ≡ length ls + length ls

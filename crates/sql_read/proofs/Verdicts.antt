@@ -14,7 +14,7 @@ use Rattle.event_schema.specs.Lists.{EachOf, SomeOf}
 use Rattle.event_schema.specs.declared.schema.Schema.{Schema}
 use Rattle.query_lang.specs.Answers.{ReadAnswers, place_of}
 use Rattle.query_lang.specs.Patterns.{is_pattern}
-use Rattle.query_lang.specs.RefusedPlaces.{PatternAt, is_of_pattern, AreRefused}
+use Rattle.query_lang.specs.RefusedPlaces.{PatternAt, is_of_pattern, AreOfPatterns, AreRefused}
 use Rattle.query_tokens.specs.Places.{At, origin, place_after, CodeAt, code_at, IsText, IsBadAt}
 use Rattle.query_tokens.specs.Tokens.{sorts, places, token_place}
 use Rattle.sql_lang.specs.Expression.{Expr, or_expr, depth}
@@ -27,7 +27,8 @@ use Rattle.sql_lang.specs.Queries.{IsWithin}
 use Rattle.sql_lang.specs.View.{expr_view}
 use Rattle.sql_lang.specs.declared.query.Select.{Select}
 use Rattle.sql_scan.specs.declared.token.Token.{Token as ReadToken}
-use Rattle.sql_scan.specs.View.{place_view, place_if, tokens_view}
+use Rattle.query_tokens.specs.PlaceView.{place_view, place_if}
+use Rattle.sql_scan.specs.View.{tokens_view}
 use Rattle.sql_read.specs.Answers.{SelectAnswers, place_or, IsTextStop, TextStops, TextAnswers, IsRefused}
 use Rattle.sql_read.specs.Checks.{Check, Sure, Builds, AreBuilt, query_checks}
 use Rattle.sql_read.specs.Walks.{WalkStops}
@@ -52,6 +53,7 @@ module _ (limit : ℕ) (schema : Schema) (cs : List ℕ) (before after : List (L
       let told : IsTextStop limit schema cs before after (refusal code p) = record {
         gained = [];
         follows = same ∙ sym (append-nil before);
+        own = tt;
         places = bad (regexps cs);
         are = record { caused = bad_caused [] (regexps cs); all = bad_placed (regexps cs) };
         first = first (bad (regexps cs));
@@ -98,6 +100,7 @@ module _ (limit : ℕ) (schema : Schema) (cs : List ℕ) (before after : List (L
           record {
             gained = c.gained;
             follows = c.follows;
+            own = subst (λ (ps : List PatternAt). AreOfPatterns ps c.gained) (sym are) c.own;
             places = c.places;
             are = subst (λ (ps : List PatternAt). AreRefused ps c.gained c.places) (sym are) c.are;
             first = faulty q none near spelled shallow c.more (looked schema c.places q (places (tokens cs)) ∙ c.first);
@@ -187,13 +190,14 @@ module _ (limits : Limits) (schema : Schema) (bytes : List ℕ) (before after : 
           unrefused = λ r first. none_refused true (law [] e (code_at r.code (place_of r)) read first.first).0;
         };
       }
-  bytes_are cs (Err Memory) text are h = record { gained = []; follows = h ∙ sym (append-nil before); answers = tt }
+  bytes_are cs (Err Memory) text are h = record { gained = []; follows = h ∙ sym (append-nil before); answers = refl }
   bytes_are cs (Err (Refused r)) text are h =
       let first = no_query cs text h.first in
       record {
         gained = h.gained;
         follows = h.follows;
         answers = record {
+          own = subst (λ (ps : List PatternAt). AreOfPatterns ps h.gained) (sym are) h.own;
           places = h.places;
           are = subst (λ (ps : List PatternAt). AreRefused ps h.gained h.places) (sym are) h.are;
           first = record { first = first; plain = h.bare };
@@ -232,6 +236,7 @@ module _ (limits : Limits) (schema : Schema) (bytes : List ℕ) (before after : 
         gained = [];
         follows = same ∙ sym (append-nil before);
         answers = record {
+          own = tt;
           places = [];
           are = subst (λ (ps : List PatternAt). AreRefused ps [] []) (sym none) (record { caused = tt; all = tt });
           first = record { first = first; plain = refl };

@@ -15,7 +15,8 @@ use Rattle.sql_lang.specs.Names.{is_named}
 use Rattle.sql_lang.specs.Tokens as lang
 use Rattle.sql_scan.specs.declared.token.Sort.{Sort}
 use Rattle.sql_scan.specs.declared.token.Token.{Token}
-use Rattle.sql_scan.specs.View.{sort_view, place_view, tokens_view}
+use Rattle.query_tokens.specs.PlaceView.{place_view}
+use Rattle.sql_scan.specs.View.{sort_view, tokens_view}
 use Rattle.sql_check.specs.Refused.{refusal_of}
 use Rattle.sql_read.specs.Checks.{Check, sure, AreBuilt, StopsFor, or_checks, query_checks}
 use Rattle.sql_read.specs.Walks.{WalkStops}

@@ -9,7 +9,7 @@ use Rattle.event_schema.specs.Lists.{EachOf, SomeOf}
 use Rattle.event_schema.specs.declared.schema.Schema.{Schema}
 use Rattle.query_lang.specs.Answers.{place_of}
 use Rattle.query_lang.specs.Patterns.{is_pattern}
-use Rattle.query_lang.specs.RefusedPlaces.{PatternAt, is_of_pattern, IsAmong, IsCause, AreRefused}
+use Rattle.query_lang.specs.RefusedPlaces.{PatternAt, is_of_pattern, IsAmong, IsCause, AreOfPatterns, AreRefused}
 use Rattle.query_tokens.specs.Places.{At, CodeAt, code_at}
 use Rattle.sql_lang.specs.Expression.{Expr}
 use Rattle.sql_lang.specs.Reading.{ReadsWithin, Refuses, BytesRefused}
@@ -30,10 +30,12 @@ place_or [] k end = end
 place_or (p ∷ ps) zero end = p
 place_or (p ∷ ps) (suc k) end = place_or ps k end
 
--- The first refusal of these characters, for a list of places that are refused for their regular expressions.
+-- The first refusal of these characters, for a list of places that are refused for their regular expressions; what the builder refused are
+-- regular expressions of theirs.
 pub record IsTextStop (limit : ℕ) (schema : Schema) (cs : List ℕ) (before after : List (List ℕ)) (r : Refusal) : Type 0 where
   pub gained : List (List ℕ)
   pub follows : after ≡ before ++ gained
+  pub own : AreOfPatterns (regexps cs) gained
   pub places : List CodeAt
   pub are : AreRefused (regexps cs) gained places
   pub first : Refuses limit schema places cs (code_at r.code (place_of r))

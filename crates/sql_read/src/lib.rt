@@ -2,7 +2,6 @@
 //! whose queries are read and asked of events.
 #![tactic(auto)]
 
-mod end_places;
 mod expressions;
 mod files;
 mod language;

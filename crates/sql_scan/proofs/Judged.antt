@@ -5,7 +5,8 @@ use Rattle.std.proofs.lemmas.List.{drop_more}
 use Rattle.std.proofs.Math.ListN.{drop_of_length-le}
 use Rattle.sql_lang.specs.Reading.{is_other, first_other}
 use Rattle.sql_scan.specs.declared.token.Token.{Token}
-use Rattle.sql_scan.specs.View.{sort_view, place_view, tokens_view}
+use Rattle.query_tokens.specs.PlaceView.{place_view}
+use Rattle.sql_scan.specs.View.{sort_view, tokens_view}
 
 -- what is left to look at decides as the whole
 abbrev pub Decides : List Token → ℕ → Type 0

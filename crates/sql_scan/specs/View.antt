@@ -1,7 +1,8 @@
 -- Tokens and modes of the scanner as the definitions have them.
-use Rattle.std.specs.Prelude.{ℕ, ◌≡◌, Bool, true, false, List, [], ◌∷◌, map, Option, Some, None}
+use Rattle.std.specs.Prelude.{Bool, true, false, List, [], ◌∷◌, map, Option, Some, None}
 use Rattle.sig_base.specs.declared.refusal.Place.{Place}
-use Rattle.query_tokens.specs.Places.{At, place_after, origin}
+use Rattle.query_tokens.specs.PlaceView.{place_view}
+use Rattle.query_tokens.specs.Places.{At}
 use Rattle.sql_lang.specs.declared.query.SqlOp.{SqlOp}
 use Rattle.sql_lang.specs.View.{op_view}
 use Rattle.sql_scan.specs.declared.token.Keyword.{Keyword}
@@ -13,13 +14,6 @@ use Rattle.sql_scan.specs.declared.mode.Mode.{Mode}
 use Rattle.sql_scan.specs.declared.mode.Mode.TheVariants as mo
 use Rattle.sql_scan.specs.declared.mode.Turn.{Turn}
 use Rattle.sql_lang.specs.Tokens as t
-
-abbrev pub place_view : Place → At
-place_view p = record { line = p.line; column = p.column }
-
-abbrev pub place_if : Option Place → Option At
-place_if None = None
-place_if (Some p) = Some (place_view p)
 
 abbrev pub places_view : List Place → List At
 places_view ps = map place_view ps

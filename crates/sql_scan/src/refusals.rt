@@ -4,7 +4,8 @@ ghost use Rattle.std.specs.Prelude.{◌≡◌, ◌||◌};
 ghost use Rattle.sql_lang.specs.Reading as reading;
 ghost use Rattle.query_tokens.specs.Tokens.{sorts};
 ghost use Rattle.sql_scan.specs.View as view;
-ghost use Rattle.sql_scan.specs.View.{sort_view, place_if, tokens_view};
+ghost use Rattle.query_tokens.specs.PlaceView.{place_if};
+ghost use Rattle.sql_scan.specs.View.{sort_view, tokens_view};
 
 use crate::token::{Keyword, Sort, Token};
 use sig_base::Place;

@@ -4,11 +4,13 @@ ghost use Rattle.std.specs.Prelude.{◌≡◌, ◌<◌, ◌^◌, ◌-◌, ◌++�
 ghost use Rattle.std.specs.Str.{chars};
 ghost use Rattle.query_tokens.specs.Places as places;
 ghost use Rattle.sql_lang.specs.Tokens as tokens;
-ghost use Rattle.sql_scan.specs.View.{place_view, ended_view, tokens_view};
+ghost use Rattle.query_tokens.specs.PlaceView.{place_view};
+ghost use Rattle.sql_scan.specs.View.{ended_view, tokens_view};
 
 use crate::mode::Mode;
 use crate::token::Token;
 use crate::transitions::{last, turn};
+use query_tokens::after;
 use sig_base::{Fault, Place};
 use std::alloc::Global;
 
@@ -17,24 +19,6 @@ use std::alloc::Global;
 pub struct Scanned {
     pub tokens: Vec<Token>,
     pub end: Place,
-}
-
-/// The place after a character.
-fn after(place: Place, c: char) -> Place
-    requires line { place.line < 2 ^ 32 - 1 }
-    requires column { place.column < 2 ^ 32 - 1 }
-    ensures { place_view result ≡ places.after (place_view place) c }
-{
-    if c == '\n' {
-        return Place {
-            line: place.line + 1,
-            column: 1,
-        };
-    }
-    Place {
-        line: place.line,
-        column: place.column + 1,
-    }
 }
 
 fn add(found: &mut Vec<Token>, ended: Option<Token>) -> Result<(), Fault>
@@ -48,7 +32,7 @@ fn add(found: &mut Vec<Token>, ended: Option<Token>) -> Result<(), Fault>
 }
 
 /// The tokens of a text of fewer than 2^31 bytes, so that its places are numbers of 32 bits; only want of memory is answered.
-#[tactic(auto, using(crate::proofs::Walked::scan_turn, crate::proofs::Walked::place_turn, crate::proofs::Walked::place_near))]
+#[tactic(auto, using(crate::proofs::Walked::scan_turn, query_tokens::proofs::PlaceLemmas::place_turn, query_tokens::proofs::PlaceLemmas::place_near))]
 pub fn scan(alloc: Global, text: &str) -> Result<Scanned, Fault>
     requires { length text.now < 2 ^ 31 }
     ensures tokens { IfOk result (λ scanned. tokens_view scanned.tokens.items ≡ tokens.tokens (chars text.now)) }

@@ -1,8 +1,8 @@
 //! What runs and quoted texts are.
 
-ghost use Rattle.std.specs.Prelude.{◌≡◌, ◌++◌, ◌∷◌, [], IfOk, IfErr, OnOk, ◌<◌, ◌^◌, true};
+ghost use Rattle.std.specs.Prelude.{◌≡◌, [], IfOk, IfErr, ◌<◌, ◌^◌, true};
 ghost use Rattle.std.specs.List.{list_all};
-ghost use Rattle.sig_base.specs.Digits.{is_digit, unsigned};
+ghost use Rattle.sig_base.specs.Digits.{is_digit, unsigned, digits_from};
 ghost use Rattle.sig_base.specs.Folding.{folded};
 ghost use Rattle.sql_lang.specs.Tokens as tokens;
 ghost use Rattle.sql_scan.specs.Numerals.{IsSmall, IsNumber, begins_minus, signed};
@@ -146,7 +146,7 @@ fn are_digits(word: &[char]) -> bool
 /// The number that digits write, where it's below 2^63.
 fn small_value(digits: &[char]) -> Option<u64>
     requires { tokens.are_digits digits.now ≡ true }
-    ensures { IsSmall (tokens.digits_from 0 digits.now) result }
+    ensures { IsSmall (digits_from 0 digits.now) result }
 {
     let mut value: u128 = 0;
     for c in digits {

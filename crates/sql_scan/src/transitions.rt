@@ -2,7 +2,8 @@
 
 ghost use Rattle.std.specs.Prelude.{◌≡◌, ◌++◌, ◌∷◌, [], IfOk, IfErr};
 ghost use Rattle.sql_lang.specs.Tokens as tokens;
-ghost use Rattle.sql_scan.specs.View.{sort_view, place_view, mode_view, turn_view, ended_view};
+ghost use Rattle.query_tokens.specs.PlaceView.{place_view};
+ghost use Rattle.sql_scan.specs.View.{sort_view, mode_view, turn_view, ended_view};
 
 use crate::mode::{Mode, Turn};
 use crate::signs::{begins_sign, is_blank, is_run_char, long_sign, sign_of};

@@ -5,7 +5,7 @@ use Rattle.std.proofs.lemmas.Slice.Eq.{bytes_eq-Decides}
 use Rattle.sig_base.specs.Folding.{folded}
 use Rattle.event_schema.specs.Inferred.{text_field}
 use Rattle.sql_lang.specs.Names.{is_named, column_of}
-use Rattle.sqlite_writer.specs.Guarded.{name_at}
+use Rattle.backend_core.specs.FieldAt.{name_at}
 use Rattle.event_schema.specs.Lists.{EachOf}
 use Rattle.event_schema.specs.Schemas.{IsOther, AreApart, IsField, names_of}
 use Rattle.event_schema.specs.declared.schema.Field.{Field}

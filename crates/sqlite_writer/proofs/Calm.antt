@@ -5,7 +5,7 @@ use Rattle.std.specs.List.{list_all}
 use Rattle.event_schema.specs.declared.schema.Field.{Field}
 use Rattle.event_schema.specs.declared.schema.FieldKind.{FieldKind}
 use Rattle.event_schema.specs.declared.schema.FieldKind.TheVariants as kinds
-use Rattle.backend_core.specs.Sound.{kind_at}
+use Rattle.backend_core.specs.FieldAt.{kind_at, name_at}
 use Rattle.sig_strings.specs.Edits.{has_wildcard}
 use Rattle.sql_lang.specs.Grammar.{Collate, Unsaid, NoCase, Binary, Leaf, constant, spell_test}
 use Rattle.sql_lang.specs.Tokens.{Op, Eq}
@@ -15,7 +15,7 @@ use Rattle.sql_lang.specs.Reading.{opens_too_far, nots_too_many}
 use Rattle.sql_layout.specs.Trees.{IsSound as IsSoundLeaf, EachLeaf, EachOfTrees}
 use Rattle.backend_core.specs.declared.tree.LeafTest.{LeafTest}
 use Rattle.backend_core.specs.declared.tree.LeafTest.TheVariants as tests
-use Rattle.sqlite_writer.specs.Guarded.{name_at, sign_of, wildcard_test, plain_test, same_test, finds_test, counts_case, written_test, other_of, behind_other, guarded_test}
+use Rattle.sqlite_writer.specs.Guarded.{sign_of, wildcard_test, plain_test, same_test, finds_test, counts_case, written_test, other_of, behind_other, guarded_test}
 use Rattle.sqlite_writer.proofs.Nested.{IsCalm, not_below}
 
 module _ (limit : ℕ) (some : 1 ≤ limit) where

@@ -14,8 +14,9 @@ use Rattle.sql_layout.proofs.Chains.{or_parts, and_parts, ors_halved, ands_halve
 use Rattle.backend_core.specs.declared.tree.LeafTest.{LeafTest}
 use Rattle.backend_core.specs.declared.tree.LeafTest.TheVariants as tests
 use Rattle.backend_core.specs.Trees.{Plain}
-use Rattle.backend_core.specs.Sound.{IsSound, kind_at}
-use Rattle.sqlite_writer.specs.Guarded.{name_at, wildcard_test, plain_test, same_test, counts_case, written_test, sql_tree}
+use Rattle.backend_core.specs.FieldAt.{kind_at, name_at}
+use Rattle.backend_core.specs.Sound.{IsSound}
+use Rattle.sqlite_writer.specs.Guarded.{wildcard_test, plain_test, same_test, counts_case, written_test, sql_tree}
 use Rattle.sqlite_writer.specs.Joined.{guarded}
 use Rattle.sqlite_writer.specs.Depths.{one_more, two_depths, text_depth, same_depth, written_depth, or_zero, row_behind, row_depth, halved_depth, tree_depth, parts_depth}
 use Rattle.sqlite_writer.proofs.Laid.{IsReckoned, reckoned}

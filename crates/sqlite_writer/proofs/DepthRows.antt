@@ -8,7 +8,8 @@ use Rattle.backend_core.specs.View.{tree_view, plains_of}
 use Rattle.backend_core.specs.declared.tree.Tree.{Tree}
 use Rattle.backend_core.specs.declared.tree.Tree as trees
 use Rattle.sqlite_writer.specs.Depths.{joined_depth, row_behind, row_depth, halved_depth, or_zero, tree_depth, parts_depth, items_depth}
-use Rattle.sqlite_writer.proofs.Rows.{view-All, view-Any, next_of, none_of}
+use Rattle.backend_core.proofs.Joining.{view-All, view-Any}
+use Rattle.sqlite_writer.proofs.Rows.{next_of, none_of}
 
 module _ (most : ℕ) (fields : List Field) where
   items_are : (ts : List Tree) → parts_depth most fields (plains_of ts) ≡ items_depth most fields ts

@@ -11,11 +11,10 @@ use Rattle.event_schema.specs.declared.schema.FieldKind.{FieldKind}
 use Rattle.event_schema.specs.declared.schema.FieldKind.TheVariants as kinds
 use Rattle.event_schema.specs.declared.value.Value.{Value}
 use Rattle.event_schema.specs.declared.value.Value.TheVariants as values
-use Rattle.backend_core.specs.Sound.{kind_at}
+use Rattle.backend_core.specs.FieldAt.{kind_at, name_at}
 use Rattle.sql_lang.specs.Faults.{is_not_whole}
 use Rattle.sql_lang.specs.Meaning.{value_at}
 use Rattle.sql_lang.specs.Names.{is_named, column_of, kind_of, next}
-use Rattle.sqlite_writer.specs.Guarded.{name_at}
 use Rattle.sqlite_writer.specs.Schemas.{AreScalars}
 
 -- ---- names

@@ -9,14 +9,16 @@ use Rattle.sql_layout.specs.HalvedTrees.{Form, form, form_of_not, form_of_or, fo
 use Rattle.sql_layout.proofs.Chains.{or_parts, and_parts, or_parts_joined, and_parts_joined}
 use Rattle.backend_core.specs.declared.tree.Leaf.{Leaf}
 use Rattle.backend_core.specs.Trees.{Plain, Plains, no_parts, a_part, all, any, negated, leaf, never}
-use Rattle.backend_core.specs.Sound.{kind_at, IsSound, AreSound}
+use Rattle.backend_core.specs.FieldAt.{kind_at, name_at}
+use Rattle.backend_core.specs.Sound.{IsSound, AreSound}
 use Rattle.sqlite_writer.specs.declared.place.Kind.TheVariants.{All, Any}
 use Rattle.sqlite_writer.specs.declared.place.Standing.{Standing}
 use Rattle.sqlite_writer.specs.declared.place.Standing.TheVariants.{InOr, InAnd, BehindNot}
 use Rattle.sql_layout.specs.Leaves.{has_value}
 use Rattle.sql_layout.specs.Trees as sql
-use Rattle.sqlite_writer.specs.Guarded.{name_at, written_test, is_unsure, other_of, behind_other, guarded_test, sql_tree, sql_trees}
-use Rattle.sqlite_writer.specs.Joined.{append, parts_of, guard_of, guarded_leaf, guarded, guarded_parts}
+use Rattle.sqlite_writer.specs.Guarded.{written_test, is_unsure, other_of, behind_other, guarded_test, sql_tree, sql_trees}
+use Rattle.backend_core.specs.Joins.{append}
+use Rattle.sqlite_writer.specs.Joined.{parts_of, guard_of, guarded_leaf, guarded, guarded_parts}
 use Rattle.sqlite_writer.specs.Joined.{behind_other as parts_behind}
 use Rattle.sqlite_writer.proofs.Guards.{append_none}
 

@@ -37,9 +37,10 @@ use Rattle.backend_core.specs.declared.tree.LeafTest.{LeafTest}
 use Rattle.backend_core.specs.declared.tree.LeafTest.TheVariants as tests
 use Rattle.backend_core.specs.declared.tree.Leaf.{Leaf}
 use Rattle.backend_core.specs.Trees.{leaf}
-use Rattle.backend_core.specs.Sound.{kind_at, IsSoundTest, IsSound}
-use Rattle.sqlite_writer.specs.Guarded.{name_at, sign_of, wildcard_test, plain_test, same_test, counts_case, written_test, is_unsure, other_of, guarded_test, sql_tree}
-use Rattle.sqlite_writer.specs.Lacking.{is_many, is_many_if_any, sqlite_lacks}
+use Rattle.backend_core.specs.FieldAt.{kind_at, name_at, is_many}
+use Rattle.backend_core.specs.Sound.{IsSoundTest, IsSound}
+use Rattle.sqlite_writer.specs.Guarded.{sign_of, wildcard_test, plain_test, same_test, counts_case, written_test, is_unsure, other_of, guarded_test, sql_tree}
+use Rattle.sqlite_writer.specs.Lacking.{is_many_if_any, sqlite_lacks}
 use Rattle.sqlite_writer.proofs.FieldKinds.{IsOfKindIfAny, event_kinds, no_number}
 use Rattle.sqlite_writer.proofs.Caseless.{caseless_is_whole, no_case_unasked, number_is_low, case_of_none}
 use Rattle.sqlite_writer.proofs.Numbers.{same_number, same_folded, stands}

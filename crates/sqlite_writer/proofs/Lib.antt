@@ -11,7 +11,6 @@ mod Laid
 mod TreeLaws
 mod LeafMeans
 mod Lists
-mod Names
 mod Nested
 mod Numbers
 mod PolarityLemmas

@@ -1,23 +1,16 @@
 -- The trees of a vector, how many nodes they have, and the loops over them.
-use Rattle.std.proofs.Common.{ℕ, zero, suc, ◌+◌, ◌-◌, ◌/◌, ◌≡◌, ◌≤◌, ◌<◌, refl, sym, ◌∙◌, ap, rules, List, [], ◌∷◌, length, drop, map, get_or, arith}
+use Rattle.std.proofs.Common.{ℕ, zero, suc, ◌+◌, ◌-◌, ◌/◌, ◌≡◌, ◌≤◌, ◌<◌, refl, sym, ◌∙◌, ap, List, [], ◌∷◌, length, drop, map, get_or, arith}
 use Rattle.std.specs.Prelude.{take}
 use Rattle.std.specs.declared.alloc.Global.{Global}
 use Rattle.std.specs.declared.vec.Vec.{Vec}
 use Rattle.std.proofs.lemmas.List.{drop_all, drop_more, length-drop, length-take, length-map, take-map, drop-map}
+use Rattle.backend_core.proofs.Joining.{view-All, view-Any}
 use Rattle.backend_core.specs.Trees.{Plain, Plains, no_parts, a_part, all, any, negated, leaf, never}
 use Rattle.backend_core.specs.View.{tree_view, plains_of}
 use Rattle.backend_core.specs.declared.tree.Tree.{Tree}
 use Rattle.backend_core.specs.declared.tree.Tree as trees
-use Rattle.backend_core.specs.declared.tree.Tree.TheViews.{the_lemmas}
-use Rattle.backend_core.proofs.Copies.{row_plains}
 use Rattle.sql_layout.specs.Lists.{half, halved}
 use Rattle.sql_layout.proofs.Lists.{in_a_row, in_two}
-
-pub view-All : (v : Vec Tree Global) → tree_view (trees.All v) ≡ all (plains_of v.items)
-view-All v = search (rules, the_lemmas, row_plains)
-
-pub view-Any : (v : Vec Tree Global) → tree_view (trees.Any v) ≡ any (plains_of v.items)
-view-Any v = search (rules, the_lemmas, row_plains)
 
 -- ---- how many nodes
 

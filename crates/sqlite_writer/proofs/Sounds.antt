@@ -21,8 +21,9 @@ use Rattle.sql_like.specs.Writable.{sql_parts}
 use Rattle.backend_core.specs.declared.tree.LeafTest.{LeafTest}
 use Rattle.backend_core.specs.declared.tree.LeafTest.TheVariants as tests
 use Rattle.backend_core.specs.Trees.{Plain, Plains, no_parts, a_part, all, any, negated, leaf, never}
-use Rattle.backend_core.specs.Sound.{IsSoundPattern, kind_at, IsSoundTest, IsSound, AreSound}
-use Rattle.sqlite_writer.specs.Guarded.{name_at, sign_of, wildcard_test, plain_test, same_test, finds_test, counts_case, written_test, is_unsure, other_of, behind_other, guarded_test, sql_tree, sql_trees}
+use Rattle.backend_core.specs.FieldAt.{kind_at, name_at}
+use Rattle.backend_core.specs.Sound.{IsSoundPattern, IsSoundTest, IsSound, AreSound}
+use Rattle.sqlite_writer.specs.Guarded.{sign_of, wildcard_test, plain_test, same_test, finds_test, counts_case, written_test, is_unsure, other_of, behind_other, guarded_test, sql_tree, sql_trees}
 use Rattle.sqlite_writer.specs.Schemas.{AreScalars}
 use Rattle.sqlite_writer.proofs.FieldKinds.{name_scalars, kind_found, not_a_number}
 use Rattle.sqlite_writer.proofs.LeafMeans.{same_characters}

@@ -12,7 +12,8 @@ use Rattle.sqlite_writer.specs.declared.place.Standing.{Standing}
 use Rattle.sqlite_writer.specs.declared.place.Standing.TheVariants.{InOr, InAnd}
 use Rattle.sqlite_writer.specs.Pieces.{is_enclosed, piece_if, enclosed_if, row_text, two_texts, halved_text, tree_text, parts_text, items_text}
 use Rattle.sqlite_writer.specs.Sizes.{bytes_in}
-use Rattle.sqlite_writer.proofs.Rows.{view-All, view-Any, next_of, none_of}
+use Rattle.backend_core.proofs.Joining.{view-All, view-Any}
+use Rattle.sqlite_writer.proofs.Rows.{next_of, none_of}
 
 module _ (fields : List Field) (at : Standing) where
   abbrev pub text_at : Tree → List ℕ

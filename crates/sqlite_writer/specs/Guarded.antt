@@ -1,7 +1,7 @@
 -- Which tests a tree is in SQL. Where a field has no value a test of its text or number is unknown, and unknown stays unknown
 -- behind NOT; so below an odd number of words NOT such a test stands behind the test that there is a value, and one of two fields
 -- behind both (SQLite, expressions: NULL and the operators).
-use Rattle.std.specs.Prelude.{ℕ, zero, suc, Bool, true, false, not, ◌&&◌, if◌then◌else◌, List, [], ◌∷◌, Option, Some, None}
+use Rattle.std.specs.Prelude.{ℕ, Bool, true, false, not, ◌&&◌, if◌then◌else◌, List, Option, Some, None}
 use Rattle.event_schema.specs.declared.schema.Field.{Field}
 use Rattle.event_schema.specs.declared.schema.FieldKind.{FieldKind}
 use Rattle.event_schema.specs.declared.schema.FieldKind.TheVariants as kinds
@@ -18,15 +18,9 @@ use Rattle.backend_core.specs.declared.tree.LeafTest.{LeafTest}
 use Rattle.backend_core.specs.declared.tree.LeafTest.TheVariants as tests
 use Rattle.backend_core.specs.declared.tree.Op.{Op}
 use Rattle.backend_core.specs.declared.tree.Op.TheVariants as ops
-use Rattle.backend_core.specs.Sound.{kind_at}
+use Rattle.backend_core.specs.FieldAt.{name_at, kind_at}
 use Rattle.backend_core.specs.Trees.{Plain, Plains, no_parts, a_part}
 use Rattle.backend_core.specs.Trees as trees
-
--- the name of field k
-abbrev pub name_at : List Field → ℕ → List ℕ
-name_at [] k = []
-name_at (field ∷ fields) zero = field.name
-name_at (field ∷ fields) (suc k) = name_at fields k
 
 -- whether case counts in a field of this kind where a test asks for it: in whole numbers stands no letter
 abbrev pub counts_case : FieldKind → Bool → Bool

@@ -3,27 +3,16 @@
 use Rattle.std.specs.Prelude.{ℕ, Bool, true, false, not, ◌&&◌, Option, Some, None}
 use Rattle.backend_core.specs.declared.tree.Leaf.{Leaf}
 use Rattle.backend_core.specs.declared.tree.LeafTest.TheVariants as tests
+use Rattle.backend_core.specs.Joins.{append, all_parts, any_parts}
 use Rattle.backend_core.specs.Trees.{Plain, Plains, no_parts, a_part, all, any, negated, leaf, never}
 use Rattle.sqlite_writer.specs.declared.place.Kind.{Kind}
 use Rattle.sqlite_writer.specs.declared.place.Kind.TheVariants.{All, Any}
 use Rattle.sqlite_writer.specs.Guarded.{is_unsure, other_of}
 
-abbrev pub append : Plains → Plains → Plains
-append no_parts us = us
-append (a_part t ts) us = a_part t (append ts us)
-
 -- what a tree adds to a list of this kind: the parts of a list of the same kind, else the tree
 abbrev pub parts_of : Kind → Plain → Plains
-parts_of All (all ts) = ts
-parts_of All (any ts) = a_part (any ts) no_parts
-parts_of All (negated t) = a_part (negated t) no_parts
-parts_of All (leaf l) = a_part (leaf l) no_parts
-parts_of All never = a_part never no_parts
-parts_of Any (all ts) = a_part (all ts) no_parts
-parts_of Any (any ts) = ts
-parts_of Any (negated t) = a_part (negated t) no_parts
-parts_of Any (leaf l) = a_part (leaf l) no_parts
-parts_of Any never = a_part never no_parts
+parts_of All t = all_parts t
+parts_of Any t = any_parts t
 
 -- that a field has a value, where a leaf asks for it
 abbrev pub guard_of : ℕ → Leaf → Leaf

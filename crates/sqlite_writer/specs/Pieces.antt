@@ -9,13 +9,13 @@ use Rattle.sql_layout.specs.Layout.{spaced, in_quotes}
 use Rattle.backend_core.specs.declared.tree.LeafTest.{LeafTest}
 use Rattle.backend_core.specs.declared.tree.Tree.{Tree}
 use Rattle.backend_core.specs.Trees.{Plain, Plains, no_parts, a_part, all, any, negated, leaf, never}
-use Rattle.backend_core.specs.Sound.{kind_at}
+use Rattle.backend_core.specs.FieldAt.{kind_at, name_at}
 use Rattle.backend_core.specs.View.{tree_view}
 use Rattle.sqlite_writer.specs.declared.place.Kind.{Kind}
 use Rattle.sqlite_writer.specs.declared.place.Kind.TheVariants.{All, Any}
 use Rattle.sqlite_writer.specs.declared.place.Standing.{Standing}
 use Rattle.sqlite_writer.specs.declared.place.Standing.TheVariants.{InOr, InAnd, BehindNot}
-use Rattle.sqlite_writer.specs.Guarded.{name_at, written_test}
+use Rattle.sqlite_writer.specs.Guarded.{written_test}
 use Rattle.sql_layout.specs.Lists.{halved}
 
 -- where the parts of a list stand

@@ -4,7 +4,7 @@ use Rattle.std.specs.Str.{all_scalars}
 use Rattle.event_schema.specs.Schemas.{names_of}
 use Rattle.event_schema.specs.declared.schema.Schema.{Schema}
 use Rattle.sql_lang.specs.Names.{column_of}
-use Rattle.sqlite_writer.specs.Guarded.{name_at}
+use Rattle.backend_core.specs.FieldAt.{name_at}
 
 -- each name is of characters
 abbrev pub AreScalars : List (List ℕ) → Type 0

@@ -2,13 +2,11 @@
 
 ghost use Rattle.std.specs.Prelude.{◌≡◌};
 ghost use Rattle.sig_strings.specs.Edits.{has_wildcard};
-ghost use Rattle.backend_core.specs.Sound.{kind_at};
 ghost use Rattle.backend_core.specs.View.{tree_view};
 ghost use Rattle.sqlite_writer.specs.Depths as depths;
 
-use crate::fields::kind_of;
 use crate::place::MOST_IN_A_ROW;
-use backend_core::{LeafTest, Tree};
+use backend_core::{LeafTest, Tree, kind_of};
 use event_schema::{Field, FieldKind};
 
 fn one_more(depth: usize) -> usize

@@ -1,12 +1,13 @@
 //! Trees whose guards are tests of their own.
 
-ghost use Rattle.std.specs.Prelude.{◌≡◌, ◌++◌, true, IfOk, IfErr, OnOk};
+ghost use Rattle.std.specs.Prelude.{◌≡◌, true, IfOk, IfErr, OnOk};
+ghost use Rattle.backend_core.specs.Joins.{append};
 ghost use Rattle.backend_core.specs.View.{tree_view, plains_of};
 ghost use Rattle.sqlite_writer.specs.Guarded as guards;
 ghost use Rattle.sqlite_writer.specs.Joined as spec;
 
 use crate::place::Kind;
-use backend_core::{Leaf, LeafTest, Tree};
+use backend_core::{Leaf, LeafTest, Tree, add_to_all, add_to_any};
 use sig_base::Fault;
 use std::alloc::{AllocError, Global};
 
@@ -39,55 +40,9 @@ fn other_of(test: &LeafTest) -> Option<u32>
     }
 }
 
-fn add_to_all(parts: &mut Vec<Tree>, tree: Tree) -> Result<(), AllocError>
-    ensures { OnOk result (plains_of parts.new.items ≡ spec.append (plains_of parts.old.items) (spec.parts_of (Kind.All) (tree_view tree))) }
-{
-    match tree {
-        Tree::All(mut inner) => {
-            parts.append(&mut inner)?;
-        }
-        Tree::Any(inner) => {
-            parts.push(Tree::Any(inner))?;
-        }
-        Tree::Not(inner) => {
-            parts.push(Tree::Not(inner))?;
-        }
-        Tree::Leaf(leaf) => {
-            parts.push(Tree::Leaf(leaf))?;
-        }
-        Tree::Never => {
-            parts.push(Tree::Never)?;
-        }
-    }
-    Ok(())
-}
-
-fn add_to_any(parts: &mut Vec<Tree>, tree: Tree) -> Result<(), AllocError>
-    ensures { OnOk result (plains_of parts.new.items ≡ spec.append (plains_of parts.old.items) (spec.parts_of (Kind.Any) (tree_view tree))) }
-{
-    match tree {
-        Tree::All(inner) => {
-            parts.push(Tree::All(inner))?;
-        }
-        Tree::Any(mut inner) => {
-            parts.append(&mut inner)?;
-        }
-        Tree::Not(inner) => {
-            parts.push(Tree::Not(inner))?;
-        }
-        Tree::Leaf(leaf) => {
-            parts.push(Tree::Leaf(leaf))?;
-        }
-        Tree::Never => {
-            parts.push(Tree::Never)?;
-        }
-    }
-    Ok(())
-}
-
 /// Adds a tree to the parts of a list: the parts of a list of the same kind, else the tree itself.
 fn add_part(kind: Kind, parts: &mut Vec<Tree>, tree: Tree) -> Result<(), AllocError>
-    ensures { OnOk result (plains_of parts.new.items ≡ spec.append (plains_of parts.old.items) (spec.parts_of kind (tree_view tree))) }
+    ensures { OnOk result (plains_of parts.new.items ≡ append (plains_of parts.old.items) (spec.parts_of kind (tree_view tree))) }
 {
     match kind {
         Kind::All => add_to_all(parts, tree),

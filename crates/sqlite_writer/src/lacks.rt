@@ -5,18 +5,8 @@ ghost use Rattle.sqlite_writer.specs.Guarded.{other_of};
 ghost use Rattle.sqlite_writer.specs.Lacking as spec;
 
 use crate::writer::Sqlite;
-use backend_core::{Lack, Lacking, Leaf, LeafTest};
+use backend_core::{Lack, Lacking, Leaf, LeafTest, is_many};
 use event_schema::{Field, Schema};
-
-/// Whether the field of this number may have several values.
-fn is_many(fields: &[Field], number: u32) -> bool
-    ensures { result ≡ spec.is_many fields.now number }
-{
-    match fields.get(number as usize) {
-        Some(field) => field.many,
-        None => false,
-    }
-}
 
 /// Whether the further field of a test may have several values, if it looks at one.
 fn is_other_many(fields: &[Field], test: &LeafTest) -> bool

@@ -4,7 +4,6 @@
 
 mod backend;
 mod deep;
-mod fields;
 mod guarded_tree;
 mod lacks;
 mod laws;

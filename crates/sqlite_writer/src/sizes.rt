@@ -3,9 +3,8 @@
 ghost use Rattle.std.specs.Prelude.{◌≡◌, ◌+◌, true, IfOk, IfErr};
 ghost use Rattle.std.specs.Str.{chars};
 ghost use Rattle.sig_base.specs.Texts.{is_ascii};
-ghost use Rattle.backend_core.specs.Sound.{kind_at};
+ghost use Rattle.backend_core.specs.FieldAt.{name_at, kind_at};
 ghost use Rattle.backend_core.specs.View.{tree_view};
-ghost use Rattle.sqlite_writer.specs.Guarded as guards;
 ghost use Rattle.sqlite_writer.specs.Pieces.{piece_if, word_of, tree_text, items_text, halved_text, enclosed_if, is_enclosed as is_enclosed_list, standing_in as standing, test_text};
 ghost use Rattle.sqlite_writer.specs.Sizes.{bytes_in};
 
@@ -60,7 +59,7 @@ fn with_word_if(size: usize, so: bool, kind: Kind) -> Result<usize, Fault>
 
 /// The size with a test, whose text is made for it and dropped.
 fn with_leaf(alloc: Global, size: usize, fields: &[Field], leaf: &Leaf) -> Result<usize, Fault>
-    ensures ok { IfOk result (λ n. n ≡ size + bytes_in (test_text fields.now (kind_at fields.now leaf.now.field) (guards.name_at fields.now leaf.now.field) leaf.now.test)) }
+    ensures ok { IfOk result (λ n. n ≡ size + bytes_in (test_text fields.now (kind_at fields.now leaf.now.field) (name_at fields.now leaf.now.field) leaf.now.test)) }
     ensures err { IfErr result (λ e. e ≡ Fault.Memory) }
 {
     let mut text = Text::new(alloc);

@@ -11,10 +11,9 @@ ghost use Rattle.sqlite_writer.specs.Guarded as guards;
 ghost use Rattle.sqlite_writer.specs.Guarded.{wildcard_test, plain_test, same_test, finds_test, sign_of};
 ghost use Rattle.sqlite_writer.specs.Pieces.{has_text, test_text};
 
-use crate::fields::{kind_of, name_of};
 use crate::output::{put, put_doubled, put_name};
 use crate::patterns::{put_characters, put_glob, put_like};
-use backend_core::{LeafTest, Op};
+use backend_core::{LeafTest, Op, kind_of, name_of};
 use event_schema::{Field, FieldKind, decimal_in};
 use itoa::Buffer;
 use sig_base::{Fault, Text};

@@ -1,21 +1,19 @@
 //! The text of a tree.
 
 ghost use Rattle.std.specs.Prelude.{◌≡◌, ◌++◌, IfErr, OnOk};
-ghost use Rattle.backend_core.specs.Sound.{kind_at};
+ghost use Rattle.backend_core.specs.FieldAt.{name_at, kind_at};
 ghost use Rattle.backend_core.specs.View.{tree_view};
-ghost use Rattle.sqlite_writer.specs.Guarded as guards;
 ghost use Rattle.sqlite_writer.specs.Pieces.{tree_text, items_text, halved_text, enclosed_if, is_enclosed as is_enclosed_list, standing_in as standing, test_text};
 
-use crate::fields::{kind_of, name_of};
 use crate::output::{put, put_if, put_word_if};
 use crate::place::{Kind, MOST_IN_A_ROW, Standing, is_enclosed, standing_in};
 use crate::test_text::put_test;
-use backend_core::{Leaf, Tree};
+use backend_core::{Leaf, Tree, kind_of, name_of};
 use event_schema::Field;
 use sig_base::{Fault, Text};
 
 pub(crate) fn put_leaf(out: &mut Text, fields: &[Field], leaf: &Leaf) -> Result<(), Fault>
-    ensures ok { OnOk result (out.new ≡ out.old ++ test_text fields.now (kind_at fields.now leaf.now.field) (guards.name_at fields.now leaf.now.field) leaf.now.test) }
+    ensures ok { OnOk result (out.new ≡ out.old ++ test_text fields.now (kind_at fields.now leaf.now.field) (name_at fields.now leaf.now.field) leaf.now.test) }
     ensures err { IfErr result (λ e. e ≡ Fault.Memory) }
 {
     let name = name_of(fields, leaf.field);

@@ -1,24 +1,24 @@
 -- Each document with content has exactly one answer.
 use Rattle.std.proofs.Common.{◌≡◌, ℕ, Bool, true, false, List, [], ◌∷◌, ◌++◌, ◌⊎◌, inl, inr, Err, refl, sym, ap, ◌∙◌, subst, append_assoc, append-nil}
 use Rattle.std.specs.List.{list_any, list_all}
+use Rattle.std.proofs.lemmas.Bool.{and_parts, or_parts}
 use Rattle.yaml_tree.specs.Tree.{At, tree, refusal}
 use Rattle.yaml_inline.specs.File.{Line, is_marker, carries}
 use Rattle.yaml_inline.specs.Line.{Stop}
 use Rattle.yaml_blocks.specs.Reading.{block_in}
 use Rattle.yaml_blocks.specs.Laws.{HasTree}
 use Rattle.yaml_blocks.specs.Documents.{home, is_regular, has_content, Alive, IsRefusedAt, IsCode, code_at, EachAnswered, OneAnswer}
-use Rattle.yaml_blocks.proofs.Tools.{neither, both}
 use Rattle.yaml_blocks.proofs.Complete.{reads_all}
 use Rattle.yaml_blocks.proofs.Stopped.{stops_by_cases, cases_stop}
 use Rattle.yaml_blocks.proofs.First.{one_tree, tree_or_stop, no_tree, documents_before}
 
 none_before : (p : Line → Bool) (a b : List Line) → list_any p (a ++ b) ≡ false → list_any p a ≡ false
 none_before p [] b e = refl
-none_before p (l ∷ ls) b e = let h = neither (p l) _ e in rw h.0 (none_before p ls b h.1)
+none_before p (l ∷ ls) b e = let h = or_parts (p l) _ e in rw h.0 (none_before p ls b h.1)
 
 all_before : (p : Line → Bool) (a b : List Line) → list_all p (a ++ b) ≡ true → list_all p a ≡ true
 all_before p [] b e = refl
-all_before p (l ∷ ls) b e = let h = both (p l) _ e in rw h.0 (all_before p ls b h.1)
+all_before p (l ∷ ls) b e = let h = and_parts (p l) _ e in rw h.0 (all_before p ls b h.1)
 
 pub alive_before : (depth : ℕ) (a b : List Line) → Alive depth (a ++ b) → Alive depth a
 alive_before depth a b (inl h) = inl (none_before carries a b h)

@@ -1,6 +1,7 @@
 -- What is laid out in the lines is what the blocks' reading gives.
 use Rattle.std.proofs.Common.{◌≡◌, ℕ, zero, suc, Bool, true, false, not, ◌&&◌, ◌||◌, ◌==◌, inl, inr, List, [], ◌∷◌, ◌++◌, Ok, refl, sym, ap, ◌∙◌, subst, arith}
 use Rattle.std.proofs.lemmas.Bool.Decides.{nat_tests}
+use Rattle.std.proofs.lemmas.Bool.{or_cases, and_parts}
 use Rattle.yaml_tree.specs.Tree.{At, Scalar, Tree, scalar, list, map, Elements, no_elements, element, Members, no_members, member}
 use Rattle.yaml_inline.specs.File.{Line, begins}
 use Rattle.yaml_inline.specs.Line.{spot, Read, ◌>>=◌, body, is_dash, is_left_out, is_indicator, starts_plain}
@@ -8,7 +9,7 @@ use Rattle.yaml_inline.specs.Flow.{is_quote, is_bracket}
 use Rattle.yaml_inline.specs.Key.{keyed, key_at}
 use Rattle.yaml_blocks.specs.Reading.{Item, offset, item_key, key_in, element_in, elements_in, entry_in, entries_in, scalar_or_flow_in, node_in, node_with, block_with, block_in, too_deep}
 use Rattle.yaml_blocks.specs.Lays.{IsFlow, IsScalar, IsNoCollection, IsDashed, IsKeyed, LaysBlock, LaysElement, LaysValue, LaysNode, LaysElements, LaysMembers, Lays}
-use Rattle.yaml_blocks.proofs.Tools.{either, both, none_is}
+use Rattle.yaml_blocks.proofs.Tools.{none_is}
 use Rattle.yaml_blocks.proofs.Cases.{lists, maps, alone_is}
 
 -- ---- the first character decides
@@ -24,21 +25,21 @@ is_passed cs n = is_left_out cs || (begins 37 cs && n == 0)
 
 pub quote_passed : (cs : List ℕ) (n : ℕ) → is_quote cs ≡ true → is_passed cs n ≡ false
 quote_passed cs n e =
-    elim (either (begins 39 cs) (begins 34 cs) e) [
+    elim (or_cases (begins 39 cs) (begins 34 cs) e) [
       | inl h ↦ let (rest, is) = begins_one 39 cs h in subst (λ (cs : List ℕ). is_passed cs n ≡ false) (sym is) refl
       | inr h ↦ let (rest, is) = begins_one 34 cs h in subst (λ (cs : List ℕ). is_passed cs n ≡ false) (sym is) refl
     ]
 
 pub bracket_passed : (cs : List ℕ) (n : ℕ) → is_bracket cs ≡ true → (is_passed cs n ≡ false) × (is_quote cs ≡ false)
 bracket_passed cs n e =
-    elim (either (begins 91 cs) (begins 123 cs) e) [
+    elim (or_cases (begins 91 cs) (begins 123 cs) e) [
       | inl h ↦ let (rest, is) = begins_one 91 cs h in subst (λ (cs : List ℕ). (is_passed cs n ≡ false) × (is_quote cs ≡ false)) (sym is) (refl, refl)
       | inr h ↦ let (rest, is) = begins_one 123 cs h in subst (λ (cs : List ℕ). (is_passed cs n ≡ false) × (is_quote cs ≡ false)) (sym is) (refl, refl)
     ]
 
 pub header_passed : (cs : List ℕ) (n : ℕ) → (begins 124 cs || begins 62 cs) ≡ true → (is_passed cs n ≡ false) × (is_quote cs ≡ false) × (is_bracket cs ≡ false)
 header_passed cs n e =
-    elim (either (begins 124 cs) (begins 62 cs) e) [
+    elim (or_cases (begins 124 cs) (begins 62 cs) e) [
       | inl h ↦ let (rest, is) = begins_one 124 cs h in subst (λ (cs : List ℕ). (is_passed cs n ≡ false) × (is_quote cs ≡ false) × (is_bracket cs ≡ false)) (sym is) (refl, refl, refl)
       | inr h ↦ let (rest, is) = begins_one 62 cs h in subst (λ (cs : List ℕ). (is_passed cs n ≡ false) × (is_quote cs ≡ false) × (is_bracket cs ≡ false)) (sym is) (refl, refl, refl)
     ]
@@ -51,7 +52,7 @@ begins_other c (d ∷ ds) plain sign = by (d == c) refl where
   by true e =
       let same : d ≡ c = grind (arith, nat_tests) in
       let held : is_indicator d ≡ true = subst (λ (x : ℕ). is_indicator x ≡ true) (sym same) sign in
-      let free : not (is_indicator d) ≡ true = (both _ _ plain).0 in
+      let free : not (is_indicator d) ≡ true = (and_parts _ _ plain).0 in
       cc
   by false e = refl
 

@@ -2,6 +2,7 @@
 use Rattle.std.proofs.Common.{◌≡◌, ℕ, zero, suc, ◌<◌, ◌≤◌, Bool, true, false, not, cond, ◌&&◌, ◌||◌, ◌==◌, ◌⊎◌, inl, inr, List, [], ◌∷◌, ◌++◌, length, drop, Ok, Err, refl, sym, ap, ◌∙◌, subst, arith}
 use Rattle.std.proofs.lemmas.Bool.Decides.{nat_tests}
 use Rattle.std.specs.Str.{bytes_eq}
+use Rattle.std.proofs.lemmas.Bool.{or_parts}
 use Rattle.yaml_tree.specs.Tree.{At, Tree, null, text, scalar, list, Elements, no_elements, element, Members, no_members, member, Member}
 use Rattle.yaml_inline.specs.File.{Line, begins, blank_or_end, skip_blanks, ends_line}
 use Rattle.yaml_inline.specs.Line.{spot, Stop, refused, syntax, Read, starts_plain, plain_front, plain_rest, is_left_out}
@@ -12,7 +13,7 @@ use Rattle.yaml_inline.proofs.Flows.{length-tail}
 use Rattle.yaml_inline.proofs.Nexts.{next_is, plain_rest_shorter}
 use Rattle.yaml_inline.proofs.Opens.{quote_not_left_out}
 use Rattle.yaml_blocks.specs.LineStops.{quote_of, behind_quote, StopsQuoted, StopsKey, StopsWanting, StopsColon, StopsSeparator, StopsFlowKey, StopsFlowScalar, StopsFlowElement, StopsFlowElements, StopsFlowValue, StopsFlowEntry, StopsFlowEntries, StopsFlow}
-use Rattle.yaml_blocks.proofs.Tools.{choose, allowed, bind_ok, inside_ok, bind_err, ok_same, neither, not_false, not_true}
+use Rattle.yaml_blocks.proofs.Tools.{choose, allowed, bind_ok, inside_ok, bind_err, ok_same, not_false, not_true}
 use Rattle.yaml_blocks.proofs.Rests.{skip_within, quoted_within, fresh_key_within, after_within}
 
 -- ---- quotes
@@ -103,8 +104,8 @@ after_stopped l close rest s e =
 
 after_stopping : (l : Line) (close : ℕ) (rest : List ℕ) (s : Stop) → StopsSeparator close l rest s → after_element l close rest ≡ Err s
 unfolding after_element
-after_stopping l close rest s (none, inl h) = let n = neither (begins 44 (skip_blanks rest)) _ none in rw (n.0, n.1, h.0, h.1) refl
-after_stopping l close rest s (none, inr h) = let n = neither (begins 44 (skip_blanks rest)) _ none in rw (n.0, n.1, h.0, h.1) refl
+after_stopping l close rest s (none, inl h) = let n = or_parts (begins 44 (skip_blanks rest)) _ none in rw (n.0, n.1, h.0, h.1) refl
+after_stopping l close rest s (none, inr h) = let n = or_parts (begins 44 (skip_blanks rest)) _ none in rw (n.0, n.1, h.0, h.1) refl
 
 flow_key_stopped : (l : Line) (cs : List ℕ) (s : Stop) → flow_key l cs ≡ Err s → StopsFlowKey l cs s
 unfolding flow_key
@@ -452,5 +453,5 @@ flow_stopping (suc d) l cs s (inr (inl (bracket, ms, t, h, is))) =
     let inner = members_stopping (flow_node d) (StopsFlow d) (flow_shorter d) (flow_stopping d) ms (length cs) [] l (drop 1 cs) t (length-tail 123 cs bracket) h in
     rw (no_square cs bracket, bracket, inner, is) refl
 flow_stopping (suc d) l cs s (inr (inr h)) =
-    let n = neither (begins 91 cs) _ h.0 in
+    let n = or_parts (begins 91 cs) _ h.0 in
     rw (n.0, n.1) (flow_scalar_stopping l cs s h.1)

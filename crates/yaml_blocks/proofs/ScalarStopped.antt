@@ -1,5 +1,6 @@
 -- Where and why the reading of a scalar or a flow collection stops in its block, by cases; and that it stops in each case.
 use Rattle.std.proofs.Common.{◌≡◌, ℕ, suc, Bool, true, false, not, cond, ◌&&◌, ◌||◌, ◌==◌, nat_lt, ◌⊎◌, inl, inr, List, [], ◌∷◌, drop, is_some, Ok, Err, refl, sym, ◌∙◌}
+use Rattle.std.proofs.lemmas.Bool.{or_parts}
 use Rattle.yaml_inline.specs.File.{Line, is_empty, begins, skip_blanks, carries_nothing, ends_line}
 use Rattle.yaml_inline.specs.Line.{spot, Stop, refused, syntax, indent, body, is_comment, is_empty_line, bad_start, starts_plain, plain_front, plain_rest, is_left_out}
 use Rattle.yaml_inline.specs.Scalar.{Chomping, clip, strip, keep}
@@ -8,7 +9,7 @@ use Rattle.yaml_blocks.specs.Blocks.{skip_comments, nothing_from, nothing_in, al
 use Rattle.yaml_blocks.specs.Reading.{offset, scalar_or_flow_in}
 use Rattle.yaml_blocks.specs.ScalarStops.{StopsBehind, StopsAlone, StopsContinuation, StopsPlainLines, StopsPlain, behind_chomping, StopsBlockScalar}
 use Rattle.yaml_blocks.specs.Form.{StopsScalarOrFlow}
-use Rattle.yaml_blocks.proofs.Tools.{choose, bind_err, neither}
+use Rattle.yaml_blocks.proofs.Tools.{choose, bind_err}
 use Rattle.yaml_blocks.proofs.Complete.{quote_passed, bracket_passed, header_passed, plain_passed}
 use Rattle.yaml_blocks.proofs.LineStopped.{quoted_stopped, quoted_stopping, flow_stopped, flow_stopping}
 
@@ -59,7 +60,7 @@ continuation_stopped m l s e =
 -- a line that carries something has more than blanks
 not_empty_line : (l : Line) → is_comment l ≡ false → is_empty_line l ≡ false
 unfolding is_comment carries_nothing is_empty_line
-not_empty_line l e = (neither (is_empty (skip_blanks l.text)) _ e).0
+not_empty_line l e = (or_parts (is_empty (skip_blanks l.text)) _ e).0
 
 continuation_stopping : (m : ℕ) (l : Line) (s : Stop) → StopsContinuation m l s → continuation m l ≡ Err s
 unfolding continuation
@@ -178,7 +179,7 @@ scalar_or_flow_stopped d m l cs ls s e =
                         | inr head ↦
                             elim (choose (starts_plain cs) _ _ _ head.1) [
                               | inl h ↦ elim (bind_err (plain_text m l cs ls) _ s h.1) [
-                                | inl g ↦ inr (inr (inr (inr (inl (h.0, (neither (is_left_out cs) _ left.0).0, plain_stopped m l cs ls s g)))))
+                                | inl g ↦ inr (inr (inr (inr (inl (h.0, (or_parts (is_left_out cs) _ left.0).0, plain_stopped m l cs ls s g)))))
                                 | inr g ↦ cc
                               ]
                               | inr h ↦ inr (inr (inr (inr (inr (left.0, quote.0, bracket.0, head.0, h.0, cc)))))

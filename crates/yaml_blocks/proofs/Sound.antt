@@ -1,15 +1,16 @@
 -- What the blocks' reading gives is laid out in the lines.
-use Rattle.std.proofs.Common.{◌≡◌, ℕ, zero, suc, Bool, true, false, not, ◌&&◌, ◌||◌, ◌==◌, inl, inr, List, [], ◌∷◌, ◌++◌, drop, None, is_some, Ok, Err, refl, sym, subst}
+use Rattle.std.proofs.Common.{◌≡◌, ℕ, zero, suc, Bool, true, false, not, ◌&&◌, ◌||◌, ◌==◌, inl, inr, List, [], ◌∷◌, ◌++◌, drop, None, is_some, Ok, refl, sym, subst}
+use Rattle.std.proofs.lemmas.Bool.{or_cases, and_parts, or_parts}
 use Rattle.yaml_tree.specs.Tree.{At, Scalar, text, Tree, scalar, list, map, Elements, element, Members, no_members, member, Member}
 use Rattle.yaml_inline.specs.File.{Line, begins, carries_nothing}
-use Rattle.yaml_inline.specs.Line.{spot, Read, body, bad_start, is_dash, is_left_out, starts_plain}
+use Rattle.yaml_inline.specs.Line.{spot, body, bad_start, is_dash, is_left_out, starts_plain}
 use Rattle.yaml_inline.specs.Scalar.{resolved}
 use Rattle.yaml_inline.specs.Flow.{is_quote, is_bracket, flow_node, front_map, map_from, Front, is_seen}
 use Rattle.yaml_inline.specs.Key.{Keyed, keyed, unkeyed, key_stop, key_at}
 use Rattle.yaml_blocks.specs.Blocks.{skip_comments, alone}
 use Rattle.yaml_blocks.specs.Reading.{Item, offset, is_level, key_of, item_key, key_in, behind_in, element_in, elements_in, entry_in, entries_in, scalar_or_flow_in, node_in, block_from, block_with, block_in, too_deep}
 use Rattle.yaml_blocks.specs.Lays.{IsFlow, IsNoCollection, IsDashed, IsKeyed, LaysBlock, LaysElement, LaysValue, LaysNode, LaysElements, LaysMembers, Lays}
-use Rattle.yaml_blocks.proofs.Tools.{choose, allowed, bind_ok, inside_ok, ok_same, either, neither, both, none_of, not_false}
+use Rattle.yaml_blocks.proofs.Tools.{choose, allowed, bind_ok, inside_ok, ok_same, none_of, not_false}
 use Rattle.yaml_blocks.proofs.Cases.{lists, maps, node_cases, alone_ok}
 
 -- ---- flow collections
@@ -30,7 +31,7 @@ flow_no_scalar (suc d) l cs a s rest b e =
       | inl h ↦ let (es, same) = front_ok _ _ _ (inside_ok _ _ _ _ h.1) in cc
       | inr h ↦ elim (choose (begins 123 cs) _ _ _ h.1) [
         | inl g ↦ let (ms, same) = front_ok _ _ _ (inside_ok _ _ _ _ g.1) in map_from-scalar _ a s ms same
-        | inr g ↦ elim (either (begins 91 cs) (begins 123 cs) b) [ inl p ↦ cc | inr p ↦ cc ]
+        | inr g ↦ elim (or_cases (begins 91 cs) (begins 123 cs) b) [ inl p ↦ cc | inr p ↦ cc ]
       ]
     ]
 
@@ -73,7 +74,7 @@ scalar_or_flow_sound d may m l cs ls t none e =
                 | inr k ↦ elim (choose (starts_plain cs) _ _ _ k.1) [
                   | inl s ↦
                       let (p, at, more) = bind_ok _ _ _ s.1 in
-                      let laid : P (scalar (spot l cs) (resolved p)) = (none, refl, inr (s.0, (neither (is_left_out cs) _ left.0).0, p, at, refl)) in
+                      let laid : P (scalar (spot l cs) (resolved p)) = (none, refl, inr (s.0, (or_parts (is_left_out cs) _ left.0).0, p, at, refl)) in
                       subst P (ok_same _ _ more) laid
                   | inr s ↦ cc
                 ]
@@ -102,7 +103,7 @@ unfolding element_in
 element_sound d sound i x t e =
     let (open_line, e1) = allowed (is_some (bad_start x.line)) _ _ _ e in
     let (dash, e2) = allowed (not (is_level i x && is_dash x.text)) _ _ _ e1 in
-    let there = both _ _ (not_false _ dash) in
+    let there = and_parts _ _ (not_false _ dash) in
     let dashed : IsDashed i x = record { open_line = none_of _ open_line; level = there.0; dash = there.1 } in
     elim (choose (carries_nothing (drop 1 x.text)) _ _ _ e2) [
       | inl h ↦ (dashed, inl (h.0, block_sound d sound _ _ _ t h.1))

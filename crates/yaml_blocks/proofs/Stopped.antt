@@ -1,5 +1,6 @@
 -- Where and why the blocks' reading stops, by cases; and that it stops in each case.
 use Rattle.std.proofs.Common.{◌≡◌, ℕ, zero, suc, Bool, true, false, not, ◌&&◌, inl, inr, List, [], ◌∷◌, ◌++◌, drop, None, is_some, Ok, Err, refl, sym, ap, ◌∙◌}
+use Rattle.std.proofs.lemmas.Bool.{and_parts}
 use Rattle.yaml_tree.specs.Tree.{At, Tree, list, map, Elements, Members}
 use Rattle.yaml_inline.specs.File.{Line, carries_nothing}
 use Rattle.yaml_inline.specs.Line.{spot, Stop, Read, ◌>>=◌, body, bad_start, is_dash}
@@ -9,7 +10,7 @@ use Rattle.yaml_blocks.specs.Blocks.{skip_comments}
 use Rattle.yaml_blocks.specs.Reading.{Item, items_of, offset, is_level, after_spaces, key_of, item_key, key_in, behind_in, element_in, elements_in, entry_in, entries_in, node_in, node_with, block_from, block_with, block_in, too_deep}
 use Rattle.yaml_blocks.specs.Lays.{IsDashed, IsKeyed}
 use Rattle.yaml_blocks.specs.Form.{StopsStart, StopsBlock, StopsBehindDash, StopsBehindKey, StopsElement, StopsEntry, StopsElements, StopsEntries, StopsNode, Stops}
-use Rattle.yaml_blocks.proofs.Tools.{choose, bind_err, none_of, none_is, not_false, not_true, both}
+use Rattle.yaml_blocks.proofs.Tools.{choose, bind_err, none_of, none_is, not_false, not_true}
 use Rattle.yaml_blocks.proofs.Cases.{lists, maps, node_cases}
 use Rattle.yaml_blocks.proofs.Sound.{nodes_sound, element_sound, item_key_ok, key_sound, entry_sound}
 use Rattle.yaml_blocks.proofs.LineStopped.{block_key_stopped, block_key_stopping}
@@ -56,7 +57,7 @@ element_stopped d stop i x s e =
           elim (choose (not (is_level i x && is_dash x.text)) _ _ _ bar.1) [
             | inl h ↦ inr (inl (none_of _ bar.0, not_true _ h.0, cc))
             | inr dash ↦
-                let there = both _ _ (not_false _ dash.0) in
+                let there = and_parts _ _ (not_false _ dash.0) in
                 let dashed : IsDashed i x = record { open_line = none_of _ bar.0; level = there.0; dash = there.1 } in
                 inr (inr (dashed, dash_stopped d stop i x s dash.1))
           ]

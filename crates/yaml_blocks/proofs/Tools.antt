@@ -1,5 +1,5 @@
 -- What a reading that is an `if` or a chain gives.
-use Rattle.std.proofs.Common.{◌≡◌, ℕ, Bool, true, false, not, cond, ◌&&◌, ◌||◌, ◌⊎◌, inl, inr, Option, Some, None, is_some, Ok, Err, refl}
+use Rattle.std.proofs.Common.{◌≡◌, ℕ, Bool, true, false, not, cond, ◌⊎◌, inl, inr, Option, Some, None, is_some, Ok, Err, refl}
 use Rattle.yaml_tree.specs.Tree.{At}
 use Rattle.yaml_inline.specs.Line.{Stop, refused, unclosed, Read, ◌>>=◌}
 use Rattle.yaml_inline.specs.Flow.{inside_open}
@@ -29,18 +29,6 @@ inside_ok a c (Err (unclosed n opens)) x e = cc
 
 pub ok_same : {A : Type 0} (x y : A) → ((let r : Read A = Ok x in r) ≡ Ok y) → x ≡ y
 ok_same x y e = cc
-
-pub either : (a b : Bool) → (a || b) ≡ true → (a ≡ true) ⊎ (b ≡ true)
-either true b e = inl refl
-either false b e = inr e
-
-pub neither : (a b : Bool) → (a || b) ≡ false → (a ≡ false) × (b ≡ false)
-neither true b e = cc
-neither false b e = (refl, e)
-
-pub both : (a b : Bool) → (a && b) ≡ true → (a ≡ true) × (b ≡ true)
-both true b e = (refl, e)
-both false b e = cc
 
 pub none_of : {A : Type 0} (o : Option A) → is_some o ≡ false → o ≡ None
 none_of None e = refl

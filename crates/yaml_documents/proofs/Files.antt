@@ -1,10 +1,10 @@
 -- The nodes of a file's documents are paid by its bytes.
 use Rattle.std.proofs.Common.{◌≡◌, ℕ, suc, ◌+◌, ◌*◌, ◌≤◌, Bool, true, false, not, cond, ◌&&◌, ◌==◌, inl, inr, List, [], ◌∷◌, length, refl, ap, arith}
 use Rattle.std.specs.List.{list_any}
+use Rattle.std.proofs.lemmas.Bool.{or_cases}
 use Rattle.yaml_tree.specs.Tree.{Answer, tree, refusal}
 use Rattle.yaml_inline.specs.File.{Line, begins, skip_blanks, carries_nothing, put_first, line_texts, numbered, skip_mark, lines_of, is_parting, put_line, parted, carries, with_content, documents_of}
 use Rattle.yaml_blocks.specs.Documents.{home, IsAnswer, AreAnswers}
-use Rattle.yaml_blocks.proofs.Tools.{either}
 use Rattle.yaml_documents.proofs.Utf8.{text_within}
 use Rattle.yaml_documents.specs.Nodes.{nodes_of, all_nodes}
 use Rattle.yaml_documents.specs.Bounds.{NodesWithinBytes, NodesWithinLimit}
@@ -75,7 +75,7 @@ carries_some l e = by l.text e where
 content_some : (ls : List Line) → list_any carries ls ≡ true → 1 ≤ weight ls
 content_some [] e = cc
 content_some (l ∷ ls) e =
-    elim (either (carries l) (list_any carries ls) e) [
+    elim (or_cases (carries l) (list_any carries ls) e) [
       | inl h ↦ omega (arith, carries_some l h)
       | inr h ↦ omega (arith, content_some ls h)
     ]

@@ -1,13 +1,13 @@
 -- The nodes of a tree are paid by the characters that it's laid out in: two for each.
 use Rattle.std.proofs.Common.{◌≡◌, ℕ, zero, suc, ◌+◌, ◌*◌, ◌≤◌, max, Bool, true, false, ◌||◌, ◌==◌, inl, inr, List, [], ◌∷◌, ◌++◌, length, drop, refl, ap, arith}
 use Rattle.std.proofs.lemmas.Bool.Decides.{nat_tests}
+use Rattle.std.proofs.lemmas.Bool.{or_cases}
 use Rattle.yaml_tree.specs.Tree.{At, Scalar, Tree, scalar, list, map, Elements, no_elements, element, Members, no_members, member}
 use Rattle.yaml_inline.specs.File.{Line, begins, blank_or_end, skip_blanks}
 use Rattle.yaml_inline.specs.Line.{body, is_comment, starts_plain}
 use Rattle.yaml_inline.specs.Flow.{is_quote, is_bracket}
 use Rattle.yaml_blocks.specs.Reading.{Item, items_of, offset}
 use Rattle.yaml_blocks.specs.Lays.{IsFlow, IsScalar, LaysBlock, LaysElement, LaysValue, LaysNode, LaysElements, LaysMembers}
-use Rattle.yaml_blocks.proofs.Tools.{either}
 use Rattle.yaml_documents.specs.Nodes.{nodes, element_nodes, value_nodes}
 use Rattle.yaml_blocks.proofs.Rests.{skip_within, body_within, dash_tail, key_within}
 use Rattle.yaml_documents.proofs.Flows.{node_paid as flow_paid}
@@ -27,7 +27,7 @@ scalar_some s m l cs ls (inr p) = some_left starts_plain cs refl p.0
 bracket_solid : (cs : List ℕ) → is_bracket cs ≡ true → blank_or_end cs ≡ false
 bracket_solid [] e = cc
 bracket_solid (c ∷ cs) e =
-    elim (either (c == 91) (c == 123) e) [
+    elim (or_cases (c == 91) (c == 123) e) [
       | inl p ↦ let is : c ≡ 91 = grind (arith, nat_tests) in rw is refl
       | inr p ↦ let is : c ≡ 123 = grind (arith, nat_tests) in rw is refl
     ]

@@ -3,13 +3,14 @@ use Rattle.std.proofs.Common.{◌≡◌, ℕ, ◌<◌, ◌≤◌, max, Bool, tru
 use Rattle.std.specs.List.{prefix_len, list_all}
 use Rattle.std.proofs.lemmas.List.{length-append}
 use Rattle.std.proofs.Math.Seq.{take-append_seam}
+use Rattle.std.proofs.lemmas.Bool.{and_parts}
 use Rattle.yaml_tree.specs.Tree.{Tree, tree, refusal}
 use Rattle.yaml_inline.specs.File.{Line, is_marker}
 use Rattle.yaml_inline.specs.Line.{Stop, is_comment}
 use Rattle.yaml_blocks.specs.Reading.{block_in}
 use Rattle.yaml_blocks.specs.Laws.{HasTree, StopsFirst}
 use Rattle.yaml_blocks.specs.Documents.{home, is_regular, has_content, Alive, IsRefusedAt, IsCode, stop_code, code_at, IsAnswer}
-use Rattle.yaml_blocks.proofs.Tools.{both, not_true}
+use Rattle.yaml_blocks.proofs.Tools.{not_true}
 use Rattle.yaml_blocks.proofs.Sound.{reads_trees}
 use Rattle.yaml_blocks.proofs.Complete.{reads_all}
 use Rattle.yaml_blocks.proofs.Stopped.{stops_by_cases}
@@ -46,12 +47,12 @@ stop_refused depth regular others s h all = record {
 }
 
 regular_unmarked : (l : Line) → is_regular l ≡ true → is_marker l ≡ false
-regular_unmarked l e = not_true (is_marker l) (both (not (is_marker l)) _ e).0
+regular_unmarked l e = not_true (is_marker l) (and_parts (not (is_marker l)) _ e).0
 
 pub stop_given : (depth : ℕ) (regular others : List Line) (s : Stop) (h : StopsFirst depth home regular s) → list_all is_regular regular ≡ true
     → IsAnswer depth (regular ++ others) (refusal (stop_code h.line (h.more ++ others) s))
 stop_given depth regular others s h all =
-    let here = both (is_regular h.line) (list_all is_regular h.more) (all_behind is_regular h.front (h.line ∷ h.more) (ap (list_all is_regular) (sym h.lines) ∙ all)) in (
+    let here = and_parts (is_regular h.line) (list_all is_regular h.more) (all_behind is_regular h.front (h.line ∷ h.more) (ap (list_all is_regular) (sym h.lines) ∙ all)) in (
       h.front,
       h.line,
       h.more ++ others,

@@ -5,18 +5,18 @@ use Rattle.std.specs.List.{AllByRecursion, prefix_len}
 use Rattle.std.specs.Str.{all_scalars}
 use Rattle.std.proofs.Math.Utf8.{scalar}
 use Rattle.std.proofs.lemmas.Bool.Decides.{nat_tests}
+use Rattle.std.proofs.lemmas.Bool.{and_parts}
 use Rattle.yaml_inline.specs.File.{is_blank, is_empty, skip_blanks}
 use Rattle.yaml_inline.specs.Line.{Read, ◌>>=◌, plain_len, trimmed, plain_front, plain_rest}
 use Rattle.sig_base.specs.Digits.{is_digit}
 use Rattle.yaml_inline.specs.Scalar.{Quoted, closed, open_ended, bad_escape, behind, passed, single, hex_value, hex_step, hex_front, is_surrogate, taking, escape, escaped, double, feeds, joint}
-use Rattle.yaml_blocks.proofs.Tools.{both}
 
 abbrev pub AreScalars : List ℕ → Type 0
 AreScalars cs = AllByRecursion IsScalar cs
 
 pub are_scalars : (cs : List ℕ) → all_scalars cs ≡ true → AreScalars cs
 are_scalars [] e = tt
-are_scalars (c ∷ cs) e = let each = both (scalar c) (all_scalars cs) e in (each.0, are_scalars cs each.1)
+are_scalars (c ∷ cs) e = let each = and_parts (scalar c) (all_scalars cs) e in (each.0, are_scalars cs each.1)
 
 pub all_of_scalars : (cs : List ℕ) → AreScalars cs → all_scalars cs ≡ true
 all_of_scalars [] h = refl

@@ -3,17 +3,14 @@ use Rattle.std.proofs.Common.{◌≡◌, ℕ, ◌+◌, ◌-◌, ◌*◌, ◌<◌
 use Rattle.std.specs.List.{list_all}
 use Rattle.std.proofs.lemmas.List.{drop_more, at_drop_all}
 use Rattle.std.proofs.lemmas.Bool.Decides.{nat_tests}
-use Rattle.sig_base.specs.Digits.{is_digit}
+use Rattle.sig_base.specs.Digits.{is_digit, digits_from}
+use Rattle.sig_base.proofs.DigitLemmas.{digits_from-le}
 use Rattle.yaml_inline.specs.File.{is_empty}
-use Rattle.yaml_inline.specs.Scalar.{digits_from, value_within}
+use Rattle.yaml_inline.specs.Scalar.{value_within}
 
 -- the number of digits behind n, if it is at most this large
 abbrev pub value_from : ℕ → ℕ → List ℕ → Option ℕ
 value_from n most cs = cond (list_all is_digit cs && nat_le (digits_from n cs) most) (Some (digits_from n cs)) None
-
-digits_from-le : (n : ℕ) (cs : List ℕ) → n ≤ digits_from n cs
-digits_from-le n [] = omega arith
-digits_from-le n (c ∷ cs) = omega (arith, digits_from-le (10 * n + (c - 48)) cs)
 
 past : (n most : ℕ) (cs : List ℕ) (b : Bool) → most < n → cond (b && nat_le (digits_from n cs) most) (Some (digits_from n cs)) None ≡ None
 past n most cs false h = refl

@@ -1,6 +1,7 @@
 -- The loops over the elements and the entries of flow collections, a turn at a time.
 use Rattle.std.proofs.Common.{◌≡◌, ℕ, zero, suc, ◌<◌, ◌≤◌, Bool, true, false, ◌||◌, List, [], ◌∷◌, ◌++◌, length, drop, Ok, Err, refl, sym, ap, ◌∙◌, arith}
 use Rattle.std.specs.Prelude.{map as list_map}
+use Rattle.std.proofs.lemmas.Bool.{or_parts}
 use Rattle.yaml_tree.specs.Tree.{At, Tree, list, Elements, no_elements, element, Members, no_members, member, Member}
 use Rattle.yaml_tree.specs.View.{elements_of, members_of}
 use Rattle.yaml_inline.specs.File.{Line, begins, ends_line}
@@ -158,10 +159,6 @@ pub length-tail : (c : ℕ) (cs : List ℕ) → begins c cs ≡ true → length 
 length-tail c [] e = cc
 length-tail c (d ∷ ds) e = omega arith
 
-neither_of : (a b : Bool) → (a || b) ≡ false → (a ≡ false) × (b ≡ false)
-neither_of true b e = cc
-neither_of false b e = (refl, e)
-
 pub or_right : (a b : Bool) → (a || b) ≡ true → a ≡ false → b ≡ true
 or_right true b e f = cc
 or_right false b e f = e
@@ -171,7 +168,7 @@ or_right false b e f = e
 pub node_scalar : (d : ℕ) (l : Line) (cs : List ℕ) → is_bracket cs ≡ false → flow_node d l cs ≡ flow_scalar l cs
 unfolding flow_node
 node_scalar zero l cs e = rw e refl
-node_scalar (suc d) l cs e = let h = neither_of (begins 91 cs) (begins 123 cs) e in rw (h.0, h.1) refl
+node_scalar (suc d) l cs e = let h = or_parts (begins 91 cs) (begins 123 cs) e in rw (h.0, h.1) refl
 
 pub node_deep : (d : ℕ) (l : Line) (cs : List ℕ) → d ≡ 0 → is_bracket cs ≡ true → flow_node d l cs ≡ Err (refused 6 (spot l cs))
 unfolding flow_node

@@ -1,11 +1,12 @@
 -- A set of keys, seen as the list of them.
-use Rattle.std.proofs.Common.{◌≡◌, ℕ, Bool, true, false, not, ◌&&◌, ◌||◌, List, [], ◌∷◌, ◌++◌, encode_utf8_all, Ok, Err, refl, sym, ap, ◌∙◌}
+use Rattle.std.proofs.Common.{◌≡◌, ℕ, Bool, true, false, not, ◌||◌, List, [], ◌∷◌, ◌++◌, encode_utf8_all, Ok, Err, refl, sym, ap, ◌∙◌}
 use Rattle.std.specs.Prelude.{map as list_map}
 use Rattle.std.specs.List.{list_all}
 use Rattle.std.specs.Str.{chars, bytes_eq, all_scalars}
 use Rattle.std.proofs.lemmas.Bool.Decides.{same_from_decides, Decides-like}
 use Rattle.std.proofs.lemmas.Slice.Eq.{bytes_eq-Decides}
 use Rattle.std.proofs.lemmas.Str.{chars-encodes}
+use Rattle.std.proofs.lemmas.Bool.{and_parts}
 use Rattle.yaml_inline.specs.File.{Line}
 use Rattle.yaml_inline.specs.Line.{spot, refused}
 use Rattle.yaml_inline.specs.Flow.{is_seen, flow_key, fresh_key}
@@ -19,14 +20,10 @@ bytes_eq-encode xs ys first second =
     (Decides-like _ (λ same. sym (chars-encodes xs first) ∙ (ap chars same ∙ chars-encodes ys second)) (λ same. ap encode_utf8_all same) (bytes_eq-Decides (encode_utf8_all xs) (encode_utf8_all ys)))
     (bytes_eq-Decides xs ys)
 
-both_true : (a b : Bool) → (a && b) ≡ true → (a ≡ true) × (b ≡ true)
-both_true true b e = (refl, e)
-both_true false b e = cc
-
 is_seen-encode : (k : List ℕ) (ks : List (List ℕ)) → all_scalars k ≡ true → list_all all_scalars ks ≡ true → is_seen (encode_utf8_all k) (list_map encode_utf8_all ks) ≡ is_seen k ks
 is_seen-encode k [] one all = refl
 is_seen-encode k (l ∷ ls) one all =
-    let parts = both_true (all_scalars l) (list_all all_scalars ls) all in
+    let parts = and_parts (all_scalars l) (list_all all_scalars ls) all in
     ap (λ (b : Bool). b || is_seen (encode_utf8_all k) (list_map encode_utf8_all ls)) (bytes_eq-encode l k parts.0 one)
     ∙ ap (λ (b : Bool). bytes_eq l k || b) (is_seen-encode k ls one parts.1)
 
@@ -47,7 +44,7 @@ is_seen-push b k (l ∷ ls) =
 
 all-push : (k : List ℕ) (ks : List (List ℕ)) → list_all all_scalars ks ≡ true → all_scalars k ≡ true → list_all all_scalars (ks ++ k ∷ []) ≡ true
 all-push k [] all one = rw one refl
-all-push k (l ∷ ls) all one = let parts = both_true (all_scalars l) (list_all all_scalars ls) all in rw (parts.0, all-push k ls parts.1 one) refl
+all-push k (l ∷ ls) all one = let parts = and_parts (all_scalars l) (list_all all_scalars ls) all in rw (parts.0, all-push k ls parts.1 one) refl
 
 pub knows_none : (s : Seen) → ((bs : List ℕ) → has_bytes s bs ≡ false) → Knows s []
 knows_none s none = record { texts = refl; same = none }

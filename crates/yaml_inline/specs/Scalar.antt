@@ -2,17 +2,12 @@
 use Rattle.std.specs.Prelude.{ℕ, zero, suc, ◌+◌, ◌-◌, ◌*◌, ◌^◌, Bool, true, false, not, ◌&&◌, ◌||◌, ◌==◌, nat_lt, nat_le, if◌then◌else◌, List, [], ◌∷◌, ◌++◌, length, replicate, codes, Option, Some, None, option_map, option_and_then, ℤ, pos, neg_ℤ}
 use Rattle.std.specs.List.{list_any, list_all}
 use Rattle.std.specs.Str.{bytes_eq}
-use Rattle.sig_base.specs.Digits.{is_digit}
+use Rattle.sig_base.specs.Digits.{is_digit, digits_from}
 use Rattle.yaml_tree.specs.Tree.{Scalar, null, truth, whole, text}
 use Rattle.yaml_inline.specs.File.{is_blank, is_empty}
 
 abbrev pub is_one_of : List ℕ → List (List ℕ) → Bool
 is_one_of s words = list_any (λ w. bytes_eq w s) words
-
--- the number of these digits behind n
-abbrev pub digits_from : ℕ → List ℕ → ℕ
-digits_from n [] = n
-digits_from n (c ∷ cs) = digits_from (10 * n + (c - 48)) cs
 
 abbrev pub are_digits : List ℕ → Bool
 are_digits cs = not (is_empty cs) && list_all is_digit cs

@@ -1,6 +1,6 @@
 use Rattle.std.proofs.Common.{◌≡◌, ◌≤◌, drop}
 use Rattle.std.specs.Prelude.{min}
-use Rattle.correlation_read.specs.Timespans.{digits_from}
+use Rattle.sig_base.specs.Digits.{digits_from}
 use Rattle.correlation_read.proofs.timespan.number_of.Given as goal
 
 abbrev pub invariant-loop-digit : goal.invariant-loop-digit

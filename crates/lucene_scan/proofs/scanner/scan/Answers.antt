@@ -2,7 +2,8 @@ use Rattle.std.proofs.Common.{sym, ◌∙◌, map-id}
 use Rattle.std.specs.Str.{chars}
 use Rattle.std.proofs.lemmas.Iterator.{YieldsList-from_chars}
 use Rattle.std.proofs.lemmas.Iterator.Consumers.{YieldsList-end}
-use Rattle.lucene_scan.specs.View.{place_view, tokens_view, mode_view}
+use Rattle.query_tokens.specs.PlaceView.{place_view}
+use Rattle.lucene_scan.specs.View.{tokens_view, mode_view}
 use Rattle.lucene_scan.proofs.Walked.{scan_end}
 use Rattle.lucene_scan.proofs.scanner.scan.Goals as goal
 

@@ -1,6 +1,7 @@
 use Rattle.std.proofs.Common.{◌≡◌}
 use Rattle.query_tokens.specs.Places.{origin, place_after}
-use Rattle.lucene_scan.specs.View.{place_view, tokens_view, mode_view}
+use Rattle.query_tokens.specs.PlaceView.{place_view}
+use Rattle.lucene_scan.specs.View.{tokens_view, mode_view}
 use Rattle.lucene_scan.proofs.Walked.{Scanned}
 use Rattle.lucene_scan.proofs.scanner.scan.Given as goal
 

@@ -1,7 +1,7 @@
 use Rattle.std.proofs.Common.{false, refl}
 use Rattle.event_schema.specs.declared.schema.Field.{Field}
 use Rattle.lucene_writer.specs.Lacking.{is_cased}
-use Rattle.lucene_writer.proofs.Names.{told_within, told_past}
+use Rattle.backend_core.proofs.FieldLemmas.{told_within, told_past}
 use Rattle.lucene_writer.proofs.lacks.is_cased.Goals as goal
 
 pub returns-in-Some : goal.returns-in-Some

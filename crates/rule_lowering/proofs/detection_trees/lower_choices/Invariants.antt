@@ -1,5 +1,5 @@
 use Rattle.std.proofs.Common.{◌≡◌, ◌-◌, ◌++◌, length, map, drop}
-use Rattle.backend_core.specs.Sound.{kind_at}
+use Rattle.backend_core.specs.FieldAt.{kind_at}
 use Rattle.backend_core.specs.View.{tree_view}
 use Rattle.modifier_windash.specs.Choices.{choices}
 use Rattle.rule_lowering.proofs.ChoiceLemmas.{choice_tree}

@@ -1,6 +1,6 @@
 use Rattle.std.proofs.Common.{◌≡◌, ◌++◌, map, drop}
 use Rattle.std.specs.List.{flat_map}
-use Rattle.backend_core.specs.Sound.{kind_at}
+use Rattle.backend_core.specs.FieldAt.{kind_at}
 use Rattle.backend_core.specs.View.{tree_view}
 use Rattle.modifier_words.specs.declared.modifier.Joined.TheVariants.{Any}
 use Rattle.rule_lowering.specs.Joining.{parts_of}

@@ -1,5 +1,5 @@
 use Rattle.std.proofs.Common.{◌∙◌, ◌≡◌, ◌<◌, ap, subst, map, ℕ, List, length, get_or}
-use Rattle.backend_core.specs.Sound.{kind_at}
+use Rattle.backend_core.specs.FieldAt.{kind_at}
 use Rattle.backend_core.specs.View.{tree_view}
 use Rattle.modifier_words.specs.declared.modifier.Joined.TheVariants.{Any}
 use Rattle.rule_detections.specs.declared.test.Test.{Test}

@@ -1,7 +1,7 @@
 use Rattle.std.proofs.Common.{◌≡◌, ◌∙◌, ◌∷◌, ap, length, map, arith}
 use Rattle.std.specs.Prelude.{false}
 use Rattle.std.specs.Vec.Iter.{into_iter_items}
-use Rattle.backend_core.specs.Sound.{kind_at}
+use Rattle.backend_core.specs.FieldAt.{kind_at}
 use Rattle.rule_lowering.proofs.ChoiceLemmas.{choice_tree, patterns_go, patterns_end}
 use Rattle.rule_lowering.proofs.detection_trees.lower_network.Goals as goal
 

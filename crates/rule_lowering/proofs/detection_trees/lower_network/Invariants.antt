@@ -1,7 +1,7 @@
 use Rattle.std.proofs.Common.{◌≡◌, ◌++◌, length, map}
 use Rattle.std.specs.Prelude.{false}
 use Rattle.std.specs.Vec.Iter.{into_iter_items, into_iter_len}
-use Rattle.backend_core.specs.Sound.{kind_at}
+use Rattle.backend_core.specs.FieldAt.{kind_at}
 use Rattle.backend_core.specs.View.{tree_view}
 use Rattle.rule_lowering.proofs.ChoiceLemmas.{choice_tree}
 use Rattle.rule_lowering.proofs.detection_trees.lower_network.Given as goal

@@ -1,5 +1,5 @@
 use Rattle.std.proofs.Common.{◌≡◌, ◌∙◌, sym, subst, [], ◌∷◌}
-use Rattle.backend_core.specs.Sound.{kind_at}
+use Rattle.backend_core.specs.FieldAt.{kind_at}
 use Rattle.rule_detections.specs.declared.test.Test.{Test}
 use Rattle.rule_lowering.specs.TreeOf.{written_tests}
 use Rattle.rule_lowering.proofs.ChoiceLemmas.{alone_fits, no_pattern}

@@ -1,4 +1,4 @@
-use Rattle.backend_core.specs.Sound.{kind_at}
+use Rattle.backend_core.specs.FieldAt.{kind_at}
 use Rattle.modifier_words.specs.declared.modifier.Joined.TheVariants.{Any}
 use Rattle.rule_lowering.specs.TreeOf.{test_tree}
 use Rattle.rule_lowering.proofs.Ones.{level_one, test_closed}

@@ -1,6 +1,6 @@
 use Rattle.std.proofs.Common.{◌≡◌, subst, List}
 use Rattle.std.specs.Prelude.{IfOk}
-use Rattle.backend_core.specs.Sound.{kind_at}
+use Rattle.backend_core.specs.FieldAt.{kind_at}
 use Rattle.backend_core.specs.View.{tree_view}
 use Rattle.rule_detections.specs.declared.test.Test.{Test}
 use Rattle.rule_lowering.specs.TreeOf.{value_tree}

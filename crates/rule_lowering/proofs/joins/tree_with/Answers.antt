@@ -1,7 +1,7 @@
 use Rattle.std.proofs.Common.{◌∙◌, ap, sym}
 use Rattle.backend_core.specs.View.{plains_of}
 use Rattle.rule_lowering.specs.Joining.{tree_with}
-use Rattle.rule_lowering.proofs.ViewLemmas.{view-All, view-Any}
+use Rattle.backend_core.proofs.Joining.{view-All, view-Any}
 use Rattle.rule_lowering.proofs.joins.tree_with.Goals as goal
 
 pub returns-in-All : goal.returns-in-All

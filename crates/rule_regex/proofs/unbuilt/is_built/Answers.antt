@@ -7,8 +7,8 @@ use Rattle.sig_base.specs.declared.refusal.Fault.{Fault}
 use Rattle.rule_regex.proofs.unbuilt.is_built.Goals as goal
 use Rattle.rule_regex.proofs.unbuilt.is_built.Goals.{in-Ok, in-Err-Memory, in-Err-Syntax, in-Err-Refused}
 
-pub returns : goal.returns
-returns g c =
+pub returns-clause-tells : goal.returns-clause-tells
+returns-clause-tells g c =
     let before = g.B.Builder.refused c.args.builder.now in
     let after = g.B.Builder.refused c.build.new.self in
     let tells : Result Bool Fault → Type 0 = TellsBuilt before after c.args.text.now in

@@ -1,6 +1,6 @@
 use Rattle.std.proofs.Common.{◌≡◌, ◌≤◌, drop}
 use Rattle.std.specs.Prelude.{min}
-use Rattle.sigma_serve.specs.Words.{digits_from}
+use Rattle.sig_base.specs.Digits.{digits_from}
 use Rattle.sigma_serve.proofs.numbers.number_of.Given as goal
 
 abbrev pub invariant-loop-digit : goal.invariant-loop-digit

@@ -1,7 +1,8 @@
 use Rattle.std.proofs.Common.{sym, ◌∙◌, ap}
 use Rattle.sql_lang.specs.Expression.{Test}
 use Rattle.sql_parse.specs.View.{leaf_view}
-use Rattle.sql_scan.specs.View.{place_view, places_view}
+use Rattle.query_tokens.specs.PlaceView.{place_view}
+use Rattle.sql_scan.specs.View.{places_view}
 use Rattle.sql_check.specs.View.{read_view}
 use Rattle.sql_read.proofs.Leaf.{judged, leaf_built, leaf_stops}
 use Rattle.sql_read.proofs.leaves.walk_leaf.Goals as goal

@@ -1,7 +1,8 @@
 use Rattle.std.proofs.Common.{◌≡◌, ◌++◌, length, map}
 use Rattle.std.specs.Vec.Iter.{into_iter_items, into_iter_len}
 use Rattle.query_tokens.specs.Tokens.{sorts, places}
-use Rattle.sql_scan.specs.View.{sort_view, place_view, tokens_view}
+use Rattle.query_tokens.specs.PlaceView.{place_view}
+use Rattle.sql_scan.specs.View.{sort_view, tokens_view}
 use Rattle.sql_read.proofs.select.part.Given as goal
 
 abbrev pub invariant-loop-token : goal.invariant-loop-token

@@ -1,4 +1,4 @@
-use Rattle.sql_scan.specs.View.{place_view}
+use Rattle.query_tokens.specs.PlaceView.{place_view}
 use Rattle.sql_read.proofs.Past.{or_get, or_past}
 use Rattle.sql_read.proofs.select.place_or.Goals as goal
 

@@ -1,6 +1,6 @@
 use Rattle.std.proofs.Common.{◌∙◌, ap}
 use Rattle.std.specs.Str.{chars}
-use Rattle.sql_scan.specs.View.{place_if}
+use Rattle.query_tokens.specs.PlaceView.{place_if}
 use Rattle.sql_read.proofs.Verdicts.{other_told, near_told, other_is, nested_is}
 use Rattle.sql_read.proofs.select.read_text.Goals as goal
 

@@ -3,7 +3,8 @@ use Rattle.std.specs.Str.{chars}
 use Rattle.std.proofs.lemmas.Iterator.{YieldsList-from_chars}
 use Rattle.std.proofs.lemmas.Iterator.Consumers.{YieldsList-end}
 use Rattle.query_tokens.specs.Places.{origin, place_after}
-use Rattle.sql_scan.specs.View.{place_view, tokens_view, mode_view}
+use Rattle.query_tokens.specs.PlaceView.{place_view}
+use Rattle.sql_scan.specs.View.{tokens_view, mode_view}
 use Rattle.sql_scan.proofs.Walked.{scan_end, all_ended}
 use Rattle.sql_scan.proofs.scanner.scan.Goals as goal
 

@@ -1,7 +1,6 @@
 use Rattle.std.proofs.Common.{◌≡◌, ◌<◌, ◌^◌, true, drop}
 use Rattle.std.specs.List.{list_all}
-use Rattle.sig_base.specs.Digits.{is_digit}
-use Rattle.sql_lang.specs.Tokens.{digits_from}
+use Rattle.sig_base.specs.Digits.{is_digit, digits_from}
 use Rattle.sql_scan.proofs.sorts.small_value.Given as goal
 
 abbrev pub invariant-loop-c : goal.invariant-loop-c

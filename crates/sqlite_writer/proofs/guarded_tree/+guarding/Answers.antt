@@ -4,7 +4,7 @@ use Rattle.backend_core.specs.View.{tree_view, plains_of}
 use Rattle.backend_core.specs.declared.tree.Tree.{Tree}
 use Rattle.sqlite_writer.specs.declared.place.Kind.TheVariants.{All, Any}
 use Rattle.sqlite_writer.specs.Joined.{guarded, guarded_parts}
-use Rattle.sqlite_writer.proofs.Rows.{view-All, view-Any}
+use Rattle.backend_core.proofs.Joining.{view-All, view-Any}
 use Rattle.sqlite_writer.proofs.Guards.{joins_all, joins_more}
 use Rattle.sqlite_writer.proofs.guarded_tree.+guarding.Goals as goal
 

@@ -1,6 +1,7 @@
 use Rattle.std.proofs.Common.{◌≡◌, drop}
 use Rattle.backend_core.specs.View.{plains_of}
-use Rattle.sqlite_writer.specs.Joined.{append, guarded_parts}
+use Rattle.backend_core.specs.Joins.{append}
+use Rattle.sqlite_writer.specs.Joined.{guarded_parts}
 use Rattle.sqlite_writer.proofs.guarded_tree.+guarding.Given as goal
 
 abbrev pub invariant-guarded_parts-loop-part : goal.invariant-guarded_parts-loop-part

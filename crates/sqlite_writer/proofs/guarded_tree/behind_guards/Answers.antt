@@ -1,7 +1,7 @@
 use Rattle.std.proofs.Common.{ℕ, ◌∙◌, ap, Option}
 use Rattle.backend_core.specs.Trees.{Plains, all, leaf, a_part}
 use Rattle.sqlite_writer.specs.Joined.{guard_of, behind_other}
-use Rattle.sqlite_writer.proofs.Rows.{view-All}
+use Rattle.backend_core.proofs.Joining.{view-All}
 use Rattle.sqlite_writer.proofs.Guards.{two_leaves, three_leaves}
 use Rattle.sqlite_writer.proofs.guarded_tree.behind_guards.Goals as goal
 

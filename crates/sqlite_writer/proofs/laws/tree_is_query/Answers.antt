@@ -5,8 +5,7 @@ use Rattle.sql_lang.specs.Grammar.{Query}
 use Rattle.event_schema.specs.Rows.{first_values}
 use Rattle.sql_layout.specs.Trees.{IsSound as IsSoundLeaf}
 use Rattle.sql_layout.specs.HalvedTrees.{layout_query, fine_or}
-use Rattle.backend_core.specs.Sound.{kind_at}
-use Rattle.sqlite_writer.specs.Guarded.{name_at}
+use Rattle.backend_core.specs.FieldAt.{kind_at, name_at}
 use Rattle.sqlite_writer.specs.Queries.{query_tree, query_text, query_bytes, query_expr}
 use Rattle.sqlite_writer.proofs.Nested.{IsCalm}
 use Rattle.sqlite_writer.proofs.Calm.{calm_never, calm_guarded}
