@@ -1,4 +1,4 @@
-ghost use Rattle.std.specs.Prelude.{◌≡◌, ◌<◌, ◌≤◌, length, IfOk};
+ghost use Rattle.std.specs.Prelude.{◌≡◌, IfOk};
 ghost use Rattle.event_schema.specs.Occurrence.{IsMoment};
 ghost use Rattle.correlation_engine.specs.Limits.{IsWithinLimits};
 
@@ -11,30 +11,25 @@ use std::alloc::Global;
 use std::fmt::Write;
 use std::test::Fail;
 
-fn numbers(alloc: Global, count: u32) -> Result<Sequence<u32>, Fail>
-    requires { count ≤ 2 }
-    ensures { IfOk result (λ all. length all ≡ count) }
-{
+fn number(alloc: Global, number: u32) -> Result<Sequence<u32>, Fail> {
     let mut all = Sequence::new(alloc);
-    for number in 0..count {
-        all.push(number)?;
-    }
+    all.push(number)?;
     Ok(all)
 }
 
-/// A correlation of so many rules within a minute, grouped by the only field.
-pub fn within_a_minute(alloc: Global, kind: CorrelationKind, rules: u32) -> Result<Bound, Fail>
-    requires { rules ≤ 2 }
+/// At least three events within a minute that one rule matches, grouped by the only field.
+pub fn within_a_minute(alloc: Global) -> Result<Bound, Fail>
     ensures { IfOk result IsWithinLimits }
 {
+    let mut rules = Sequence::new(alloc);
+    rules.push(0)?;
     let mut groups = Sequence::new(alloc);
-    groups.push(numbers(alloc, 1)?)?;
-    groups.push(numbers(alloc, 1)?)?;
+    groups.push(number(alloc, 0)?)?;
     let mut condition = Sequence::new(alloc);
     condition.push((Op::Gte, 3))?;
     Ok(Bound {
-        kind,
-        rules: numbers(alloc, rules)?,
+        kind: CorrelationKind::EventCount,
+        rules,
         groups,
         span: 60_000_000_000,
         condition,
@@ -120,7 +115,7 @@ fn burst(alloc: Global, engine: &mut Engine) -> Result<String, Fail> {
 }
 
 fn burst_of_one_rule(alloc: Global) -> Result<String, Fail> {
-    let bound = within_a_minute(alloc, CorrelationKind::EventCount, 1)?;
+    let bound = within_a_minute(alloc)?;
     let mut engine = engine(alloc, bound)?;
     burst(alloc, &mut engine)
 }
@@ -132,18 +127,4 @@ fn a_burst_is_reported_and_then_forgotten(rt: HostRuntime) -> Result<(), Fail> {
         burst_of_one_rule(rt.alloc()),
         "4 2 3 a;5 2 4 a;59000000000 before 61000000000; 4 held; 0 held",
     )
-}
-
-/// What an event gives that two rules match, which are to match in their order.
-fn two_in_order(alloc: Global) -> Result<String, Fail> {
-    let bound = within_a_minute(alloc, CorrelationKind::TemporalOrdered, 2)?;
-    let mut engine = engine(alloc, bound)?;
-    let mut shown = String::new(alloc);
-    take(alloc, &mut engine, &mut shown, 1, 0, &[true, true])?;
-    Ok(shown)
-}
-
-#[test]
-fn one_event_meets_two_rules_in_their_order(rt: HostRuntime) -> Result<(), Fail> {
-    assert_told(&rt, two_in_order(rt.alloc()), "1 1 2 a;")
 }

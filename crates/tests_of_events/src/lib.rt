@@ -1,17 +1,11 @@
-//! Tests of reading events, schemas and moments, of correlations, and of files: lines that are answered and followed, files of pipelines, and
-//! those of rules and correlations.
+//! Tests of what no case of `rows` shows: how many matches an engine holds, lines that a command of the tests' own follows, an empty
+//! line that is read, and a report of the highest numbers.
 #![tactic(auto)]
 
-#[cfg(test)]
-mod correlations;
 #[cfg(test)]
 mod engine;
 #[cfg(test)]
 mod files;
-#[cfg(test)]
-mod in_lines;
-#[cfg(test)]
-mod moments;
 #[cfg(test)]
 mod reading;
 #[cfg(test)]

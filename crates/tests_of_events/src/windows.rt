@@ -3,7 +3,6 @@ ghost use Rattle.event_schema.specs.Occurrence.{IsMoment};
 use crate::engine::{engine, event, within_a_minute};
 use crate::telling::assert_told;
 use correlation_engine::{Arrival, Engine};
-use correlation_windows::CorrelationKind;
 use std::alloc::Global;
 use std::fmt::Write;
 use std::test::Fail;
@@ -40,7 +39,7 @@ fn take(
 
 /// How many matches are held behind each of these events.
 fn held_behind(alloc: Global, events: &[(u64, &str)]) -> Result<String, Fail> {
-    let bound = within_a_minute(alloc, CorrelationKind::EventCount, 1)?;
+    let bound = within_a_minute(alloc)?;
     let mut engine = engine(alloc, bound)?;
     let mut shown = String::new(alloc);
     for (moment, user) in events {

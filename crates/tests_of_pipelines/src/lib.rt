@@ -1,20 +1,9 @@
-//! Tests of reading pipelines, of each kind of step, of pipelines run one after another, and of rules over events and the trees that they
-//! become.
+//! Tests of steps on rules, and of rules over events and their trees, that no files give.
 #![tactic(auto)]
 
 #[cfg(test)]
-mod changing;
+mod steps;
 #[cfg(test)]
-mod filling;
+mod told;
 #[cfg(test)]
-mod matched;
-#[cfg(test)]
-mod reading;
-#[cfg(test)]
-mod renaming;
-#[cfg(test)]
-mod running;
-#[cfg(test)]
-mod shown;
-#[cfg(test)]
-mod tables;
+mod unlike;

@@ -74,6 +74,7 @@ module _ (text : List ℕ) (old new : List (List ℕ)) where
     gained = text ∷ [];
     follows = more;
     answers = record {
+      own = (inl refl, tt);
       places = code_at 47 origin ∷ [];
       are = one 47 (no_pattern refl none);
       first = refl;
@@ -85,6 +86,7 @@ module _ (text : List ℕ) (old new : List (List ℕ)) where
     gained = text ∷ [];
     follows = more;
     answers = record {
+      own = (inl refl, tt);
       places = code_at 48 origin ∷ [];
       are = one 48 (not_built refl (inl refl));
       first = refl;
@@ -110,7 +112,7 @@ module _ (text : List ℕ) (old new : List (List ℕ)) where
       unrefused = λ r none. none-some r none;
     };
   }
-  answered (Err fault.Memory) is pattern same = record { gained = []; follows = same ∙ sym (append-nil old); answers = tt }
+  answered (Err fault.Memory) is pattern same = record { gained = []; follows = same ∙ sym (append-nil old); answers = refl }
   answered (Err (fault.Refused r)) is pattern (more, cause) = told r more cause
 
   pub read_text : (utf8 : Bool) → utf8 ≡ true → (result : Result Search Fault) → IfOk result (λ s. s.text ≡ text) → IfOk result (λ s. is_pattern s.text ≡ true)
@@ -122,6 +124,7 @@ module _ (text : List ℕ) (old new : List (List ℕ)) where
     gained = [];
     follows = same ∙ sym (append-nil old);
     answers = record {
+      own = tt;
       places = [];
       are = record { caused = tt; all = tt };
       first = refl;

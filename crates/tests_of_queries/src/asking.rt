@@ -7,7 +7,7 @@ ghost use Rattle.event_schema.specs.Lists.{EachOf};
 ghost use Rattle.event_schema.specs.declared.schema.FieldKind.TheVariants as kinds;
 
 use event_schema::{Event, Field, FieldKind, FieldList, FieldValues, Schema, Value};
-use query_lang::{Asker, Builder, CrateBuilder, Language, Selector};
+use query_lang::{Asker, Builder, Language, Selector};
 use sig_base::{Fault, Limits, Text, Texts};
 use std::alloc::Global;
 use std::test::Fail;
@@ -119,24 +119,4 @@ where
     }
     let (schema, event) = sample(alloc, values)?;
     told(alloc, asked::<L, B>(alloc, &schema, &event, bytes, builder))
-}
-
-/// The answers at an event without a value, one with `x`, and one with `y` and `XY`.
-pub fn answers<L: Language>(alloc: Global, bytes: &[u8]) -> Result<String, Fail>
-where
-    L::Query: Drop,
-{
-    let mut builder = CrateBuilder::new(alloc, Vec::new(alloc));
-    let nothing = answer::<L, CrateBuilder>(alloc, &mut builder, FieldValues::none(), bytes)?;
-    let one = FieldValues::one(text(alloc, "x")?);
-    let one = answer::<L, CrateBuilder>(alloc, &mut builder, one, bytes)?;
-    let mut values = Vec::new(alloc);
-    values.push(text(alloc, "y")?)?;
-    values.push(text(alloc, "XY")?)?;
-    let two = FieldValues::from_vec(values);
-    let two = answer::<L, CrateBuilder>(alloc, &mut builder, two, bytes)?;
-    let nothing = nothing.as_str();
-    let one = one.as_str();
-    let two = two.as_str();
-    Ok(format!(in alloc; "{nothing} {one} {two}")?)
 }

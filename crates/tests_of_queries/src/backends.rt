@@ -11,7 +11,7 @@ use crate::tables::assert_told;
 use backend_core::{Backend, Lack, Lacking, Leaf, LeafTest, Tree, judge_lacks};
 use event_schema::Schema;
 use query_lang::CrateBuilder;
-use rule_convert::{BackendName, convert_node, named, queries_mean_rules};
+use rule_convert::{convert_node, named, queries_mean_rules};
 use sig_base::{Bytes, Detail, Fault, Limits, Place, Text};
 use sql_lang::Sql;
 use sqlite_writer::Sqlite;
@@ -138,25 +138,6 @@ fn shown(alloc: Global, answer: Result<Bytes, Fault>) -> Result<String, Fail> {
     }
 }
 
-/// The answer of SQLite's writer, called by its name, for a rule with this value.
-fn by_name(alloc: Global, image: Node) -> Result<String, Fail> {
-    let node = rule(alloc, image)?;
-    let mut builder = CrateBuilder::new(alloc, Vec::new(alloc));
-    let limits = Limits::standard();
-    shown(
-        alloc,
-        named::convert_node(
-            BackendName::Sqlite,
-            alloc,
-            &limits,
-            &[],
-            None,
-            &node,
-            &mut builder,
-        ),
-    )
-}
-
 /// The answer of the writer that lacks tests of whether a field has a value.
 fn without_values(alloc: Global, image: Node) -> Result<String, Fail> {
     let node = rule(alloc, image)?;
@@ -168,66 +149,20 @@ fn without_values(alloc: Global, image: Node) -> Result<String, Fail> {
     )
 }
 
-/// The answer of SQLite's writer, where the builder fails at these calls.
-fn by_sqlite(alloc: Global, node: &Node, failing: &[u64]) -> Result<String, Fail> {
-    let mut calls = Vec::new(alloc);
-    calls.extend_from_slice(failing)?;
-    let mut builder = CrateBuilder::new(alloc, calls);
-    let limits = Limits::standard();
-    shown(
-        alloc,
-        convert_node(&Sqlite, alloc, &limits, &[], None, node, &mut builder),
-    )
-}
-
 fn name_of_a_file(alloc: Global) -> Result<Node, Fail> {
     text(alloc, at(7, 12), "cmd.exe")
-}
-
-/// The answer of SQLite's writer where the field has no value.
-fn of_null(alloc: Global) -> Result<String, Fail> {
-    by_sqlite(alloc, &rule(alloc, Node::null(at(7, 12)))?, &[])
 }
 
 #[test]
 fn each_backend_has_its_own_lacks(rt: HostRuntime) -> Result<(), Fail> {
     let alloc = rt.alloc();
     let query = "SELECT * FROM \"events\" WHERE \"Image\" = 'cmd.exe' COLLATE NOCASE";
-    assert_told(&rt, by_name(alloc, name_of_a_file(alloc)?), query)?;
     assert_told(&rt, without_values(alloc, name_of_a_file(alloc)?), query)?;
-    let query = "SELECT * FROM \"events\" WHERE \"Image\" IS NULL";
-    assert_told(&rt, of_null(alloc), query)?;
     assert_told(
         &rt,
         without_values(alloc, Node::null(at(7, 12))),
         "7:5: 111 Many",
     )
-}
-
-/// `selection:` with `Image|re: a+` below it.
-fn with_expression(alloc: Global) -> Result<Node, Fail> {
-    let item = entry(alloc, "Image|re", at(7, 5), text(alloc, at(7, 15), "a+")?)?;
-    let selection = Node::map(at(7, 5), one(alloc, item)?);
-    let mut entries = Vec::new(alloc);
-    entries.push(entry(alloc, "selection", at(6, 3), selection)?)?;
-    let condition = text(alloc, at(8, 14), "selection")?;
-    entries.push(entry(alloc, "condition", at(8, 3), condition)?)?;
-    whole(alloc, Node::map(at(6, 3), entries))
-}
-
-/// The answer where the builder fails at these calls.
-fn built(alloc: Global, failing: &[u64]) -> Result<String, Fail> {
-    by_sqlite(alloc, &with_expression(alloc)?, failing)
-}
-
-#[test]
-fn expressions_are_built_once_more(rt: HostRuntime) -> Result<(), Fail> {
-    let alloc = rt.alloc();
-    let query = "SELECT * FROM \"events\" WHERE \"Image\" REGEXP 'a+'";
-    assert_told(&rt, built(alloc, &[]), query)?;
-    assert_told(&rt, built(alloc, &[3]), query)?;
-    assert_told(&rt, built(alloc, &[1]), "7:15: 48")?;
-    assert_told(&rt, built(alloc, &[2]), "7:5: 48")
 }
 
 #[test]

@@ -1,8 +1,8 @@
-//! Builders, searches and the small language, by hand.
+//! Builders and the small language, by hand.
 
 use crate::asking::{answer, text};
 use crate::small::Small;
-use crate::tables::{assert_told, with_controls};
+use crate::tables::assert_told;
 use event_schema::FieldValues;
 use query_lang::{BuildFault, CrateBuilder, Search};
 use sig_base::Text;
@@ -87,44 +87,4 @@ syntax~(a)\1";
 #[test]
 fn builders(rt: HostRuntime) -> Result<(), Fail> {
     assert_told(&rt, wrong_built(rt.alloc(), &[1, 3], BUILT), "")
-}
-
-fn is_found(alloc: Global, text: &str, value: &str) -> Result<bool, Fail> {
-    let mut builder = CrateBuilder::new(alloc, Vec::new(alloc));
-    match Search::build(alloc, &mut builder, Text::copy(alloc, text)?) {
-        Ok(search) => Ok(search.finds(alloc, value)?),
-        Err(_) => Err(Fail::from("not built")),
-    }
-}
-
-/// The first row, `whether it's found~a regular expression~a value`, that is answered otherwise; the value is written with pictures.
-fn wrong_search(alloc: Global, table: &'static str) -> Result<String, Fail> {
-    for row in table.lines() {
-        let Some((want, rest)) = row.split_once('~') else {
-            return Ok(format!(in alloc; "no row: {row}")?);
-        };
-        let Some((text, value)) = rest.split_once('~') else {
-            return Ok(format!(in alloc; "no row: {row}")?);
-        };
-        let value = with_controls(alloc, value)?;
-        let found = is_found(alloc, text, value.as_str())?;
-        if want != (if found { "yes" } else { "no" }) {
-            return Ok(String::from_str(alloc, row)?);
-        }
-    }
-    Ok(String::new(alloc))
-}
-
-const SEARCHES: &str = "yes~a+b~xaab
-no~a+b~xa b
-yes~^a$~a
-no~^a$~a␊
-no~a.c~a␊c
-yes~~
-yes~(?i)É~né
-no~[^a]~";
-
-#[test]
-fn searches(rt: HostRuntime) -> Result<(), Fail> {
-    assert_told(&rt, wrong_search(rt.alloc(), SEARCHES), "")
 }

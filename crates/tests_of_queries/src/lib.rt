@@ -1,4 +1,5 @@
-//! Tests of queries: of SQL and of Lucene's, of readers and builders of both languages, of a rule's, and of what they're compared with.
+//! Tests of queries that no file gives: of builders, of a language and of a backend that are made for tests, of seeds' rules and
+//! events, and of calls that the program doesn't make.
 #![tactic(auto)]
 
 #[cfg(test)]
@@ -16,14 +17,10 @@ mod meanings;
 #[cfg(test)]
 mod seeds;
 #[cfg(test)]
-mod selecting;
-#[cfg(test)]
 mod small;
 #[cfg(test)]
 mod sql;
 #[cfg(test)]
 mod tables;
-#[cfg(test)]
-mod trees;
 #[cfg(test)]
 mod wanting;

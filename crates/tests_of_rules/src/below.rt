@@ -1,16 +1,12 @@
-//! Tests of small crates: texts, indexes of texts, patterns, choices of dashes, encodings, conditions, trees of tests, events, lines, the shelf,
-//! source and sink in memory, numbers of fields, words of the command line and those that the program is called with.
+//! Tests of small crates, of what no command shows: texts, indexes of texts, patterns, choices of dashes, trees of tests, events, the
+//! shelf, source and sink in memory, numbers of fields, and words that the program is called with.
 
 mod arguments;
 mod base;
-mod conditions;
 mod dashes;
 mod encodings;
 mod events;
 mod indexes;
-mod lines;
 mod numbers;
 mod strings;
-mod tables;
 mod trees;
-mod words;

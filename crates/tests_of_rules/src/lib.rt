@@ -1,5 +1,5 @@
-//! Tests of files of YAML, of reading rules, of what modifiers make of values, of building regular expressions, of the schemas that rules
-//! fit, and of small crates.
+//! Tests of what no command shows of YAML, of rules, of what modifiers make of values, of building regular expressions, of the schemas
+//! that rules fit, and of small crates. What a command shows is a case of the crate `rows`.
 #![tactic(auto)]
 
 #[cfg(test)]

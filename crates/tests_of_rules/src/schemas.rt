@@ -1,7 +1,7 @@
-//! Rules of one detection, whose items are each an alternative on a line of its own; what is wanted is reckoned by hand. Items have `;`
-//! between them, and an item `,` between its names.
+//! Rules whose items ask for several kinds at once, as none does that is read. Items have `;` between them, each is an alternative on a
+//! line of its own, and an item has `,` between its names.
 
-use crate::tables::{Asked, TOP, assert_told, no_row, wrong_row};
+use crate::tables::{TOP, assert_told};
 use event_schema::{Field, FieldKind, FieldList, Schema};
 use modifier_words::{Joined, Op};
 use rule_detections::{
@@ -9,36 +9,11 @@ use rule_detections::{
 };
 use rule_head::{Head, LogSource};
 use rule_model::Rule;
-use rule_schema::{check_filled, fit_indexed, fit_schema, infer_schema};
-use sig_base::{Fault, Limits, Place, Refusal, Text, Texts};
+use rule_schema::{fit_indexed, fit_schema, infer_schema};
+use sig_base::{Fault, Place, Refusal, Text, Texts};
 use sig_encode::Network;
-use sig_strings::{Pattern, SharedPattern};
 use std::alloc::Global;
 use std::test::Fail;
-
-/// What the rows of this module's tables are asked.
-#[derive(Clone, Copy)]
-enum Question {
-    Made,
-    Long,
-    LongEnd,
-    Misfit,
-    OwnMisfit,
-    Open,
-}
-
-impl Asked for Question {
-    fn told(self, alloc: Global, row: &str) -> Result<String, Fail> {
-        match self {
-            Question::Made => inferred(alloc, row),
-            Question::Long => long(alloc, row),
-            Question::LongEnd => long_end(alloc, row),
-            Question::Misfit => misfit(alloc, row),
-            Question::OwnMisfit => own_misfit(alloc, row),
-            Question::Open => open(alloc, row),
-        }
-    }
-}
 
 /// The texts of these two that aren't empty.
 fn texts(alloc: Global, first: &str, second: &str) -> Result<Texts, Fail> {
@@ -65,25 +40,12 @@ fn add_network(tests: &mut Tests) -> Result<(), Fail> {
     Ok(())
 }
 
-fn add_placeholder(alloc: Global, tests: &mut Tests) -> Result<(), Fail> {
-    let pattern = Pattern::read(alloc, &Limits::standard(), "a%b%", true, TOP)?;
-    tests.push(Test::Fits {
-        pattern: SharedPattern::share(alloc, pattern)?,
-        cased: false,
-    })?;
-    Ok(())
-}
-
 /// Adds what a sign before an item's first name asks for.
-fn add_sign(alloc: Global, tests: &mut Tests, sign: char) -> Result<(), Fail> {
+fn add_sign(tests: &mut Tests, sign: char) -> Result<(), Fail> {
+    add_comparison(tests)?;
     match sign {
-        '#' => add_comparison(tests),
-        '@' => add_network(tests),
-        '%' => add_placeholder(alloc, tests),
-        _ => {
-            add_comparison(tests)?;
-            add_network(tests)
-        }
+        '!' => add_network(tests),
+        _ => Ok(()),
     }
 }
 
@@ -92,7 +54,7 @@ fn tests(alloc: Global, sign: Option<char>, other: Option<&str>) -> Result<Tests
     let mut tests = Tests::new(alloc);
     tests.push(Test::Exists(true))?;
     if let Some(sign) = sign {
-        add_sign(alloc, &mut tests, sign)?;
+        add_sign(&mut tests, sign)?;
     }
     if let Some(other) = other {
         tests.push(Test::SameAs(Text::copy(alloc, other)?))?;
@@ -102,7 +64,7 @@ fn tests(alloc: Global, sign: Option<char>, other: Option<&str>) -> Result<Tests
 
 /// The name behind a sign.
 fn unsigned(written: &str) -> (Option<char>, &str) {
-    for sign in ['@', '#', '!', '%'] {
+    for sign in ['#', '!'] {
         if let Some(name) = written.strip_prefix(sign) {
             return (Some(sign), name);
         }
@@ -110,15 +72,8 @@ fn unsigned(written: &str) -> (Option<char>, &str) {
     (None, written)
 }
 
-fn fields(alloc: Global, first: &str, second: &str) -> Result<Fields, Fail> {
-    if first.is_empty() {
-        return Ok(Fields::Keyword);
-    }
-    Ok(Fields::Names(texts(alloc, first, second)?))
-}
-
-/// An item over these names, or a keyword where there is none. It asks for an address where `@` stands before the first, for a
-/// number where `#` does, for both where `!` does, has an open placeholder where `%` does, and compares with the name behind a `=`.
+/// An item over these names. It asks for a number where `#` stands before the first, for a number and an address where `!` does, and
+/// compares with the name behind a `=`.
 fn item(alloc: Global, line: u32, written: &str, second: &str) -> Result<Item, Fail> {
     let (sign, named) = unsigned(written);
     let (first, other) = match named.split_once('=') {
@@ -128,7 +83,7 @@ fn item(alloc: Global, line: u32, written: &str, second: &str) -> Result<Item, F
     let mut values = Values::new(alloc);
     values.push(tests(alloc, sign, other)?)?;
     Ok(Item {
-        fields: fields(alloc, first, second)?,
+        fields: Fields::Names(texts(alloc, first, second)?),
         tests: values,
         joined: Joined::Any,
         place: Place { line, column: 1 },
@@ -197,8 +152,7 @@ fn told(alloc: Global, refusal: &Refusal) -> Result<String, Fail> {
     Ok(format!(in alloc; "{code} {line}")?)
 }
 
-/// The table and the fields of the schema that is made of a rule, with `@` before those of addresses and `#` before those of
-/// whole numbers, or what refuses it.
+/// The table and the fields of the schema that is made of a rule, with `#` before those of whole numbers, or what refuses it.
 fn made(alloc: Global, rule: &Rule) -> Result<String, Fail> {
     match infer_schema(alloc, rule) {
         Ok(schema) => {
@@ -222,96 +176,48 @@ fn inferred(alloc: Global, items: &str) -> Result<String, Fail> {
     made(alloc, &rule(alloc, items)?)
 }
 
-/// The schema that is made of a rule, or what refuses it, `told~items`.
-const NAMES: &str = "events b a~b;a;b
-events y x~;y,x
-80 3~A;b;a
-80 1~b,B
-events @b @c a~b;@c,b;c;a
-80 3~@a;B;b";
-
-#[test]
-fn names_stand_once_unless_they_clash(rt: HostRuntime) -> Result<(), Fail> {
-    assert_told(&rt, wrong_row(rt.alloc(), Question::Made, NAMES), "")
-}
-
-/// .. `told~items`.
-const KINDS: &str = "events #a b~#a;b,a
-events a #b~a=b;#b
-events #a #c b~#a=b,c
-80 2~#a;@a
-80 3~@a;b;#a
-80 2~#A;@a
-80 2~b;!a
-80 2~a;b=A";
-
 #[test]
 fn uses_ask_for_kinds(rt: HostRuntime) -> Result<(), Fail> {
-    assert_told(&rt, wrong_row(rt.alloc(), Question::Made, KINDS), "")
+    assert_told(&rt, inferred(rt.alloc(), "#a=b,c"), "events #a #c b")?;
+    assert_told(&rt, inferred(rt.alloc(), "b;!a"), "80 2")
 }
 
 fn long(alloc: Global, last: &str) -> Result<String, Fail> {
     made(alloc, &long_rule(alloc, last)?)
 }
 
-/// Nothing where the schema of a long rule ends so, else the schema: `end~last item`.
-fn long_end(alloc: Global, row: &str) -> Result<String, Fail> {
-    let Some((end, last)) = row.split_once('~') else {
-        return no_row(alloc);
-    };
-    let shown = long(alloc, last)?;
-    if shown.as_str().ends_with(end) {
-        return Ok(String::new(alloc));
-    }
-    Ok(shown)
-}
-
-/// What refuses a schema of many names, `what refuses it~last item`.
-const LONG: &str = "80 70~F69
-80 70~f0=F69
-80 70~!f7";
-
-/// How a schema of many names ends, `~end~last item`.
-const LONG_ENDS: &str = "~ f68 @f69~@f69
-~ f68 #f69 f70~#f69=f70";
-
 #[test]
 fn many_names_are_indexed(rt: HostRuntime) -> Result<(), Fail> {
-    assert_told(&rt, wrong_row(rt.alloc(), Question::Long, LONG), "")?;
-    assert_told(&rt, wrong_row(rt.alloc(), Question::LongEnd, LONG_ENDS), "")
+    assert_told(&rt, long(rt.alloc(), "!f7"), "80 70")?;
+    assert!(rt;
+        long(rt.alloc(), "#f69=f70")?
+            .as_str()
+            .ends_with(" f68 #f69 f70")
+    );
+    Ok(())
 }
 
-fn field(alloc: Global, name: &str, kind: FieldKind, search: bool) -> Result<Field, Fail> {
+fn field(alloc: Global, name: &str, kind: FieldKind) -> Result<Field, Fail> {
     Ok(Field {
         name: Text::copy(alloc, name)?,
         kind,
         at: texts(alloc, name, "")?,
-        search,
+        search: false,
         cased: false,
         many: false,
     })
 }
 
-/// The kind of a field of this name: `ip` is of addresses, `n` and `m` are of whole numbers, and each other is a text.
-fn kind_of(name: &str) -> FieldKind {
-    match name {
-        "ip" => FieldKind::Address,
-        "n" | "m" => FieldKind::Whole,
-        _ => FieldKind::Text,
-    }
-}
-
-/// The fields `a` and `b`, both of which keywords search, or none, `ip` of addresses, and `n` and `m` of whole numbers, behind so
-/// many others. What keywords search in has names of one letter.
-fn schema(alloc: Global, search: bool, others: u32) -> Result<Schema, Fail> {
+/// The text `a` and the whole numbers `n` and `m`, behind so many other texts.
+fn schema(alloc: Global, others: u32) -> Result<Schema, Fail> {
     let mut fields = FieldList::new(alloc);
     for number in 0..others {
         let name = format!(in alloc; "f{number}")?;
-        fields.push(field(alloc, name.as_str(), FieldKind::Text, false)?)?;
+        fields.push(field(alloc, name.as_str(), FieldKind::Text)?)?;
     }
-    for name in "a b ip n m".split(' ') {
-        fields.push(field(alloc, name, kind_of(name), search && name.len() == 1)?)?;
-    }
+    fields.push(field(alloc, "a", FieldKind::Text)?)?;
+    fields.push(field(alloc, "n", FieldKind::Whole)?)?;
+    fields.push(field(alloc, "m", FieldKind::Whole)?)?;
     Ok(Schema {
         table: Text::copy(alloc, "events")?,
         fields,
@@ -337,102 +243,20 @@ fn not_indexed(alloc: Global, rule: &Rule, schema: &Schema) -> Result<String, Fa
 }
 
 /// What refuses a rule under a schema, without an index and with one.
-fn both_misfits(alloc: Global, search: bool, rule: &Rule) -> Result<String, Fail> {
-    let many = indexed(alloc, rule, &schema(alloc, search, 40)?)?;
-    let few = not_indexed(alloc, rule, &schema(alloc, search, 0)?)?;
+fn both_misfits(alloc: Global, rule: &Rule) -> Result<String, Fail> {
+    let many = indexed(alloc, rule, &schema(alloc, 40)?)?;
+    let few = not_indexed(alloc, rule, &schema(alloc, 0)?)?;
     if many.as_str() != few.as_str() {
         return Ok(String::from_str(alloc, "two answers")?);
     }
     Ok(few)
 }
 
-/// .. where keywords search in fields, or in none: `searched~items` or `none~items`.
-fn misfit(alloc: Global, row: &str) -> Result<String, Fail> {
-    let Some((search, items)) = row.split_once('~') else {
-        return no_row(alloc);
-    };
-    let search = match search {
-        "searched" => true,
-        "none" => false,
-        _ => return no_row(alloc),
-    };
-    let rule = rule(alloc, items)?;
-    both_misfits(alloc, search, &rule)
+fn misfit(alloc: Global, items: &str) -> Result<String, Fail> {
+    both_misfits(alloc, &rule(alloc, items)?)
 }
-
-/// What refuses a rule under a schema, `what refuses it~whether keywords search~items`.
-const MISFITS: &str = "~none~a;b,a
-81 2~none~a;a,c;d
-81 1~searched~A
-~searched~a;
-83 2~none~a;;c
-81 1~none~c;
-~none~ip,a;@ip
-82 2~none~a;@ip,a;c
-81 1~none~@a,c
-82 1~none~@a;";
-
-#[test]
-fn the_first_item_that_does_not_fit_is_refused(rt: HostRuntime) -> Result<(), Fail> {
-    assert_told(&rt, wrong_row(rt.alloc(), Question::Misfit, MISFITS), "")
-}
-
-/// .. `what refuses it~whether keywords search~items`.
-const KIND_MISFITS: &str = "81 2~none~a=b;a=c
-82 2~none~#n,m;#a
-82 1~none~@n
-~none~n=m;a=ip,b
-82 2~none~#n=m;n=a
-82 1~none~a=n
-82 1~none~n=m,a
-~none~n,a";
 
 #[test]
 fn fields_are_of_the_kinds_that_tests_ask_for(rt: HostRuntime) -> Result<(), Fail> {
-    assert_told(
-        &rt,
-        wrong_row(rt.alloc(), Question::Misfit, KIND_MISFITS),
-        "",
-    )
-}
-
-/// What refuses a rule under the schema that is made of it.
-fn own_misfit(alloc: Global, items: &str) -> Result<String, Fail> {
-    let rule = rule(alloc, items)?;
-    match infer_schema(alloc, &rule) {
-        Ok(schema) => indexed(alloc, &rule, &schema),
-        Err(_) => Ok(String::from_str(alloc, "no schema")?),
-    }
-}
-
-/// What refuses a rule under its own schema, `what refuses it~items`.
-const OWN_MISFITS: &str = "82 2~#a;b=a
-~b=a;#a;#b
-~@a;b=a
-83 2~a;";
-
-#[test]
-fn a_rule_may_not_fit_its_own_schema(rt: HostRuntime) -> Result<(), Fail> {
-    assert_told(
-        &rt,
-        wrong_row(rt.alloc(), Question::OwnMisfit, OWN_MISFITS),
-        "",
-    )
-}
-
-fn open(alloc: Global, items: &str) -> Result<String, Fail> {
-    match check_filled(&rule(alloc, items)?) {
-        Ok(()) => Ok(String::new(alloc)),
-        Err(refusal) => told(alloc, &refusal),
-    }
-}
-
-/// What refuses a rule, `what refuses it~items`.
-const OPEN: &str = "~Image;#Code;
-98 2~Image;%User,Host;%Image
-98 3~Image;;%";
-
-#[test]
-fn the_first_open_placeholder_is_refused(rt: HostRuntime) -> Result<(), Fail> {
-    assert_told(&rt, wrong_row(rt.alloc(), Question::Open, OPEN), "")
+    assert_told(&rt, misfit(rt.alloc(), "#n=m;n=a"), "82 2")
 }

@@ -1,6 +1,6 @@
 //! Tables of rows that are told one by one, and nodes of YAML made by hand.
 
-use sig_base::{Detail, Fault, Place, Refusal, Text};
+use sig_base::{Fault, Place, Text};
 use std::alloc::Global;
 use std::process::Abort;
 use std::test::Fail;
@@ -8,23 +8,38 @@ use yaml_tree::{Entry, Node};
 
 pub const TOP: Place = Place { line: 1, column: 1 };
 
-/// What the rows of a table are asked.
-pub trait Asked: Copy {
-    /// What is told of a row.
-    fn told(self, alloc: Global, row: &str) -> Result<String, Fail>;
+/// What the rows of a table ask for.
+pub trait Asked {
+    /// What is told of what a row gives.
+    fn told(&self, alloc: Global, given: &str) -> Result<String, Fail>;
 }
 
-/// The first row of a table, `what is wanted~row`, of which something else is told.
-pub fn wrong_row<A: Asked>(alloc: Global, asked: A, table: &'static str) -> Result<String, Fail> {
+/// A row, `what is told~what is given`, with what is told of it where that is something else, or nothing.
+fn wrong<A: Asked>(alloc: Global, asked: &A, row: &str) -> Result<String, Fail> {
+    let Some((want, given)) = row.split_once('~') else {
+        return Ok(format!(in alloc; "no row: {row}")?);
+    };
+    let got = asked.told(alloc, given)?;
+    if got.as_str() == want {
+        return Ok(String::new(alloc));
+    }
+    Ok(format!(in alloc; "{row}: {}", got.as_str())?)
+}
+
+/// The first row of a table that is told otherwise, with what is told of it, or nothing.
+pub fn wrong_row<A: Asked>(alloc: Global, asked: &A, table: &str) -> Result<String, Fail> {
     for row in table.lines() {
-        let Some((want, rest)) = row.split_once('~') else {
-            return Ok(format!(in alloc; "no row: {row}")?);
-        };
-        if asked.told(alloc, rest)?.as_str() != want {
-            return Ok(String::from_str(alloc, row)?);
+        let wrong = wrong(alloc, asked, row)?;
+        if !wrong.is_empty() {
+            return Ok(wrong);
         }
     }
     Ok(String::new(alloc))
+}
+
+/// A text as an answer.
+pub fn answer(alloc: Global, text: &str) -> Result<String, Fail> {
+    Ok(String::from_str(alloc, text)?)
 }
 
 /// Asserts that this is told. A test that ends in it holds nothing that has to be dropped.
@@ -34,40 +49,14 @@ pub fn assert_told(rt: &impl Abort, told: Result<String, Fail>, want: &str) -> R
     Ok(())
 }
 
-/// What is told of a row that lacks a part, or has one that is none.
-pub fn no_row(alloc: Global) -> Result<String, Fail> {
-    Ok(String::from_str(alloc, "no row")?)
-}
-
-/// A row's first part, its second one, and what is behind them, with `~` between them.
-pub fn three(row: &str) -> Option<(&str, &str, &str)> {
-    let Some((first, rest)) = row.split_once('~') else {
-        return None;
-    };
-    let Some((second, third)) = rest.split_once('~') else {
-        return None;
-    };
-    Some((first, second, third))
-}
-
-/// The code, the place and the detail of what refuses something, `48 2:1 detail`.
-pub fn told_refusal(alloc: Global, refusal: &Refusal) -> Result<String, Fail> {
-    let code = refusal.code.number();
-    let line = refusal.place.line;
-    let column = refusal.place.column;
-    match &refusal.detail {
-        Detail::None => Ok(format!(in alloc; "{code} {line}:{column}")?),
-        Detail::Text(word) => Ok(format!(in alloc; "{code} {line}:{column} {}", word.as_str())?),
-        Detail::Numbers(_, _) => Ok(format!(in alloc; "{code} {line}:{column} numbers")?),
-    }
-}
-
-/// .. or `memory` where that is missing.
+/// The code and the place of what refuses something, `48 2:1`, or `memory` where that is missing.
 pub fn told_fault(alloc: Global, fault: &Fault) -> Result<String, Fail> {
     let Fault::Refused(refusal) = fault else {
         return Ok(String::from_str(alloc, "memory")?);
     };
-    told_refusal(alloc, refusal)
+    let code = refusal.code.number();
+    let place = refusal.place;
+    Ok(format!(in alloc; "{code} {}:{}", place.line, place.column)?)
 }
 
 pub fn at(line: u32, column: u32) -> Place {

@@ -1,7 +1,4 @@
-//! Tests of what chains of modifiers make of values, and of when that holds.
+//! Tests of what chains of modifiers make of values that a rule can't have, and of tests that no schema takes.
 
-mod chains;
 mod holding;
 mod made;
-mod patterns;
-mod tables;

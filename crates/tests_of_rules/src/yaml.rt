@@ -1,9 +1,4 @@
-//! Tests of trees, lines, blocks, documents and files of YAML.
+//! Tests of trees and long texts of YAML.
 
-mod documents;
-mod in_blocks;
-mod in_files;
-mod in_lines;
 mod nodes;
-mod tables;
 mod trees;

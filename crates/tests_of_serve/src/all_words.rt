@@ -1,6 +1,5 @@
 //! Each list of up to four words of a table, read by the program and by a reading of its own.
 
-use crate::worlds::words_of;
 use rule_convert::BackendName;
 use sig_base::Text;
 use sigma_serve::{Request, read_words};
@@ -272,6 +271,14 @@ fn add_request(all: &mut String, request: &Request) -> Result<(), Fail> {
             add(all, " so many ", Some(decimal(*events)))
         }
     }
+}
+
+fn words_of(alloc: Global, words: &[&str]) -> Result<Vec<Text>, Fail> {
+    let mut all = Vec::new(alloc);
+    for word in words {
+        all.push(Text::copy(alloc, word)?)?;
+    }
+    Ok(all)
 }
 
 /// What the words ask for, as the program reads them; no text where they ask for nothing.

@@ -5,7 +5,6 @@ ghost use Rattle.correlation_windows.specs.History.{Taken};
 ghost use Rattle.correlation_windows.specs.Kept.{StandsFor};
 ghost use Rattle.sigma_serve.specs.Sourced.{IsFound};
 
-use crate::correlating::{BOTH, EARLY, EVENTS, REPORTS, SCHEMA};
 use correlation_engine::Engine;
 use correlation_files::{Bindings, Found, read_rules};
 use event_read::read_schema;
@@ -17,6 +16,20 @@ use std::alloc::Global;
 use std::process::Abort;
 use std::test::Fail;
 use system_io::{MemorySink, MemorySource};
+
+const SCHEMA: &str =
+    "{\"fields\":[{\"name\":\"Code\",\"kind\":\"whole\"},{\"name\":\"User\",\"kind\":\"text\"}],\"time\":{\"at\":[\"t\"],\"form\":\"seconds\"}}";
+
+const BOTH: &str =
+    "title: T\nname: logon\nlogsource:\n  product: windows\ndetection:\n  sel:\n    Code: 1\n  condition: sel\n---\ntitle: Burst\ncorrelation:\n  type: event_count\n  rules: [logon]\n  group-by: [User]\n  timespan: 60s\n  condition:\n    gte: 3\n";
+
+const EVENTS: &str =
+    "{\"Code\":1,\"User\":\"a\",\"t\":0}\n{\"Code\":1,\"User\":\"a\",\"t\":10}\n{\"Code\":1,\"User\":\"a\",\"t\":60}\n{\"Code\":1,\"User\":\"a\",\"t\":60}\n{\"Code\":1,\"User\":\"a\",\"t\":61}\n{\"Code\":1,\"User\":\"a\",\"t\":59}\n";
+
+const REPORTS: &str =
+    "{\"correlation\":\"Burst\",\"line\":4,\"from\":2,\"count\":3,\"group\":[\"a\"]}\n{\"correlation\":\"Burst\",\"line\":5,\"from\":2,\"count\":4,\"group\":[\"a\"]}\n";
+
+const EARLY: &str = "events:6: 145 OutOfOrder 59000000000 61000000000\n";
 
 /// The rules and correlations of a file, of which nothing is refused.
 fn found_in(rt: &impl Abort, alloc: Global, schema: &Schema, rules: &str) -> Result<Found, Fail>

@@ -1,11 +1,10 @@
-//! Lines of small inputs, followed over a source and sinks in memory.
+//! Lines of small inputs, followed over one source after another and sinks in memory.
 
 ghost use Rattle.std.specs.Prelude.{◌≡◌, ◌⊎◌, ℕ, Option, slice_get};
 ghost use Rattle.answer_writer.specs.EventLines.{line_refused};
 ghost use Rattle.answer_writer.specs.Lines.{ended};
 ghost use Rattle.answer_writer.specs.Parts.{no_share, text_share};
 
-use super::answering::{number, sink_of, small_limits};
 use super::ends::{ending, shown};
 use super::signs::{columns, written};
 use crate::telling::assert_told;
@@ -13,7 +12,7 @@ use answer_writer::{Lent, LineFollower, Outside, Stop, follow_lines, put_line, t
 use sig_base::{Bytes, Code, Limits};
 use std::alloc::Global;
 use std::test::Fail;
-use system_io::{MemoryShelf, MemorySource};
+use system_io::{MemoryShelf, MemorySink, MemorySource};
 
 /// Selects the lines that begin otherwise than the last one that was selected, and refuses those that begin with `!`.
 #[derive(Drop)]
@@ -57,6 +56,18 @@ impl LineFollower for Turns {
     fn each_line(&self) {}
 }
 
+/// A number that stands in a row.
+fn number(text: &str) -> Result<u64, Fail> {
+    match text.parse::<u64>() {
+        Ok(number) => Ok(number),
+        Err(_) => Err(Fail::new("no number")),
+    }
+}
+
+fn sink_of(alloc: Global) -> Result<MemorySink, Fail> {
+    Ok(MemorySink::new(alloc, 4096, 4096, Vec::new(alloc))?)
+}
+
 fn first_of(line: &[u8]) -> Option<u8>
     ensures { result ≡ slice_get line.now 0 }
 {
@@ -76,8 +87,8 @@ fn told(
     failing.push(unread)?;
     let mut shelf = MemoryShelf::new(alloc, Vec::new(alloc), Vec::new(alloc));
     let mut events = MemorySource::new(Bytes::copy(alloc, text.as_bytes())?, read.max(1), failing);
-    let mut out = sink_of(alloc, 4096, 0)?;
-    let mut err = sink_of(alloc, 4096, 0)?;
+    let mut out = sink_of(alloc)?;
+    let mut err = sink_of(alloc)?;
     let mut outside = Lent {
         shelf: &mut shelf,
         events: &mut events,
@@ -108,23 +119,19 @@ fn row_told(
     )
 }
 
-/// The first row, `bytes of a read~which read fails~events~what is told`, that is told otherwise. Behind an empty row the command has
-/// no history.
+/// The first row, `bytes of a read~which read fails~events~what is told`, that is told otherwise. The command keeps its history from row to
+/// row.
 fn wrong_row(alloc: Global, limits: &Limits, table: &str) -> Result<String, Fail> {
     let mut command = Turns { last: None };
     for row in table.lines() {
-        if row.is_empty() {
-            command.last = None;
-            continue;
-        }
         let Some((read, unread, rest)) = columns(row) else {
             return Ok(format!(in alloc; "no row: {row}")?);
         };
         let Some((events, want)) = rest.split_once('~') else {
             return Ok(format!(in alloc; "no row: {row}")?);
         };
-        let read = number(Some(read))?;
-        let unread = number(Some(unread))?;
+        let read = number(read)?;
+        let unread = number(unread)?;
         let want = written(alloc, want)?;
         let got = row_told(alloc, limits, &mut command, events, read, unread)?;
         if got.as_str() != want.as_str() {
@@ -134,48 +141,12 @@ fn wrong_row(alloc: Global, limits: &Limits, table: &str) -> Result<String, Fail
     Ok(String::new(alloc))
 }
 
-const BY_THOSE_BEFORE: &str = "1~0~~done||
-
-1~0~+a¶+b¶-c¶ ¶-d¶+e~done|+a¶-c¶+e¶|
-
-1~0~+a¶!x¶+b¶-c¶~found|+a¶-c¶|events:2: 25 EventJson¶
-
-3~0~~done||
-
-3~0~+a¶+b¶-c¶ ¶-d¶+e~done|+a¶-c¶+e¶|
-
-3~0~+a¶!x¶+b¶-c¶~found|+a¶-c¶|events:2: 25 EventJson¶
-
-65536~0~~done||
-
-65536~0~+a¶+b¶-c¶ ¶-d¶+e~done|+a¶-c¶+e¶|
-
-65536~0~+a¶!x¶+b¶-c¶~found|+a¶-c¶|events:2: 25 EventJson¶";
-
-#[test]
-fn each_line_by_those_before(rt: HostRuntime) -> Result<(), Fail> {
-    assert_told(
-        &rt,
-        wrong_row(rt.alloc(), &Limits::standard(), BY_THOSE_BEFORE),
-        "",
-    )
-}
-
-/// Lines past the limits change nothing of what the next ones are answered.
-const PAST_LIMITS: &str = "3~0~+a¶-long¶+b¶-c¶~found|+a¶-c¶|events:2: 30 LineTooLong¶
-
-3~0~+abc¶-def¶+ghi¶-jkl¶+~found|+abc¶-def¶+ghi¶-jkl¶|events:5: 31 TooMuch¶";
-
-#[test]
-fn lines_past_the_limits(rt: HostRuntime) -> Result<(), Fail> {
-    assert_told(&rt, wrong_row(rt.alloc(), &small_limits(), PAST_LIMITS), "")
-}
-
 /// The command keeps its history from one source of events to the next.
 const IN_TURN: &str = "3~0~+a¶-b¶~done|+a¶-b¶|
 3~0~-c¶+d¶~done|+d¶|
 3~2~-e¶+f¶~unread|-e¶|sigma: cannot read events¶
-3~0~-g¶+h¶~done|+h¶|";
+3~0~-g¶+h¶~done|+h¶|
+3~0~!x¶+k¶-m¶~found|-m¶|events:1: 25 EventJson¶";
 
 #[test]
 fn the_history_stays(rt: HostRuntime) -> Result<(), Fail> {

@@ -2,71 +2,16 @@
 
 use crate::tables::assert_told;
 use sig_base::{
-    Bytes, Code, Limits, Sequence, Shelf, ShelfFault, Sink, Source, Text, Texts, TryCopy, fold,
-    put_all,
+    Bytes, Code, Limits, Sequence, Shelf, ShelfFault, Sink, Source, Text, TryCopy, put_all,
 };
 use std::alloc::Global;
 use std::collections::HashSet;
 use std::test::Fail;
 use system_io::{MemoryShelf, MemorySink, MemorySource};
 
-/// A text that was added to.
-fn grown(alloc: Global) -> Result<Text, Fail> {
-    let mut text = Text::copy(alloc, "Grüße")?;
-    text.push('!')?;
-    text.push_all(&['a', '€'])?;
-    text.push_str("b")?;
-    Ok(text)
-}
-
-/// A text of the characters of a text.
-fn from_chars(alloc: Global, text: &str) -> Result<Text, Fail> {
-    let mut all = Vec::new(alloc);
-    for c in text.chars() {
-        all.push(c)?;
-    }
-    Ok(Text::from_chars(alloc, all.as_slice())?)
-}
-
-/// Whether a text with one character more is that.
-fn is_pushed(alloc: Global) -> Result<bool, Fail> {
-    let mut text = Text::copy(alloc, "Grüße")?;
-    text.push('!')?;
-    Ok(text.is("Grüße!"))
-}
-
-/// Whether the text that was added to is what it should be, and equals the text of these characters and the empty one.
-fn grown_told(alloc: Global) -> Result<String, Fail> {
-    let text = grown(alloc)?;
-    let is = text.is("Grüße!a€b");
-    let equals = text.equals(&from_chars(alloc, "Grüße!a€b")?);
-    let equals_none = text.equals(&Text::new(alloc));
-    Ok(format!(in alloc; "{is} {equals} {equals_none}")?)
-}
-
-fn texts_count(alloc: Global) -> Result<usize, Fail> {
-    let mut texts = Texts::new(alloc);
-    texts.push(grown(alloc)?)?;
-    Ok(texts.as_slice().len())
-}
-
 fn codes_told(alloc: Global) -> Result<String, Fail> {
-    Ok(format!(in alloc;
-        "{} {} {} {} {}",
-        Code::TOO_LARGE.name(),
-        Code::QUERY_TOO_LONG.number(),
-        Code::QUERY_TOO_LONG.name(),
-        Code::FMT_TOO_LONG.name(),
-        Limits::standard().query_bytes
-    )?)
-}
-
-fn folded(alloc: Global, text: &str) -> Result<String, Fail> {
-    let mut all = String::new(alloc);
-    for c in text.chars() {
-        all.push(fold(c))?;
-    }
-    Ok(all)
+    let limit = Limits::standard().query_bytes;
+    Ok(format!(in alloc; "{} {limit}", Code::FMT_TOO_LONG.name())?)
 }
 
 /// Bytes of ASCII as a text.
@@ -79,47 +24,8 @@ fn shown(alloc: Global, bytes: &[u8]) -> Result<String, Fail> {
 }
 
 #[test]
-fn keeps_texts_bytes_and_codes(rt: HostRuntime) -> Result<(), Fail> {
-    assert!(rt; is_pushed(rt.alloc())?);
-    assert_told(&rt, grown_told(rt.alloc()), "true true false")?;
-    assert_eq!(rt; texts_count(rt.alloc())?, 1);
-    assert_told(
-        &rt,
-        codes_told(rt.alloc()),
-        "TooLarge 114 QueryTooLong FmtTooLong 4194304",
-    )?;
-    assert_told(&rt, folded(rt.alloc(), "AZ@[Ä"), "az@[Ä")
-}
-
-/// Bytes that were copied, taken out and added to.
-fn bytes_told(alloc: Global) -> Result<String, Fail> {
-    let copied = Bytes::copy(alloc, b"ab")?;
-    let mut shown = shown(alloc, copied.as_slice())?;
-    let mut line = copied.into_vec();
-    line.push(b'\n')?;
-    shown.push(' ')?;
-    for byte in Bytes::from_vec(line).as_slice() {
-        shown.push_str(format!(in alloc; "{byte};")?.as_str())?;
-    }
-    Ok(shown)
-}
-
-/// The bytes of `aü`, and one more.
-fn text_bytes(alloc: Global) -> Result<String, Fail> {
-    let mut bytes = Text::copy(alloc, "aü")?.into_bytes();
-    bytes.push(b'!')?;
-    let mut shown = String::new(alloc);
-    for byte in bytes.as_slice() {
-        shown.push_str(format!(in alloc; "{byte};")?.as_str())?;
-    }
-    Ok(shown)
-}
-
-#[test]
-fn keeps_bytes(rt: HostRuntime) -> Result<(), Fail> {
-    assert_told(&rt, bytes_told(rt.alloc()), "ab 97;98;10;")?;
-    // 61, C3 BC, 21
-    assert_told(&rt, text_bytes(rt.alloc()), "97;195;188;33;")
+fn codes_and_limits_are_known(rt: HostRuntime) -> Result<(), Fail> {
+    assert_told(&rt, codes_told(rt.alloc()), "FmtTooLong 4194304")
 }
 
 /// A list of two texts, the second empty, and an empty list.

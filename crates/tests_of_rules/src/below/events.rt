@@ -1,7 +1,7 @@
 //! Events and their values, by hand.
 
 use crate::tables::assert_told;
-use event_schema::{Event, Field, FieldKind, FieldList, FieldValues, Schema, Value, decimal};
+use event_schema::{Event, Field, FieldKind, FieldList, FieldValues, Schema, Value};
 use sig_base::{Text, Texts};
 use std::alloc::Global;
 use std::test::Fail;
@@ -103,18 +103,4 @@ fn values_by_names_and_numbers(rt: HostRuntime) -> Result<(), Fail> {
     )?;
     assert_eq!(rt; event(alloc)?.copy(alloc)?.moment(), Some(-5));
     Ok(())
-}
-
-fn decimal_told(alloc: Global, number: i64) -> Result<String, Fail> {
-    Ok(String::from_str(alloc, decimal(alloc, number)?.as_str())?)
-}
-
-#[test]
-fn decimals(rt: HostRuntime) -> Result<(), Fail> {
-    let alloc = rt.alloc();
-    assert_told(&rt, decimal_told(alloc, 0), "0")?;
-    assert_told(&rt, decimal_told(alloc, 7), "7")?;
-    assert_told(&rt, decimal_told(alloc, -10), "-10")?;
-    assert_told(&rt, decimal_told(alloc, i64::MIN), "-9223372036854775808")?;
-    assert_told(&rt, decimal_told(alloc, i64::MAX), "9223372036854775807")
 }

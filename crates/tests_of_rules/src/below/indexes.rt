@@ -1,7 +1,6 @@
 //! First numbers of texts, by hand.
 
-use crate::below::tables::{Asked, answer, wrong_row};
-use crate::tables::assert_told;
+use crate::tables::{Asked, answer, assert_told, wrong_row};
 use sig_base::{Text, Texts};
 use std::alloc::Global;
 use std::test::Fail;

@@ -1,31 +1,30 @@
-//! Numbers of fields by hand.
+//! Numbers of fields whose names are one but for case, and what is found where no field has a name.
 
-use crate::below::tables::{Asked, wrong_row};
-use crate::tables::assert_told;
+use crate::tables::{Asked, assert_told, wrong_row};
 use event_schema::{Field, FieldKind, FieldList};
 use schema_index::FieldNumbers;
 use sig_base::{Text, Texts};
 use std::alloc::Global;
 use std::test::Fail;
 
-fn field(alloc: Global, name: &str, search: bool) -> Result<Field, Fail> {
+fn field(alloc: Global, name: &str) -> Result<Field, Fail> {
     let mut at = Texts::new(alloc);
     at.push(Text::copy(alloc, name)?)?;
     Ok(Field {
         name: Text::copy(alloc, name)?,
         kind: FieldKind::Text,
         at,
-        search,
+        search: false,
         cased: false,
         many: false,
     })
 }
 
-/// Fields with the names that the words are; keywords search those that begin with `s`.
+/// Fields with the names that the words are.
 fn fields(alloc: Global, words: &str) -> Result<FieldList, Fail> {
     let mut all = FieldList::new(alloc);
     for word in words.split(' ') {
-        all.push(field(alloc, word, word.starts_with('s'))?)?;
+        all.push(field(alloc, word)?)?;
     }
     Ok(all)
 }
@@ -49,42 +48,19 @@ impl Asked for Among {
     }
 }
 
-/// The numbers of the fields that keywords search, a `;` behind each.
-fn searched(alloc: Global, words: &str) -> Result<String, Fail> {
-    let all = fields(alloc, words)?;
-    let numbers = FieldNumbers::of(alloc, all.as_slice())?;
-    let mut shown = String::new(alloc);
-    for number in numbers.searched() {
-        shown.push_str(format!(in alloc; "{number};")?.as_str())?;
-    }
-    Ok(shown)
-}
-
-const FEW: &str = "a s1 b s2 A";
-
-const FEW_NUMBERS: &str = "0 0~a
-3 3~s2
-4 4~A
+/// Among five fields, of which two have one name but for case.
+const FEW_NUMBERS: &str = "4 4~A
 none 5~B";
-
-#[test]
-fn names_have_numbers(rt: HostRuntime) -> Result<(), Fail> {
-    let among = Among { words: FEW };
-    assert_told(&rt, wrong_row(rt.alloc(), &among, FEW_NUMBERS), "")?;
-    assert_told(&rt, searched(rt.alloc(), FEW), "1;3;")
-}
 
 const MANY: &str =
     "f0 f1 f2 f3 f4 f5 f6 f7 f8 f9 g0 g1 g2 g3 g4 g5 g6 g7 g8 g9 h0 h1 h2 h3 h4 h5 h6 h7 h8 h9 i0 i1 i2 s0";
 
-const MANY_NUMBERS: &str = "0 0~f0
-32 32~i2
-33 33~s0
-none 34~s1";
-
 #[test]
-fn more_than_a_few_are_indexed(rt: HostRuntime) -> Result<(), Fail> {
-    let among = Among { words: MANY };
-    assert_told(&rt, wrong_row(rt.alloc(), &among, MANY_NUMBERS), "")?;
-    assert_told(&rt, searched(rt.alloc(), MANY), "33;")
+fn names_have_numbers(rt: HostRuntime) -> Result<(), Fail> {
+    let few = Among {
+        words: "a s1 b s2 A",
+    };
+    assert_told(&rt, wrong_row(rt.alloc(), &few, FEW_NUMBERS), "")?;
+    let many = Among { words: MANY };
+    assert_told(&rt, wrong_row(rt.alloc(), &many, "none 34~s1"), "")
 }

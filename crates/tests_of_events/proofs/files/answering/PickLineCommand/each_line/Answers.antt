@@ -1,6 +1,0 @@
-use Rattle.std.proofs.Common.{refl, inr}
-use Rattle.answer_writer.specs.Parts.{no_share}
-use Rattle.tests_of_events.proofs.files.answering.PickLineCommand.each_line.Goals as goal
-
-pub returns : goal.returns
-returns c = λ number line. (no_share, inr (inr refl))
