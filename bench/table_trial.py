@@ -13,7 +13,8 @@ Python's SQLite, and the program runs the rule over the same lines.
 Under a schema both have to select the same lines, and to refuse the same with the same codes.
 Without one the table goes by the query alone, which doesn't say each name and kind of the rule:
 what it leaves out has to be refused by the program, and of the lines that the program takes the
-same have to be selected. For one rule in 50 the script is called as a command, too: it has to write
+same have to be selected. The lines that it selects and the program refuses, by what the rule alone
+says of a field, are counted. For one rule in 50 the script is called as a command, too: it has to write
 what `run` writes, and its --check has to find nothing wrong with the database that it made.
 
 Each rule that differs is printed with its query and lines, and the numbers stand last. The exit
@@ -141,7 +142,8 @@ class Trial:
 
     def __init__(self, program, folder):
         self.program, self.folder = program, folder
-        self.counts = dict.fromkeys(["same", "other", "refused", "lines", "selected", "left"], 0)
+        names = ["same", "other", "refused", "lines", "selected", "left", "ruled"]
+        self.counts = dict.fromkeys(names, 0)
 
     def difference(self, name, query, events, schema, is_called):
         """How the table and `run` differ on a rule, or None."""
@@ -157,8 +159,10 @@ class Trial:
         written = b"".join(lines[line - 1] + b"\n" for line in found if schema or line not in codes)
         if not is_refused or written != out:
             return f"run writes {out!r} and refuses {codes}, the table has {written!r} and {left}"
-        for what, more in (("lines", len(lines)), ("selected", len(found)), ("left", len(left))):
-            self.counts[what] += more
+        ruled = sum(line in codes for line in found)  # none under a schema
+        for what, more in zip(("lines", "selected", "left"), (lines, found, left)):
+            self.counts[what] += len(more)
+        self.counts["ruled"] += ruled
         return self.called_difference(query, events, schema, out) if is_called else None
 
     def called_difference(self, query, events, schema, out):
@@ -225,7 +229,8 @@ def main():
     counts = trial.counts
     print(f"{counts['same']} the same, {counts['other']} not the same, {counts['refused']} without"
           f" a query; of {counts['lines']} lines {counts['selected']} selected and"
-          f" {counts['left']} left out (SQLite {sqlite3.sqlite_version})")
+          f" {counts['left']} left out; {counts['ruled']} selected, without a schema, that only the"
+          f" rule refuses (SQLite {sqlite3.sqlite_version})")
     return 1 if counts["other"] else 0
 
 
